@@ -1,0 +1,15 @@
+pub mod Text
+pub mod Integers
+pub mod Block
+pub mod Classes
+pub mod Section
+pub mod Frames
+pub mod Reading
+pub mod Message
+pub mod Request
+pub mod Control
+pub mod OneWay
+pub mod Numbers
+pub mod Writer
+pub mod Legal
+pub mod Worked

@@ -1,0 +1,60 @@
+-- A client's one-way stream (document 01, "Frames"): it begins with a type. Assumes nothing.
+use Prim.Native.Nat.{ℕ}
+use mathlib.Core.List.{List, [], _∷_}
+use mathlib.Core.Bool.{true, false}
+use mathlib.Core.Option.{Option, none, some}
+use lib.Dec.{eqb}
+use lib.ListN.{length}
+use Rattle.rules.specs.Text.{isOneOf}
+use Rattle.rules.specs.Integers.{Int, cut, got, integer}
+use Rattle.rules.specs.Reading.{Reading, readFrom}
+use Rattle.rules.specs.Control.{control}
+
+pub data Kind : Type 0 where
+  a-control encoder decoder skipped : Kind
+
+pub data Typed : Type 0 where
+  refuse : (code : ℕ) → Typed
+  is : Kind → Typed
+
+-- 0 control, 2 and 3 QPACK, each once: `seen` are the types of those that came before on the connection. 1 is no client's.
+unfoldable pub once : (seen : List ℕ) (type : ℕ) → Kind → Typed
+once seen t k = elim (isOneOf seen t) [ true ↦ refuse 0x0103 | false ↦ is k ]
+
+unfoldable pub typeRule : (seen : List ℕ) (type : ℕ) → Typed
+typeRule seen t =
+    elim (eqb t 0) [ true ↦ once seen 0 a-control | false ↦
+    elim (eqb t 1) [ true ↦ refuse 0x0103 | false ↦
+    elim (eqb t 2) [ true ↦ once seen 2 encoder | false ↦
+    elim (eqb t 3) [ true ↦ once seen 3 decoder | false ↦ is skipped ] ] ] ]
+
+-- What such a stream means.
+pub data OneWay : Type 0 where
+  untyped : OneWay                                  -- its type has not come whole
+  refused : (code place : ℕ) → OneWay               -- at the type's last byte
+  of-control : Reading → OneWay                     -- frames behind the type
+  of-qpack : Kind → (bytes : List ℕ) → OneWay       -- the bytes behind the type
+  passed-over : OneWay
+
+unfoldable pub typed : (next total : ℕ) → (rest : List ℕ) → Typed → OneWay
+typed next total rest (refuse code) = refused code next
+typed next total rest (is a-control) = of-control (readFrom control next total [] rest)
+typed next total rest (is encoder) = of-qpack encoder rest
+typed next total rest (is decoder) = of-qpack decoder rest
+typed next total rest (is skipped) = passed-over
+
+unfoldable pub behind-type : (seen : List ℕ) (total : ℕ) → Int → OneWay
+behind-type seen total cut = untyped
+behind-type seen total (got type next rest) = typed next total rest (typeRule seen type)
+
+-- THE DEFINITION: what a one-way stream of these bytes means
+unfoldable pub oneWay : (seen : List ℕ) → List ℕ → OneWay
+oneWay seen bytes = behind-type seen (length bytes) (integer 0 bytes)
+
+-- Control and QPACK streams may be neither ended nor reset; the others are freed without fault, even before their type.
+unfoldable pub closed : OneWay → Option ℕ
+closed untyped = none
+closed (refused code place) = some code
+closed (of-control r) = some 0x0104
+closed (of-qpack k bytes) = some 0x0104
+closed passed-over = none

@@ -1,0 +1,122 @@
+-- Streams worked by hand (document 01): the starred ones, as one list under a single claim, computed. Assumes nothing.
+use mathlib.Core.Path.{_≡_, refl}
+use Prim.Native.Nat.{ℕ}
+use mathlib.Core.List.{List, [], _∷_, _++_, map}
+use mathlib.Core.Option.{Option, none, some}
+use Prim.Native.String.{String}
+use Rattle.rules.specs.Text.{ascii, nibble, hexFrom, hex, between, isOneOf, any, all, same}
+use Rattle.rules.specs.Integers.{Int, got, integer, more, extra, rows, low, inRow, inFirst, written, largest}
+use Rattle.rules.specs.Block.{Section, Lines, little, fields, record-of, before, linesFrom, lines}
+use Rattle.rules.specs.Classes.{isDigit, isCapital, isSmall, isMark, isToken, isName, isValue, isBlank}
+use Rattle.rules.specs.Section as S
+use Rattle.rules.specs.Frames.{framesUpTo, framesFrom}
+use Rattle.rules.specs.Reading.{Verdict, whole, fault, waits, Reading, put, told, ended, left-by, completed, judge, readFrom, read, contents}
+use Rattle.rules.specs.Message.{content-limit, heads, sum-to, carries, trails, tally, ends}
+use Rattle.rules.specs.Request as R
+use Rattle.rules.specs.Request.{document, all-sound, request}
+use Rattle.rules.specs.Control as C
+use Rattle.rules.specs.OneWay.{OneWay, untyped, refused, of-control, of-qpack, passed-over, once, typeRule, typed, behind-type, oneWay, closed}
+use Rattle.rules.specs.Numbers.{Row, numbers, rowIn, rowOf}
+use Rattle.rules.specs.Writer.{Write, wrote, refused as no-write, into, both, write-integer}
+
+pub data Question : Type 0 where
+  reads : (bytes : List ℕ) → Question                                                          -- an integer
+  writes : (room value : ℕ) → Question
+  request-stream : (stated : Option ℕ) (sections : ℕ) (bytes : List ℕ) → Question              -- its sections are sound
+  one-way-stream : (seen : List ℕ) (bytes : List ℕ) → Question
+  closes : (seen : List ℕ) (bytes : List ℕ) → Question                                         -- such a stream is ended or reset
+  header-section : Section → Question
+  trailers : Section → Question
+  block : (bytes : List ℕ) → Question
+  number : ℕ → Question
+
+pub data Answer : Type 0 where
+  read-as : Int → Answer
+  written-as : Write → Answer
+  request-is : (content : List ℕ) → Verdict → Answer
+  one-way-is : OneWay → Answer
+  closed-with : Option ℕ → Answer
+  header-is : R.Header → Answer
+  trailer-is : R.Trailer → Answer
+  lines-are : Lines → Answer
+  row-is : Option Row → Answer
+
+-- so many sections, of which nothing is asked
+unfoldable pub sectionsFor : ℕ → List Section
+sectionsFor ℕ.zero = []
+sectionsFor (ℕ.suc n) = [] ∷ sectionsFor n
+
+unfoldable pub request-answer : Reading → Answer
+request-answer r = request-is (contents (r .said)) (r .verdict)
+
+-- of a control stream the verdict is asked, and nothing that it said before
+unfoldable pub verdict-alone : OneWay → OneWay
+verdict-alone untyped = untyped
+verdict-alone (refused code place) = refused code place
+verdict-alone (of-control r) = of-control (record { said = []; verdict = r .verdict })
+verdict-alone (of-qpack k bytes) = of-qpack k bytes
+verdict-alone passed-over = passed-over
+
+-- THE RULES' ANSWER
+unfoldable pub answer : Question → Answer
+unfolding ascii nibble hexFrom hex between isOneOf any all same more extra integer rows low inRow inFirst written largest little fields record-of before linesFrom lines isDigit isCapital isSmall isMark isToken isName isValue isBlank S.isEmpty S.begins S.ends S.named S.lineWith S.has S.repeated S.valueOf S.holds S.decimalFrom S.decimal S.pseudo-fields S.connection-fields S.isPseudo S.lineSize S.size S.size-limit S.size-check S.badName S.badValue S.bytes-check S.unknown-check S.repeated-check S.pseudoBehindPlain S.late-check S.in-trailers-check S.connection-check S.te-check S.method-check S.no-method-check S.repeated-length-check S.length-in-trailers-check S.digits-check S.length-above-check S.repeated-host-check S.connect-check S.present-check S.scheme-check S.goodPath S.path-check S.authority-check S.empty-check S.differ-check S.at-check S.length-limit S.length-check S.header-checks S.trailer-checks S.codeOf S.firstBroken S.unless S.methodOf S.statedIn S.header-section S.trailers framesUpTo framesFrom put told ended left-by completed judge readFrom read contents content-limit heads sum-to carries trails tally ends R.header-by R.trailer-by R.document R.all-sound R.forbidden-types R.kindOf R.codeOf R.headers-limit R.within-limit R.data-rule R.headers-rule R.ruleFor R.rule R.next-of R.headed-by R.trailed-by R.given R.end-of C.no-settings C.set-to C.reserved-identifiers C.pairs C.settings-of C.settings-limit C.forbidden-types C.one-integer C.set-rule C.first-rule C.rule C.only C.above C.below C.goaway-told C.max-push-told C.integer-told C.settings-told C.judged C.settings-in C.id-in C.tells once typeRule typed behind-type oneWay closed numbers rowIn rowOf into write-integer sectionsFor request-answer verdict-alone
+answer (reads bytes) = read-as (integer 0 bytes)
+answer (writes room value) = written-as (write-integer room value)
+answer (request-stream stated n bytes) = request-answer (read (request (all-sound stated)) (sectionsFor n) bytes)
+answer (one-way-stream seen bytes) = one-way-is (verdict-alone (oneWay seen bytes))
+answer (closes seen bytes) = closed-with (closed (oneWay seen bytes))
+answer (header-section s) = header-is (document .header s)
+answer (trailers s) = trailer-is (document .trailer s)
+answer (block bytes) = lines-are (lines bytes)
+answer (number n) = row-is (rowOf n)
+
+pub record Worked : Type 0 where
+  pub question : Question
+  pub says : Answer
+
+abbrev pub reads-as : String → (value : ℕ) → Worked
+reads-as bytes v = record { question = reads (hex bytes); says = read-as (got v (lib.ListN.length (hex bytes)) []) }
+
+abbrev pub writes-as : (value : ℕ) → String → Worked
+writes-as v bytes = record { question = writes 8 v; says = written-as (wrote (hex bytes)) }
+
+abbrev pub stream : (stated : Option ℕ) (bytes content : String) → Verdict → Worked
+stream stated bytes content v = record { question = request-stream stated 2 (hex bytes); says = request-is (hex content) v }
+
+abbrev pub control : (bytes : String) → Verdict → Worked
+control bytes v = record { question = one-way-stream [] (hex bytes); says = one-way-is (of-control (record { said = []; verdict = v })) }
+
+unfoldable pub starred : List Worked
+unfolding hex hexFrom nibble
+starred =
+    reads-as "25" 37
+    ∷ reads-as "40 25" 37
+    ∷ writes-as 37 "25"
+    ∷ writes-as 16_383 "7F FF"
+    ∷ writes-as 16_384 "80 00 40 00"
+    ∷ writes-as 4_611_686_018_427_387_903 "FF FF FF FF FF FF FF FF"
+    ∷ record { question = writes 8 4_611_686_018_427_387_904; says = written-as (no-write 8) }
+    ∷ stream none "" "" (fault 0x010d 0)
+    ∷ stream none "00 00" "" (fault 0x0105 2)
+    ∷ stream none "01 01 00" "" whole
+    ∷ stream none "01 01 00 00 03 61 62" "61 62" (fault 0x0106 7)
+    ∷ stream (some 3) "01 01 00 00 03 61 62 63" "61 62 63" whole
+    ∷ stream (some 4) "01 01 00 00 03 61 62 63" "61 62 63" (fault 0x010e 8)
+    ∷ stream (some 2) "01 01 00 00 03 61 62 63" "" (fault 0x010e 5)
+    ∷ stream (some 3) "01 01 00 00 03 61 62 63 00 00 21 00" "61 62 63" whole
+    ∷ stream none "01 01 00 01 01 00 00 00" "" (fault 0x0105 8)
+    ∷ control "00 07 01" (fault 0x010a 3)
+    ∷ control "00 04 04 06 01 06 01" (fault 0x0109 7)
+    ∷ control "00 04 02 03 00" (fault 0x0109 5)
+    ∷ control "00 04 01 06" (fault 0x0106 4)
+    ∷ []
+
+abbrev pub asked : List Worked → List Answer
+asked list = map (λ w. answer (w .question)) list
+
+abbrev pub said : List Worked → List Answer
+said list = map (λ w. w .says) list
+
+pub worked : asked starred ≡ said starred
+unfolding answer starred
+worked = refl
