@@ -4,3 +4,7 @@ pub mod Cut
 pub mod Shift
 pub mod Feed
 pub mod Feeds
+pub mod First
+pub mod MessageLaws
+pub mod RequestLaws
+pub mod Whole

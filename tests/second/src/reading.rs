@@ -17,12 +17,20 @@ pub enum Use {
 #[derive(Clone, Copy, Debug, PartialEq, Eq)]
 pub enum What {
     /// A finished frame header; without a use if it was refused.
-    Header { kind: u64, length: u64, usage: Option<Use> },
+    Header {
+        kind: u64,
+        length: u64,
+        usage: Option<Use>,
+    },
     /// A frame header whose last byte has not come.
     CutHeader,
-    Section { last: bool },
+    Section {
+        last: bool,
+    },
     Content,
-    Qpack { kind: u64 },
+    Qpack {
+        kind: u64,
+    },
     Settings(Settings),
     Goaway(u64),
     MaxPush(u64),

@@ -17,19 +17,53 @@ const FILL: u8 = 0xaa;
 #[derive(Clone, Debug, PartialEq, Eq)]
 pub enum Call {
     Start,
-    Open { id: u64 },
-    Feed { id: u64, allowance: u64, piece: Vec<u8> },
-    Section { id: u64, block: Vec<u8> },
-    End { id: u64 },
-    Reset { id: u64 },
-    Goaway { id: u64, room: u64 },
-    FrameHeader { kind: u64, length: u64, room: u64 },
-    IntegerFrame { kind: u64, value: u64, room: u64 },
-    Integer { value: u64, room: u64 },
-    ControlOpening { room: u64 },
-    Read { bytes: Vec<u8> },
+    Open {
+        id: u64,
+    },
+    Feed {
+        id: u64,
+        allowance: u64,
+        piece: Vec<u8>,
+    },
+    Section {
+        id: u64,
+        block: Vec<u8>,
+    },
+    End {
+        id: u64,
+    },
+    Reset {
+        id: u64,
+    },
+    Goaway {
+        id: u64,
+        room: u64,
+    },
+    FrameHeader {
+        kind: u64,
+        length: u64,
+        room: u64,
+    },
+    IntegerFrame {
+        kind: u64,
+        value: u64,
+        room: u64,
+    },
+    Integer {
+        value: u64,
+        room: u64,
+    },
+    ControlOpening {
+        room: u64,
+    },
+    Read {
+        bytes: Vec<u8>,
+    },
     /// The call is lent a row of so many free records in place of the kept one.
-    Lent { records: u64, call: Box<Call> },
+    Lent {
+        records: u64,
+        call: Box<Call>,
+    },
     Show,
 }
 
@@ -70,7 +104,8 @@ impl Call {
 
     fn parse_lent(rest: &str) -> Option<Call> {
         let (records, call) = rest.split_once(' ')?;
-        let records = number(records).filter(|records| *records <= LENT_LIMIT && *records != RECORDS as u64)?;
+        let records =
+            number(records).filter(|records| *records <= LENT_LIMIT && *records != RECORDS as u64)?;
         let call = Call::parse(call)?;
         call.is_lent_the_row().then(|| Call::Lent { records, call: Box::new(call) })
     }
@@ -154,7 +189,9 @@ impl Pair {
             return show_answer(&answer);
         }
         match call {
-            Call::Goaway { id, room } => write_into(*room, |buffer| calls::goaway(&mut self.connection, *id, buffer)),
+            Call::Goaway { id, room } => {
+                write_into(*room, |buffer| calls::goaway(&mut self.connection, *id, buffer))
+            }
             Call::FrameHeader { kind, length, room } => {
                 write_into(*room, |buffer| writer::frame_header(*kind, *length, buffer))
             }

@@ -63,7 +63,12 @@ pub fn read(bytes: &[u8], sections: &[Option<u64>]) -> Reading {
 }
 
 /// Type and position first, then length.
-fn judge_header(frame: &Frame, sections_begun: usize, sum: u64, content_length: Option<u64>) -> Result<Use, u16> {
+fn judge_header(
+    frame: &Frame,
+    sections_begun: usize,
+    sum: u64,
+    content_length: Option<u64>,
+) -> Result<Use, u16> {
     match (frame.kind, sections_begun) {
         (0, 1) => match content_length {
             Some(stated) if sum + frame.length > stated => Err(MESSAGE_ERROR),

@@ -10,13 +10,8 @@ pub const CONTENT_LIMIT: u64 = 1_048_576;
 
 const PSEUDO: [&[u8]; 4] = [b":method", b":scheme", b":authority", b":path"];
 
-const FORBIDDEN: [&[u8]; 5] = [
-    b"connection",
-    b"keep-alive",
-    b"proxy-connection",
-    b"transfer-encoding",
-    b"upgrade",
-];
+const FORBIDDEN: [&[u8]; 5] =
+    [b"connection", b"keep-alive", b"proxy-connection", b"transfer-encoding", b"upgrade"];
 
 #[derive(Clone, Copy, Debug, PartialEq, Eq)]
 pub enum Part {

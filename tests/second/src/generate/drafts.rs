@@ -178,6 +178,21 @@ pub fn break_request(random: &mut Random, drafts: &mut Vec<Draft>) {
     }
 }
 
+/// Breaks a request in a way that costs the stream alone: too much content, or no header section.
+pub fn break_stream(random: &mut Random, drafts: &mut Vec<Draft>) {
+    if random.one_in(3) {
+        drafts.retain(|draft| draft.kind != HEADERS && draft.kind != DATA);
+        return;
+    }
+    let limit = CONTENT_LIMIT.saturating_sub(content_sum(drafts));
+    let length = random.pick(&[limit, limit + 1, limit + 1, HIGHEST]);
+    let trailers = drafts.iter().rposition(|draft| draft.kind == HEADERS);
+    let first = drafts.iter().position(|draft| draft.kind == HEADERS);
+    // Last of the content, so that the sum decides and not the length alone.
+    let place = if trailers == first { drafts.len() } else { trailers.unwrap_or(0) };
+    drafts.insert(place, Draft::stating(DATA, length, random.bytes(2)));
+}
+
 /// Damage that knows nothing of frames.
 pub fn damage(random: &mut Random, bytes: &mut Vec<u8>) {
     if bytes.is_empty() {
@@ -261,7 +276,11 @@ pub fn sound_control(random: &mut Random, goaway: Option<u64>, max_push: Option<
             0 => {
                 let earlier = goaway.unwrap_or(HIGHEST);
                 // Mostly high, so that lower ones can follow.
-                let id = if random.one_in(3) { earlier } else { earlier - random.below(earlier / 4 + 2).min(earlier) };
+                let id = if random.one_in(3) {
+                    earlier
+                } else {
+                    earlier - random.below(earlier / 4 + 2).min(earlier)
+                };
                 goaway = Some(id);
                 drafts.push(Draft::new(GOAWAY, integer(random, id)));
             }
@@ -277,37 +296,43 @@ pub fn sound_control(random: &mut Random, goaway: Option<u64>, max_push: Option<
     drafts
 }
 
-/// A control frame that is refused, or nearly.
-pub fn broken_control(random: &mut Random, goaway: Option<u64>, max_push: Option<u64>) -> Draft {
+/// Control frames of which the last is refused, or nearly.
+pub fn broken_control(random: &mut Random, goaway: Option<u64>, max_push: Option<u64>) -> Vec<Draft> {
     let integer_type = random.pick(&[CANCEL_PUSH, GOAWAY, MAX_PUSH_ID]);
     let value = any_value(random);
-    match random.below(8) {
+    let broken = match random.below(10) {
         0 => Draft::new(CANCEL_PUSH, integer(random, value)),
-        1 => {
-            let id = goaway.unwrap_or(value).saturating_add(random.below(2)).min(HIGHEST);
-            Draft::new(GOAWAY, integer(random, id))
+        1 | 2 => {
+            let earlier = goaway.unwrap_or(value);
+            let id = (earlier + random.pick(&[0, 1, 1, 90])).min(HIGHEST);
+            let two = [earlier, id].map(|id| Draft::new(GOAWAY, integer(random, id)));
+            return two.to_vec();
         }
-        2 => {
-            let id = max_push.unwrap_or(value).saturating_sub(random.below(2));
-            Draft::new(MAX_PUSH_ID, integer(random, id))
+        3 | 4 => {
+            let earlier = max_push.unwrap_or(value);
+            let id = earlier.saturating_sub(random.pick(&[0, 1, 1, 90]));
+            let two = [earlier, id].map(|id| Draft::new(MAX_PUSH_ID, integer(random, id)));
+            return two.to_vec();
         }
-        3 => {
+        5 => {
             let length = random.pick(&[0, 9, 64, HIGHEST]);
             Draft::stating(integer_type, length, random.bytes(2))
         }
-        4 => {
+        6 => {
             let length = random.between(1, 8) as usize;
             Draft::new(integer_type, random.bytes(length))
         }
-        5 => sound_settings(random),
-        6 => {
+        7 => sound_settings(random),
+        8 => {
             let length = random.pick(&[0, 2]);
-            Draft::new(random.pick(&[0, 1, 2, 5, 6, 8, 9]), random.bytes(length))
+            let kind = random.pick(&[0, 1, 2, 5, 6, 8, 9]);
+            Draft::new(kind, random.bytes(length))
         }
         _ => {
             let mut payload = integer(random, value);
             payload.push(0);
             Draft::new(integer_type, payload)
         }
-    }
+    };
+    vec![broken]
 }

@@ -66,8 +66,8 @@ impl Streams {
     /// Short streams of bytes that mean much.
     fn few_letters(&mut self) -> Vec<u8> {
         const LETTERS: [u8; 20] = [
-            0x00, 0x00, 0x00, 0x01, 0x01, 0x01, 0x01, 0x02, 0x03, 0x04, 0x05, 0x07, 0x0a, 0x0d, 0x0e, 0x21, 0x40, 0x80,
-            0xc0, 0xff,
+            0x00, 0x00, 0x00, 0x01, 0x01, 0x01, 0x01, 0x02, 0x03, 0x04, 0x05, 0x07, 0x0a, 0x0d, 0x0e, 0x21,
+            0x40, 0x80, 0xc0, 0xff,
         ];
         let length = self.random.between(1, 14);
         (0..length).map(|_| self.random.pick(&LETTERS)).collect()
@@ -125,9 +125,12 @@ impl Streams {
         match self.random.below(4) {
             0 => fill_with_frame(&mut bytes, DATA, total),
             1 => fill_with_frame(&mut bytes, 0x21, total),
-            2 => while bytes.len() < total {
-                let frame: &[u8] = if bytes.len() + 3 == total { &[0x21, 0x01, 0x00] } else { &[0x21, 0x00] };
-                bytes.extend(frame);
+            2 => {
+                while bytes.len() < total {
+                    let frame: &[u8] =
+                        if bytes.len() + 3 == total { &[0x21, 0x01, 0x00] } else { &[0x21, 0x00] };
+                    bytes.extend(frame);
+                }
             }
             _ => {
                 fill_with_frame(&mut bytes, DATA, total - 2);
@@ -139,9 +142,9 @@ impl Streams {
 }
 
 /// One frame with a four-byte length that brings the stream to `total` bytes.
-fn fill_with_frame(bytes: &mut Vec<u8>, kind: u8, total: usize) {
+fn fill_with_frame(bytes: &mut Vec<u8>, kind: u64, total: usize) {
     let length = total - bytes.len() - 5;
-    bytes.push(kind);
+    bytes.extend(integers::write_in(kind, 1));
     bytes.extend(integers::write_in(length as u64, 4));
     bytes.resize(total, 0x61);
 }
