@@ -10,23 +10,8 @@ use Rattle.rules.specs.Integers.{Int, cut, got, more, extra, integer}
 use Rattle.rules.specs.Frames.{Frames, frame, in-payload as in-frame, framesUpTo, framesFrom}
 use Rattle.rules.specs.Block.{Section}
 use Rattle.rules.specs.Reading.{Kept, Use, content, skipped, section, kept, Ruling, refuse, accept, Next, stop, go, Grammar, Verdict, fault, waits, Saying, header, refused, frame-kept, Reading, ending, put, told, Onward, stops, waiting, on, left-by, completed, judge, readFrom, read}
+use Rattle.meaning.specs.IntegerLaws.{integer-length}
 use Rattle.meaning.specs.Machine.{fresh, after, fed, in-length, between, answered, typed, keep, over, with-left, ruled, sized, step, judged-says, over-says, left-says, rule-says, size-says, says, finish, Run, reads, stuck, resumed, supplied, settled, next, tells, finished, begins, reading, fresh-run}
-
--- the bytes that an integer leaves
-pub more-length : (k v at : ℕ) (bs : List ℕ) {t here : ℕ} {rest : List ℕ} → more k v at bs ≡ got t here rest → (here + length rest ≡ at + length bs) × (length rest ≤ length bs)
-unfolding more
-more-length zero v at bs {t} {here} {rest} e =
-    let n : at ≡ here = cc in
-    let r : bs ≡ rest = cc in
-    let l : length bs ≡ length rest = ap length r in
-    omega arith
-more-length (suc k) v at [] e = let z : _≡_ {A = ℕ} 0 1 = cc in omega arith
-more-length (suc k) v at (b ∷ bs) e = let i = more-length k (v * 256 + b) (suc at) bs e in omega arith
-
-pub integer-length : (at : ℕ) (bs : List ℕ) {t here : ℕ} {rest : List ℕ} → integer at bs ≡ got t here rest → (here + length rest ≡ at + length bs) × (length rest < length bs)
-unfolding integer
-integer-length at [] e = let z : _≡_ {A = ℕ} 0 1 = cc in omega arith
-integer-length at (b ∷ bs) e = let i = more-length (extra b) (b % 64) (suc at) bs e in omega arith
 
 module _ where
   pub put-put : (x y : List Saying) (r : Reading) → put x (put y r) ≡ put (x ++ y) r

@@ -1,3 +1,5 @@
+pub mod IntegerLaws
+pub mod FrameLaws
 pub mod Machine
 pub mod Bridge
 pub mod Cut
@@ -8,3 +10,4 @@ pub mod First
 pub mod MessageLaws
 pub mod RequestLaws
 pub mod Whole
+pub mod Longer

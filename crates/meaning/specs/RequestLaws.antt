@@ -21,7 +21,7 @@ AllDiffer (x ∷ xs) t = (t ≡ x → ⊥) × AllDiffer xs t
 differs : (t x : ℕ) → eqb t x ≡ false → t ≡ x → ⊥
 differs t x e p = rw (rw p at e) at (eqb-refl x)
 
-is-false : (t x : ℕ) → (t ≡ x → ⊥) → (y : Bool) → eqb t x ≡ y → y ≡ false
+pub is-false : (t x : ℕ) → (t ≡ x → ⊥) → (y : Bool) → eqb t x ≡ y → y ≡ false
 is-false t x d true e = absurd (d (eqb→eq t x (rw e tt)))
 is-false t x d false e = refl
 

@@ -136,6 +136,19 @@ contents (section-byte b ∷ xs) = contents xs
 contents (content-byte b ∷ xs) = b ∷ contents xs
 contents (frame-kept k p ∷ xs) = contents xs
 
+-- the bytes of the header section: section bytes up to the trailers
+unfoldable pub headerBytes : List Saying → List ℕ
+headerBytes [] = []
+headerBytes (header h content ∷ xs) = headerBytes xs
+headerBytes (header h skipped ∷ xs) = headerBytes xs
+headerBytes (header h (section header-section) ∷ xs) = headerBytes xs
+headerBytes (header h (section trailers) ∷ xs) = []
+headerBytes (header h (kept k) ∷ xs) = headerBytes xs
+headerBytes (refused h ∷ xs) = headerBytes xs
+headerBytes (section-byte b ∷ xs) = b ∷ headerBytes xs
+headerBytes (content-byte b ∷ xs) = headerBytes xs
+headerBytes (frame-kept k p ∷ xs) = headerBytes xs
+
 unfoldable pub sectionBytes : List Saying → List ℕ
 sectionBytes [] = []
 sectionBytes (header h u ∷ xs) = sectionBytes xs

@@ -158,7 +158,9 @@ impl Schedule {
     }
 
     fn open_next(&mut self) {
-        let request = self.random.percent(65);
+        // Where control frames are drafted broken, the control stream comes early.
+        let control_first = self.temper.control > 0 && !self.types.contains(&0);
+        let request = self.random.percent(if control_first { 30 } else { 70 });
         let connection = &self.pair.connection;
         let id = if request { connection.next_request } else { connection.next_one_way };
         let answer = self.make(Call::Open { id });
@@ -195,7 +197,7 @@ impl Schedule {
                 let settings = self.settings_draft();
                 let mut frames = vec![settings];
                 frames.extend(self.control_drafts());
-                if self.temper.control > 0 && self.random.one_in(5) {
+                if self.temper.control > 0 && self.random.one_in(10) {
                     frames.remove(0);
                 }
                 rest.extend(drafts::frames(&mut self.random, &frames));
@@ -209,6 +211,9 @@ impl Schedule {
         if self.random.percent(self.temper.types) {
             return self.random.pick(&[0, 1, 2, 3]);
         }
+        if self.temper.control > 0 && !self.types.contains(&0) {
+            return 0;
+        }
         let types = &self.types;
         let unused: Vec<u64> = [0, 2, 3].into_iter().filter(|kind| !types.contains(kind)).collect();
         if !unused.is_empty() && self.random.percent(75) {
@@ -218,7 +223,7 @@ impl Schedule {
     }
 
     fn settings_draft(&mut self) -> Draft {
-        if self.random.percent(self.temper.control) {
+        if self.random.percent(self.temper.control / 2) {
             drafts::broken_settings(&mut self.random)
         } else {
             drafts::sound_settings(&mut self.random)
@@ -242,7 +247,7 @@ impl Schedule {
     /// Mostly a request: the one-way streams live long and have less to say.
     fn some_open_stream(&mut self) -> Option<u64> {
         let (requests, one_way): (Vec<u64>, Vec<u64>) = self.plans.keys().partition(|id| **id % 4 == 0);
-        let requests_first = self.random.percent(75);
+        let requests_first = self.random.percent(if self.temper.control > 0 { 50 } else { 80 });
         let ids = match (requests.is_empty(), one_way.is_empty()) {
             (true, true) => return None,
             (true, false) => one_way,
