@@ -72,20 +72,20 @@ told-then : (u : Use) (b : ℕ) (bs : List ℕ) (rest : List Saying) → told u 
 told-then u b bs rest e =
     told-cons u b bs ∙ ap (λ x. told u (b ∷ []) ++ x) e ∙ ap (λ x. x ++ unheaded rest) (sym (unheaded-told u (b ∷ []))) ∙ sym (unheaded-append (told u (b ∷ [])) rest)
 
-abbrev Within : Event → ℕ → Type 0
+abbrev pub Within : Event → ℕ → Type 0
 Within quiet u = Unit {0}
 Within (section-bytes len last) u = len ≤ u
 Within (content-bytes len) u = len ≤ u
 Within (taken t k) u = Unit {0}
 
-shows-also : (e : Event) (u b : ℕ) (bs : List ℕ) → Within e u → shows e (suc u) (b ∷ bs) ≡ shows e u bs
+pub shows-also : (e : Event) (u b : ℕ) (bs : List ℕ) → Within e u → shows e (suc u) (b ∷ bs) ≡ shows e u bs
 unfolding shows
 shows-also quiet u b bs w = refl
 shows-also (section-bytes len last) u b bs w = let e : suc u - len ≡ suc (u - len) = omega arith in rw e
 shows-also (content-bytes len) u b bs w = let e : suc u - len ≡ suc (u - len) = omega arith in rw e
 shows-also (taken t k) u b bs w = refl
 
-within-also : (e : Event) (u : ℕ) → Within e u → Within e (suc u)
+pub within-also : (e : Event) (u : ℕ) → Within e u → Within e (suc u)
 within-also quiet u w = tt
 within-also (section-bytes len last) u w = omega arith
 within-also (content-bytes len) u w = omega arith

@@ -7,6 +7,9 @@ pub mod Shift
 pub mod Feed
 pub mod Feeds
 pub mod First
+pub mod ControlLaws
+pub mod OneWayFeed
+pub mod OneWays
 pub mod MessageLaws
 pub mod RequestLaws
 pub mod Whole

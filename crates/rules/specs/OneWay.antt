@@ -10,8 +10,13 @@ use Rattle.rules.specs.Integers.{Int, cut, got, integer}
 use Rattle.rules.specs.Reading.{Reading, readFrom}
 use Rattle.rules.specs.Control.{control}
 
+pub data Qpack : Type 0 where
+  encoder decoder : Qpack
+
 pub data Kind : Type 0 where
-  a-control encoder decoder skipped : Kind
+  a-control : Kind
+  a-qpack : Qpack → Kind
+  skipped : Kind
 
 pub data Typed : Type 0 where
   refuse : (code : ℕ) → Typed
@@ -25,22 +30,21 @@ unfoldable pub typeRule : (seen : List ℕ) (type : ℕ) → Typed
 typeRule seen t =
     elim (eqb t 0) [ true ↦ once seen 0 a-control | false ↦
     elim (eqb t 1) [ true ↦ refuse 0x0103 | false ↦
-    elim (eqb t 2) [ true ↦ once seen 2 encoder | false ↦
-    elim (eqb t 3) [ true ↦ once seen 3 decoder | false ↦ is skipped ] ] ] ]
+    elim (eqb t 2) [ true ↦ once seen 2 (a-qpack encoder) | false ↦
+    elim (eqb t 3) [ true ↦ once seen 3 (a-qpack decoder) | false ↦ is skipped ] ] ] ]
 
 -- What such a stream means.
 pub data OneWay : Type 0 where
   untyped : OneWay                                  -- its type has not come whole
   refused : (code place : ℕ) → OneWay               -- at the type's last byte
   of-control : Reading → OneWay                     -- frames behind the type
-  of-qpack : Kind → (bytes : List ℕ) → OneWay       -- the bytes behind the type
+  of-qpack : Qpack → (bytes : List ℕ) → OneWay       -- the bytes behind the type
   passed-over : OneWay
 
 unfoldable pub typed : (next total : ℕ) → (rest : List ℕ) → Typed → OneWay
 typed next total rest (refuse code) = refused code next
 typed next total rest (is a-control) = of-control (readFrom control next total [] rest)
-typed next total rest (is encoder) = of-qpack encoder rest
-typed next total rest (is decoder) = of-qpack decoder rest
+typed next total rest (is (a-qpack q)) = of-qpack q rest
 typed next total rest (is skipped) = passed-over
 
 unfoldable pub behind-type : (seen : List ℕ) (total : ℕ) → Int → OneWay
@@ -56,5 +60,5 @@ unfoldable pub closed : OneWay → Option ℕ
 closed untyped = none
 closed (refused code place) = some code
 closed (of-control r) = some 0x0104
-closed (of-qpack k bytes) = some 0x0104
+closed (of-qpack q bytes) = some 0x0104
 closed passed-over = none

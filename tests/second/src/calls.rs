@@ -26,7 +26,7 @@ pub struct Stream {
 
 impl Stream {
     pub fn is_request(&self) -> bool {
-        self.id % 4 == 0
+        self.id.is_multiple_of(4)
     }
 
     pub fn is_due(&self) -> bool {
@@ -126,7 +126,7 @@ fn try_open(connection: &mut Connection, row: &mut Row, id: u64) -> Result<Gave,
     if id != *next || id > HIGHEST {
         return Err(NOT_NEXT);
     }
-    let barred = id % 4 == 0 && connection.our_goaway.is_some_and(|limit| id >= limit);
+    let barred = id.is_multiple_of(4) && connection.our_goaway.is_some_and(|limit| id >= limit);
     if barred {
         *next += 4;
         return Err(REQUEST_REJECTED);
@@ -248,7 +248,7 @@ pub fn goaway(connection: &mut Connection, id: u64, buffer: &mut [u8]) -> Result
         return Err(code);
     }
     let lower = connection.our_goaway.is_none_or(|earlier| id <= earlier);
-    if id % 4 != 0 || id > HIGHEST || !lower {
+    if !id.is_multiple_of(4) || id > HIGHEST || !lower {
         return Err(BAD_VALUE);
     }
     let written = writer::goaway(id, buffer)?;

@@ -22,7 +22,7 @@ pub struct Said {
 
 /// `start` is where the stream's type ends.
 pub fn read(bytes: &[u8], start: usize) -> Reading {
-    let mut reading = Reading::new();
+    let mut reading = Reading::empty();
     let mut said = Said::default();
     let mut place = start;
     while place < bytes.len() {

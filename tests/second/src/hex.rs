@@ -14,7 +14,7 @@ pub fn parse(word: &str) -> Option<Vec<u8>> {
         return Some(Vec::new());
     }
     let digits = word.as_bytes();
-    if digits.is_empty() || digits.len() % 2 != 0 {
+    if digits.is_empty() || !digits.len().is_multiple_of(2) {
         return None;
     }
     digits.chunks(2).map(|pair| Some(half(pair[0])? << 4 | half(pair[1])?)).collect()

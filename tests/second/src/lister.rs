@@ -33,6 +33,7 @@ fn word(usage: Use) -> &'static str {
         Use::HeaderSection => "header section",
         Use::Content => "content",
         Use::Trailers => "trailers",
-        Use::Skipped | Use::Control => "skipped",
+        Use::Skipped => "skipped",
+        Use::Control => unreachable!("a request stream takes no control frames"),
     }
 }

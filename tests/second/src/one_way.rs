@@ -34,7 +34,7 @@ impl Kind {
 
 /// `others` are the kinds of the connection's other one-way streams.
 pub fn read(bytes: &[u8], others: &[Kind]) -> Reading {
-    let mut reading = Reading::new();
+    let mut reading = Reading::empty();
     let Some((number, size)) = integers::read(bytes, 0) else {
         return reading;
     };

@@ -64,7 +64,7 @@ pub struct Reading {
 }
 
 impl Reading {
-    pub fn new() -> Reading {
+    pub fn empty() -> Reading {
         Reading { items: Vec::new(), stand: Stand::Between }
     }
 
@@ -83,12 +83,6 @@ impl Reading {
             What::Fault(code) => Some((item.end, code)),
             _ => None,
         })
-    }
-}
-
-impl Default for Reading {
-    fn default() -> Reading {
-        Reading::new()
     }
 }
 

@@ -11,7 +11,7 @@ pub const HEADERS_LIMIT: u64 = 16_384;
 /// `sections` holds a stated Content-Length, or none, for each section taken so far, trailers included.
 pub fn read(bytes: &[u8], sections: &[Option<u64>]) -> Reading {
     let content_length = sections.first().copied().flatten();
-    let mut reading = Reading::new();
+    let mut reading = Reading::empty();
     let mut sections_begun = 0;
     let mut sum = 0;
     let mut place = 0;

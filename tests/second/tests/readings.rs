@@ -170,7 +170,7 @@ fn b17_a_request_goes_on_until_its_end() {
     let mut session = Session::new();
     session.request(Some("1"));
     session.says("F 0 9 000161", "0 3 1 content 2 1");
-    session.says("F 0 9 0000210040000101", "0 8 4 -");
+    session.says("F 0 9 000021004000000101", "0 9 4 -");
     session.says("F 0 9 61", "0 1 0 section 0 1 1");
     session.accepts("H 0 -");
     session.says("F 0 9 2100", "0 2 1 -");
@@ -357,7 +357,7 @@ fn d4_settings_pair_by_pair() {
 fn d6_settings_are_kept() {
     let mut session = Session::new();
     session.accepts("O 2");
-    session.says("F 2 9 00040b0001064400014005070308", "0 3 1 -".replace("0 3 1 -", "262 14 1 -").as_str());
+    session.says("F 2 9 00040b0001064400014005070308", "262 14 1 -");
     let mut session = Session::new();
     session.accepts("O 2");
     session.says("F 2 9 00040a0001064400014005070301", "0 13 1 settings 1024 5 3");

@@ -61,7 +61,7 @@ pub fn any_value(random: &mut Random) -> u64 {
         1 => random.below(20),
         _ => {
             let bits = random.between(1, 62);
-            random.next() >> (64 - bits)
+            random.number() >> (64 - bits)
         }
     }
 }

@@ -10,6 +10,9 @@ use crate::integers::{self, HIGHEST};
 use crate::one_way::Kind;
 use crate::replay::{Call, Pair, INPUT_LIMIT, LENT_LIMIT, ROOM_LIMIT};
 
+/// IDs that no client can have opened.
+const OUTER_IDS: [u64; 8] = [1, 3, HIGHEST - 3, HIGHEST - 1, HIGHEST, HIGHEST + 1, HIGHEST + 3, u64::MAX];
+
 /// What a client still means to send on an open stream.
 #[derive(Default)]
 struct Plan {
@@ -413,16 +416,7 @@ impl Schedule {
             2 => request + 4,
             3 => one_way + 4,
             4 => self.random.below(request + 8),
-            5 => self.random.pick(&[
-                1,
-                3,
-                HIGHEST,
-                HIGHEST - 1,
-                HIGHEST - 3,
-                HIGHEST + 1,
-                HIGHEST + 3,
-                u64::MAX,
-            ]),
+            5 => self.random.pick(&OUTER_IDS),
             6 => request.saturating_sub(4),
             _ => self.random.below(12),
         }
@@ -430,7 +424,15 @@ impl Schedule {
 
     fn wrong_call(&mut self) {
         let call = self.call_on_row();
-        self.make(call);
+        let opened = match call {
+            Call::Open { id } => Some(id),
+            _ => None,
+        };
+        let answer = self.make(call);
+        // The next ID may be among the wrong ones; nothing is planned for it yet.
+        if let (Some(id), Some(Answer { number: 0, .. })) = (opened, answer) {
+            self.plans.insert(id, Plan::default());
+        }
     }
 
     /// Any call that is lent the row, on any ID, without looking.

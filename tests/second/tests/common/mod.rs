@@ -1,5 +1,8 @@
 //! A replay session that is told each call and the answer it must give.
 
+// Each test file uses a part of this.
+#![allow(dead_code)]
+
 use second::block;
 use second::hex;
 use second::replay::{Call, Pair};
