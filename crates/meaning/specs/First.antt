@@ -1,4 +1,4 @@
--- The first fault is the last word: what follows it does not matter, nothing shorter has one, and more blocks do not alter it.
+-- The first fault is the last word: what follows it does not matter, nothing shorter has one, and sections behind those due by it do not alter it.
 -- For every grammar. Assumes nothing.
 use mathlib.Core.Path.{_≡_, refl, sym, ap, _∙_, subst}
 use Prim.Native.Nat.{ℕ, zero, suc, _+_, _≤_, _<_}
@@ -8,7 +8,7 @@ use mathlib.Core.Logic.{_↔_}
 use lib.ListN.{length, length-append, take}
 use Rattle.rules.specs.Block.{Section}
 use Rattle.rules.specs.Reading.{Next, stop, go, End, complete, lacking, Grammar, Verdict, whole, fault, waits, ended, read}
-use Rattle.meaning.specs.Machine.{fresh, need, State, in-type, in-length, in-payload, due, Outcome, lives, dies, step, says, finish, Run, reads, stuck, resumed, supplied, settled, next, tells, finished, begins, run, began, lists, fresh-run}
+use Rattle.meaning.specs.Machine.{fresh, need, State, in-type, in-length, in-payload, due, Outcome, lives, dies, between, step, finish, Run, reads, stuck, resumed, supplied, settled, next, tells, finished, begins, run, began, lists, fresh-run}
 use Rattle.meaning.specs.Cut.{read-is, run-append, lists-append}
 
 module _ (G : Grammar) where
@@ -185,91 +185,55 @@ module _ (G : Grammar) where
   unfolding Inside
   inside-means bl x code p = (λ e t. last-word bl x t (fault code p) e .0, λ f. inside-of bl x code p (run G 0 (fresh-run G bl) x) refl f)
 
--- ---- more blocks do not alter what fewer sufficed for; for every grammar
+-- ---- and it depends on the sections due by then, and on no others
 
-module _ (G : Grammar) (more : List Section) where
-  pub data Ext : Run (G .P) → Run (G .P) → Type 0 where
-    e-reads : {bl : List Section} {s : State (G .P)} → Ext (reads bl s) (reads (bl ++ more) s)
-    e-fault : {code place : ℕ} → Ext (stuck (fault code place)) (stuck (fault code place))
-    e-waits : {place : ℕ} {r : Run (G .P)} → Ext (stuck (waits place)) r
+module _ (G : Grammar) where
+  -- of some sections, those taken by a run that comes to a fault: whatever others follow them, it comes to the same
+  pub record Due (at : ℕ) (r : List Section → Run (G .P)) (bs : List ℕ) (code place : ℕ) (sections : List Section) : Type 0 where
+    pub taken : List Section
+    pub left : List Section
+    pub are : sections ≡ taken ++ left
+    pub same : (others : List Section) → run G at (r (taken ++ others)) bs ≡ stuck (fault code place)
 
-  resumed-ext : (at : ℕ) (bl : List Section) (n : Next (G .P)) → Ext (resumed G at bl n) (resumed G at (bl ++ more) n)
+  abbrev Finds : (at : ℕ) (bs : List ℕ) (code place : ℕ) → Type 0
+  Finds at bs code place = (s : State (G .P)) (sections : List Section) → run G at (reads sections s) bs ≡ stuck (fault code place) → Due at (λ l. reads l s) bs code place sections
+
+  none-taken : (at : ℕ) (bs : List ℕ) (code place c p : ℕ) (sections : List Section) → run G at (stuck (fault c p)) bs ≡ stuck (fault code place)
+      → Due at (λ l. stuck (fault c p)) bs code place sections
+  none-taken at bs code place c p sections e = record { taken = []; left = sections; are = refl; same = λ others. e }
+
+  resumed-due : (at : ℕ) (bs : List ℕ) (code place : ℕ) → Finds at bs code place → (sections : List Section) (n : Next (G .P))
+      → run G at (resumed G at sections n) bs ≡ stuck (fault code place) → Due at (λ l. resumed G at l n) bs code place sections
   unfolding resumed
-  resumed-ext at bl (stop code) = e-fault
-  resumed-ext at bl (go p) = e-reads
+  resumed-due at bs code place ih sections (stop c) e = none-taken at bs code place c at sections e
+  resumed-due at bs code place ih sections (go p) e = ih (between p) sections e
 
-  supplied-ext : (at : ℕ) (bl : List Section) (s : State (G .P)) → Ext (supplied G at bl s) (supplied G at (bl ++ more) s)
+  supplied-due : (at : ℕ) (bs : List ℕ) (code place : ℕ) → Finds at bs code place → (s : State (G .P)) (sections : List Section)
+      → run G at (supplied G at sections s) bs ≡ stuck (fault code place) → Due at (λ l. supplied G at l s) bs code place sections
   unfolding supplied
-  supplied-ext at bl (in-type g p) = e-reads
-  supplied-ext at bl (in-length t g p) = e-reads
-  supplied-ext at bl (in-payload u k left p) = e-reads
-  supplied-ext at [] (due t p) = e-waits
-  supplied-ext at (b ∷ bl) (due t p) = resumed-ext at bl (G .given t p b)
+  supplied-due at bs code place ih (in-type g p) sections e = ih (in-type g p) sections e
+  supplied-due at bs code place ih (in-length t g p) sections e = ih (in-length t g p) sections e
+  supplied-due at bs code place ih (in-payload u k left p) sections e = ih (in-payload u k left p) sections e
+  supplied-due at bs code place ih (due t p) [] e = let k = stuck-run G at (waits at) bs in let z : _≡_ {A = ℕ} 0 1 = cc in absurd (omega arith)
+  supplied-due at bs code place ih (due t p) (c ∷ sections) e =
+      let d = resumed-due at bs code place ih sections (G .given t p c) e in
+      record { taken = c ∷ d .taken; left = d .left; are = ap (λ l. c ∷ l) (d .are); same = d .same }
 
-  settled-ext : (at : ℕ) (bl : List Section) (o : Outcome (G .P)) → Ext (settled G at bl o) (settled G at (bl ++ more) o)
+  settled-due : (at : ℕ) (bs : List ℕ) (code place : ℕ) → Finds at bs code place → (o : Outcome (G .P)) (sections : List Section)
+      → run G at (settled G at sections o) bs ≡ stuck (fault code place) → Due at (λ l. settled G at l o) bs code place sections
   unfolding settled
-  settled-ext at bl (lives s) = supplied-ext at bl s
-  settled-ext at bl (dies code) = e-fault
+  settled-due at bs code place ih (lives s) sections e = supplied-due at bs code place ih s sections e
+  settled-due at bs code place ih (dies c) sections e = none-taken at bs code place c at sections e
 
-  abbrev pub SameOn : (o at : ℕ) (bs : List ℕ) (r q : Run (G .P)) → Type 0
-  SameOn o at bs r q = (bl : List Section) (s : State (G .P)) → run G at r bs ≡ reads bl s
-      → (run G at q bs ≡ reads (bl ++ more) s) × (lists G o at q bs ≡ lists G o at r bs)
-
-  ext-nil : (o at : ℕ) {r q : Run (G .P)} → Ext r q → SameOn o at [] r q
-  unfolding run lists
-  ext-nil o at (e-reads {bl = c} {s = u}) bl s e = let x : c ≡ bl = cc in let y : u ≡ s = cc in (rw (x, y), refl)
-  ext-nil o at e-fault bl s e = let z : _≡_ {A = ℕ} 0 1 = cc in absurd (omega arith)
-  ext-nil o at e-waits bl s e = let z : _≡_ {A = ℕ} 0 1 = cc in absurd (omega arith)
-
-  -- where the frame began is the same for both
-  ext-begins : (o place : ℕ) {r q : Run (G .P)} → Ext r q → ReadsOn r → begins G o place q ≡ begins G o place r
-  unfolding begins
-  ext-begins o place (e-reads {s = in-type fresh p}) h = refl
-  ext-begins o place (e-reads {s = in-type (need k v) p}) h = refl
-  ext-begins o place (e-reads {s = in-length t g p}) h = refl
-  ext-begins o place (e-reads {s = in-payload u k left p}) h = refl
-  ext-begins o place (e-reads {s = due t p}) h = refl
-  ext-begins o place e-fault h = absurd h
-  ext-begins o place e-waits h = absurd h
-
-  still-reads : (at : ℕ) (bs : List ℕ) (r : Run (G .P)) {bl : List Section} {s : State (G .P)} → run G at r bs ≡ reads bl s → ReadsOn r
-  still-reads at bs (reads c u) e = tt
-  still-reads at bs (stuck v) e = let k = stuck-run G at v bs in let z : _≡_ {A = ℕ} 0 1 = cc in absurd (omega arith)
-
-  ext-cons : (o at b : ℕ) (bs : List ℕ) → ((o : ℕ) (r q : Run (G .P)) → Ext r q → SameOn o (suc at) bs r q) → {r q : Run (G .P)} → Ext r q → SameOn o at (b ∷ bs) r q
-  unfolding run lists next tells
-  ext-cons o at b bs ih (e-reads {bl = c} {s = u}) bl s e =
-      let x = settled-ext (suc at) c (step G u b) in
-      let q = settled G (suc at) c (step G u b) in
-      let g = ext-begins o (suc at) x (still-reads (suc at) bs q e) in
-      let i = ih (begins G o (suc at) q) _ _ x bl s e in
-      (i .0, rw g (ap (λ l. says G o (suc at) u b ++ l) (i .1)))
-  ext-cons o at b bs ih (e-fault {code} {place}) bl s e = let k = stuck-run G (suc at) (fault code place) bs in let z : _≡_ {A = ℕ} 0 1 = cc in absurd (omega arith)
-  ext-cons o at b bs ih (e-waits {place}) bl s e = let k = stuck-run G (suc at) (waits place) bs in let z : _≡_ {A = ℕ} 0 1 = cc in absurd (omega arith)
-
-  pub ext-run : (o at : ℕ) (bs : List ℕ) (r q : Run (G .P)) → Ext r q → SameOn o at bs r q
-  ext-run o at [] r q x = ext-nil o at x
-  ext-run o at (b ∷ bs) r q x = ext-cons o at b bs (λ o. ext-run o (suc at) bs) x
-
-  ext-fault-cons : (at b : ℕ) (bs : List ℕ) (code place : ℕ)
-      → ((r q : Run (G .P)) → Ext r q → run G (suc at) r bs ≡ stuck (fault code place) → run G (suc at) q bs ≡ stuck (fault code place))
-      → {r q : Run (G .P)} → Ext r q → run G at r (b ∷ bs) ≡ stuck (fault code place) → run G at q (b ∷ bs) ≡ stuck (fault code place)
+  finds : (bs : List ℕ) (at code place : ℕ) → Finds at bs code place
   unfolding run next
-  ext-fault-cons at b bs code place ih (e-reads {bl = c} {s = u}) e = ih _ _ (settled-ext (suc at) c (step G u b)) e
-  ext-fault-cons at b bs code place ih e-fault e = e
-  ext-fault-cons at b bs code place ih (e-waits {place = p}) e = let k = stuck-run G (suc at) (waits p) bs in let z : _≡_ {A = ℕ} 0 1 = cc in absurd (omega arith)
+  finds [] at code place s sections e = let z : _≡_ {A = ℕ} 0 1 = cc in absurd (omega arith)
+  finds (b ∷ bs) at code place s sections e =
+      let d = settled-due (suc at) bs code place (finds bs (suc at) code place) (step G s b) sections e in
+      record { taken = d .taken; left = d .left; are = d .are; same = d .same }
 
-  ext-fault-nil : (at code place : ℕ) {r q : Run (G .P)} → Ext r q → run G at r [] ≡ stuck (fault code place) → run G at q [] ≡ stuck (fault code place)
-  unfolding run
-  ext-fault-nil at code place e-reads e = let z : _≡_ {A = ℕ} 0 1 = cc in absurd (omega arith)
-  ext-fault-nil at code place e-fault e = e
-  ext-fault-nil at code place e-waits e = let z : _≡_ {A = ℕ} 0 1 = cc in absurd (omega arith)
-
-  ext-fault : (at : ℕ) (bs : List ℕ) (code place : ℕ) (r q : Run (G .P)) → Ext r q → run G at r bs ≡ stuck (fault code place) → run G at q bs ≡ stuck (fault code place)
-  ext-fault at [] code place r q x = ext-fault-nil at code place x
-  ext-fault at (b ∷ bs) code place r q x = ext-fault-cons at b bs code place (ext-fault (suc at) bs code place) x
-
-  -- a fault inside is the same, whatever blocks would have followed those due by then
-  pub fault-stays : (bl : List Section) (bytes : List ℕ) (code p : ℕ) → Inside G bl bytes (fault code p) → Inside G (bl ++ more) bytes (fault code p)
+  -- THE SECTIONS DUE BY A FAULT decide it: those behind them may be any others
+  pub due-by : (sections : List Section) (bytes : List ℕ) (code p : ℕ) → Inside G sections bytes (fault code p)
+      → (taken : List Section) × (left : List Section) × (sections ≡ taken ++ left) × ((others : List Section) → Inside G (taken ++ others) bytes (fault code p))
   unfolding Inside
-  fault-stays bl bytes code p e = ext-fault 0 bytes code p (fresh-run G bl) (fresh-run G (bl ++ more)) e-reads e
+  due-by sections bytes code p e = let d = finds bytes 0 code p (in-type fresh (G .start)) sections e in (d .taken, d .left, d .are, d .same)

@@ -1,5 +1,6 @@
 pub mod IntegerLaws
 pub mod FrameLaws
+pub mod WriterLaws
 pub mod Machine
 pub mod Bridge
 pub mod Cut

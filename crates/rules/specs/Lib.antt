@@ -13,3 +13,4 @@ pub mod Numbers
 pub mod Writer
 pub mod Legal
 pub mod Worked
+pub mod Edges

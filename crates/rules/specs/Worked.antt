@@ -2,6 +2,7 @@
 use mathlib.Core.Path.{_≡_, refl}
 use Prim.Native.Nat.{ℕ}
 use mathlib.Core.List.{List, [], _∷_, _++_, map}
+use mathlib.Core.Bool.{Bool, true, false}
 use mathlib.Core.Option.{Option, none, some}
 use Prim.Native.String.{String}
 use Rattle.rules.specs.Text.{ascii, nibble, hexFrom, hex, between, isOneOf, any, all, same}
@@ -10,35 +11,54 @@ use Rattle.rules.specs.Block.{Section, Lines, little, fields, record-of,
 use Rattle.rules.specs.Classes.{isDigit, isCapital, isSmall, isMark, isToken, isName, isValue, isBlank}
 use Rattle.rules.specs.Section as S
 use Rattle.rules.specs.Frames.{framesUpTo, framesFrom}
-use Rattle.rules.specs.Reading.{Verdict, whole, fault, waits, Reading, put, told, ended, left-by, completed, judge, readFrom, read, contents}
-use Rattle.rules.specs.Message.{content-limit, heads, sum-to, carries, trails, tally, ends}
+use Rattle.rules.specs.Reading.{Ruling, Verdict, Saying, header, refused as header-refused, section-byte, content-byte, frame-kept, Reading, put, told, ended, left-by, completed, judge, readFrom, read, contents, sectionBytes, headerBytes, Accepted, accepted}
+use Rattle.rules.specs.Reading.{whole, fault}
+use Rattle.rules.specs.Message.{Message, content-limit, heads, sum-to, carries, trails, tally, ends}
 use Rattle.rules.specs.Request as R
 use Rattle.rules.specs.Request.{document, all-sound, request}
 use Rattle.rules.specs.Control as C
 use Rattle.rules.specs.OneWay.{OneWay, untyped, refused, of-control, of-qpack, passed-over, once, typeRule, typed, behind-type, oneWay, closed}
 use Rattle.rules.specs.Numbers.{Row, numbers, rowIn, rowOf}
-use Rattle.rules.specs.Writer.{Write, wrote, refused as no-write, into, both, write-integer}
+use Rattle.rules.specs.Writer.{Write, wrote, refused as no-write, into, both, write-integer, header-bytes, write-header, integer-frame, write-integer-frame, opening, write-opening, isHigher, badGoaway, write-goaway}
 
 pub data Question : Type 0 where
-  reads : (bytes : List ℕ) → Question                                                          -- an integer
+  reads : (bytes : List ℕ) → Question  -- an integer
   writes : (room value : ℕ) → Question
-  request-stream : (stated : Option ℕ) (sections : ℕ) (bytes : List ℕ) → Question              -- its sections are sound
+  writes-header : (room type len : ℕ) → Question
+  writes-integer-frame : (room type value : ℕ) → Question
+  writes-goaway : (sent : Option ℕ) (room id : ℕ) → Question  -- sent is our last one
+  writes-opening : (room : ℕ) → Question
+  block : (bytes : List ℕ) → Question
+  request-stream : (stated : Option ℕ) (sections : ℕ) (bytes : List ℕ) → Question  -- its sections are sound
+  request-with : (sections : List Section) (bytes : List ℕ) → Question  -- its sections are judged
+  request-headers : (bytes : List ℕ) → Question  -- the frame headers accepted, as the lister shows them
+  request-sections : (bytes : List ℕ) → Question  -- its section bytes
+  request-header-bytes : (bytes : List ℕ) → Question  -- those of its header section
+  request-rule : Message → (type len : ℕ) → Question  -- one frame header, where a message stands
   one-way-stream : (seen : List ℕ) (bytes : List ℕ) → Question
-  closes : (seen : List ℕ) (bytes : List ℕ) → Question                                         -- such a stream is ended or reset
+  one-way-tells : (bytes : List ℕ) → Question  -- what its kept frames tell the host
+  closes : (seen : List ℕ) (bytes : List ℕ) → Question  -- such a stream is ended or reset
+  bytes-with : (ℕ → Bool) → Question  -- those of 0 to 255 that pass a test
   header-section : Section → Question
   trailers : Section → Question
-  block : (bytes : List ℕ) → Question
+  header-reason : Section → Question
+  trailer-reason : Section → Question
   number : ℕ → Question
 
 pub data Answer : Type 0 where
   read-as : Int → Answer
   written-as : Write → Answer
+  lines-are : Lines → Answer
   request-is : (content : List ℕ) → Verdict → Answer
+  headers-are : List Accepted → Answer
+  ruling-is : Ruling Message → Answer
   one-way-is : OneWay → Answer
+  tells : List C.Told → Answer
   closed-with : Option ℕ → Answer
+  bytes-are : List ℕ → Answer
   header-is : R.Header → Answer
   trailer-is : R.Trailer → Answer
-  lines-are : Lines → Answer
+  reason-is : Option S.Reason → Answer
   row-is : Option Row → Answer
 
 -- so many sections, of which nothing is asked
@@ -57,17 +77,51 @@ verdict-alone (of-control r) = of-control (record { said = []; verdict = r .verd
 verdict-alone (of-qpack k bytes) = of-qpack k bytes
 verdict-alone passed-over = passed-over
 
+-- what the kept frames of a control stream tell, in order
+unfoldable pub tellings : List Saying → List C.Told
+tellings [] = []
+tellings (header h u ∷ xs) = tellings xs
+tellings (header-refused h ∷ xs) = tellings xs
+tellings (section-byte b ∷ xs) = tellings xs
+tellings (content-byte b ∷ xs) = tellings xs
+tellings (frame-kept k payload ∷ xs) = C.tells k payload ∷ tellings xs
+
+unfoldable pub told-by : OneWay → List C.Told
+told-by untyped = []
+told-by (refused code place) = []
+told-by (of-control r) = tellings (r .said)
+told-by (of-qpack k bytes) = []
+told-by passed-over = []
+
+-- the numbers from `first` on, so many, that pass a test
+unfoldable pub those : (ℕ → Bool) → (count first : ℕ) → List ℕ
+those test ℕ.zero b = []
+those test (ℕ.suc n) b = elim (test b) [ true ↦ b ∷ those test n (ℕ.suc b) | false ↦ those test n (ℕ.suc b) ]
+
 -- THE RULES' ANSWER
 unfoldable pub answer : Question → Answer
-unfolding ascii nibble hexFrom hex between isOneOf any all same more extra integer rows low inRow inFirst written largest little fields record-of before linesFrom lines isDigit isCapital isSmall isMark isToken isName isValue isBlank S.isEmpty S.begins S.ends S.named S.lineWith S.has S.repeated S.valueOf S.holds S.decimalFrom S.decimal S.pseudo-fields S.connection-fields S.isPseudo S.lineSize S.size S.size-limit S.size-check S.badName S.badValue S.bytes-check S.unknown-check S.repeated-check S.pseudoBehindPlain S.late-check S.in-trailers-check S.connection-check S.te-check S.method-check S.no-method-check S.repeated-length-check S.length-in-trailers-check S.digits-check S.length-above-check S.repeated-host-check S.connect-check S.present-check S.scheme-check S.goodPath S.path-check S.authority-check S.empty-check S.differ-check S.at-check S.length-limit S.length-check S.header-checks S.trailer-checks S.codeOf S.firstBroken S.unless S.methodOf S.statedIn S.header-section S.trailers framesUpTo framesFrom put told ended left-by completed judge readFrom read contents content-limit heads sum-to carries trails tally ends R.header-by R.trailer-by R.document R.all-sound R.forbidden-types R.kindOf R.codeOf R.headers-limit R.within-limit R.data-rule R.headers-rule R.ruleFor R.rule R.next-of R.headed-by R.trailed-by R.given R.end-of C.no-settings C.set-to C.reserved-identifiers C.pairs C.settings-of C.settings-limit C.forbidden-types C.one-integer C.set-rule C.first-rule C.rule C.only C.above C.below C.goaway-told C.max-push-told C.integer-told C.settings-told C.judged C.settings-in C.id-in C.tells once typeRule typed behind-type oneWay closed numbers rowIn rowOf into write-integer sectionsFor request-answer verdict-alone
+unfolding ascii nibble hexFrom hex between isOneOf any all same more extra integer rows low inRow inFirst written largest little fields record-of before linesFrom lines isDigit isCapital isSmall isMark isToken isName isValue isBlank S.isEmpty S.begins S.ends S.named S.lineWith S.has S.repeated S.valueOf S.holds S.decimalFrom S.decimal S.pseudo-fields S.connection-fields S.isPseudo S.lineSize S.size S.size-limit S.size-check S.badName S.badValue S.bytes-check S.unknown-check S.repeated-check S.pseudoBehindPlain S.late-check S.in-trailers-check S.connection-check S.te-check S.method-check S.no-method-check S.repeated-length-check S.length-in-trailers-check S.digits-check S.length-above-check S.repeated-host-check S.connect-check S.present-check S.scheme-check S.goodPath S.path-check S.authority-check S.empty-check S.differ-check S.at-check S.length-limit S.length-check S.header-checks S.trailer-checks S.codeOf S.firstBroken S.unless S.methodOf S.statedIn S.header-section S.trailers framesUpTo framesFrom put told ended left-by completed judge readFrom read contents content-limit heads sum-to carries trails tally ends R.header-by R.trailer-by R.document R.all-sound R.forbidden-types R.kindOf R.codeOf R.headers-limit R.within-limit R.data-rule R.headers-rule R.ruleFor R.rule R.next-of R.headed-by R.trailed-by R.given R.end-of C.no-settings C.set-to C.reserved-identifiers C.pairs C.settings-of C.settings-limit C.forbidden-types C.one-integer C.set-rule C.first-rule C.rule C.only C.above C.below C.goaway-told C.max-push-told C.integer-told C.settings-told C.judged C.settings-in C.id-in C.tells once typeRule typed behind-type oneWay closed numbers rowIn rowOf into both write-integer header-bytes write-header integer-frame write-integer-frame opening write-opening isHigher badGoaway write-goaway sectionBytes headerBytes accepted sectionsFor request-answer verdict-alone tellings told-by those
 answer (reads bytes) = read-as (integer 0 bytes)
 answer (writes room value) = written-as (write-integer room value)
+answer (writes-header room type len) = written-as (write-header room type len)
+answer (writes-integer-frame room type value) = written-as (write-integer-frame room type value)
+answer (writes-goaway sent room id) = written-as (write-goaway sent room id)
+answer (writes-opening room) = written-as (write-opening room)
+answer (block bytes) = lines-are (lines bytes)
 answer (request-stream stated n bytes) = request-answer (read (request (all-sound stated)) (sectionsFor n) bytes)
+answer (request-with sections bytes) = request-answer (read (request document) sections bytes)
+answer (request-headers bytes) = headers-are (accepted (read (request (all-sound none)) (sectionsFor 2) bytes .said))
+answer (request-sections bytes) = bytes-are (sectionBytes (read (request (all-sound none)) (sectionsFor 2) bytes .said))
+answer (request-header-bytes bytes) = bytes-are (headerBytes (read (request (all-sound none)) (sectionsFor 2) bytes .said))
+answer (request-rule m type len) = ruling-is (R.rule m type len)
 answer (one-way-stream seen bytes) = one-way-is (verdict-alone (oneWay seen bytes))
+answer (one-way-tells bytes) = tells (told-by (oneWay [] bytes))
 answer (closes seen bytes) = closed-with (closed (oneWay seen bytes))
+answer (bytes-with test) = bytes-are (those test 256 0)
 answer (header-section s) = header-is (document .header s)
 answer (trailers s) = trailer-is (document .trailer s)
-answer (block bytes) = lines-are (lines bytes)
+answer (header-reason s) = reason-is (S.firstBroken S.header-checks s)
+answer (trailer-reason s) = reason-is (S.firstBroken S.trailer-checks s)
 answer (number n) = row-is (rowOf n)
 
 pub record Worked : Type 0 where
