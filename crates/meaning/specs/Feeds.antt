@@ -342,28 +342,28 @@ takes block (due t p) = block ∷ []
 -- what the calls came to: the bytes consumed, the blocks taken, what the events showed, the headers finished, and what is left
 pub record Done (P : Type 0) : Type 0 where
   pub bytes : List ℕ
-  pub blocks : List Section
+  pub sections : List Section
   pub shown : List Saying
   pub heads : ℕ
   pub after : Outcome P
 
 module _ (G : Grammar) where
   unfoldable pub calls : Outcome (G .P) → List Call → Done (G .P)
-  calls o [] = record { bytes = []; blocks = []; shown = []; heads = 0; after = o }
+  calls o [] = record { bytes = []; sections = []; shown = []; heads = 0; after = o }
   calls (dies code) (c ∷ cs) = calls (dies code) cs
   calls (lives s) (feed-call allow piece ∷ cs) =
       let f = feed G allow s piece in
       let d = calls (f .after) cs in
-      record { bytes = take (f .used) piece ++ d .bytes; blocks = d .blocks; shown = shows (f .event) (f .used) piece ++ d .shown; heads = f .heads + d .heads; after = d .after }
+      record { bytes = take (f .used) piece ++ d .bytes; sections = d .sections; shown = shows (f .event) (f .used) piece ++ d .shown; heads = f .heads + d .heads; after = d .after }
   calls (lives s) (give-call block ∷ cs) =
       let d = calls (given G block s) cs in
-      record { bytes = d .bytes; blocks = takes block s ++ d .blocks; shown = d .shown; heads = d .heads; after = d .after }
+      record { bytes = d .bytes; sections = takes block s ++ d .sections; shown = d .shown; heads = d .heads; after = d .after }
 
   -- the definition's reading of the bytes and blocks, whatever blocks would follow
   pub record Came (place : ℕ) (o : Outcome (G .P)) (d : Done (G .P)) : Type 0 where
-    pub state : (bl : List Section) → settled G (place + length (d .bytes)) bl (d .after) ≡ run G place (settled G place (d .blocks ++ bl) o) (d .bytes)
-    pub shown : (begun : ℕ) (bl : List Section) → d .shown ≡ unheaded (lists G begun place (settled G place (d .blocks ++ bl) o) (d .bytes))
-    pub heads : (begun : ℕ) (bl : List Section) → d .heads ≡ headersIn (lists G begun place (settled G place (d .blocks ++ bl) o) (d .bytes))
+    pub state : (bl : List Section) → settled G (place + length (d .bytes)) bl (d .after) ≡ run G place (settled G place (d .sections ++ bl) o) (d .bytes)
+    pub shown : (begun : ℕ) (bl : List Section) → d .shown ≡ unheaded (lists G begun place (settled G place (d .sections ++ bl) o) (d .bytes))
+    pub heads : (begun : ℕ) (bl : List Section) → d .heads ≡ headersIn (lists G begun place (settled G place (d .sections ++ bl) o) (d .bytes))
 
   answered-settled : (place : ℕ) (bl : List Section) (n : Next (G .P)) → resumed G place bl n ≡ settled G place bl (answered n)
   unfolding resumed settled supplied answered
@@ -393,32 +393,32 @@ module _ (G : Grammar) where
       let m = length-append x (d .bytes) in
       let q : place + length (x ++ d .bytes) ≡ place + f .used + length (d .bytes) = omega arith in
       record {
-        state = λ bl. rw q (c .state bl ∙ ap (λ z. run G (place + f .used) z (d .bytes)) (r .state (d .blocks ++ bl))
-          ∙ sym (run-append G place (place + f .used) (settled G place (d .blocks ++ bl) (lives s)) x (d .bytes) n));
-        shown = λ begun bl. (let r0 = settled G place (d .blocks ++ bl) (lives s) in
+        state = λ bl. rw q (c .state bl ∙ ap (λ z. run G (place + f .used) z (d .bytes)) (r .state (d .sections ++ bl))
+          ∙ sym (run-append G place (place + f .used) (settled G place (d .sections ++ bl) (lives s)) x (d .bytes) n));
+        shown = λ begun bl. (let r0 = settled G place (d .sections ++ bl) (lives s) in
           let begun′ = began G begun place r0 x in
-          cc (r .shown begun (d .blocks ++ bl), c .shown begun′ bl, r .state (d .blocks ++ bl), lists-append G begun place (place + f .used) r0 x (d .bytes) n,
+          cc (r .shown begun (d .sections ++ bl), c .shown begun′ bl, r .state (d .sections ++ bl), lists-append G begun place (place + f .used) r0 x (d .bytes) n,
             unheaded-append (lists G begun place r0 x) (lists G begun′ (place + f .used) (run G place r0 x) (d .bytes))));
-        heads = λ begun bl. (let r0 = settled G place (d .blocks ++ bl) (lives s) in
+        heads = λ begun bl. (let r0 = settled G place (d .sections ++ bl) (lives s) in
           let begun′ = began G begun place r0 x in
-          cc (r .heads begun (d .blocks ++ bl), c .heads begun′ bl, r .state (d .blocks ++ bl), lists-append G begun place (place + f .used) r0 x (d .bytes) n,
+          cc (r .heads begun (d .sections ++ bl), c .heads begun′ bl, r .state (d .sections ++ bl), lists-append G begun place (place + f .used) r0 x (d .bytes) n,
             headersIn-append (lists G begun place r0 x) (lists G begun′ (place + f .used) (run G place r0 x) (d .bytes)))) }
   calls-come place (lives s) (give-call block ∷ cs) =
       let c = calls-come place (given G block s) cs in
       let d = calls (given G block s) cs in
       record {
-        state = λ bl. (let e = append-assoc (takes block s) (d .blocks) bl in let g = given-settled place s block (d .blocks ++ bl) in rw (e, g) (c .state bl));
-        shown = λ begun bl. (let e = append-assoc (takes block s) (d .blocks) bl in let g = given-settled place s block (d .blocks ++ bl) in rw (e, g) (c .shown begun bl));
-        heads = λ begun bl. (let e = append-assoc (takes block s) (d .blocks) bl in let g = given-settled place s block (d .blocks ++ bl) in rw (e, g) (c .heads begun bl)) }
+        state = λ bl. (let e = append-assoc (takes block s) (d .sections) bl in let g = given-settled place s block (d .sections ++ bl) in rw (e, g) (c .state bl));
+        shown = λ begun bl. (let e = append-assoc (takes block s) (d .sections) bl in let g = given-settled place s block (d .sections ++ bl) in rw (e, g) (c .shown begun bl));
+        heads = λ begun bl. (let e = append-assoc (takes block s) (d .sections) bl in let g = given-settled place s block (d .sections ++ bl) in rw (e, g) (c .heads begun bl)) }
 
   -- the verdict at the end of the calls: a section still due is a wait
   unfoldable pub verdict-of : Done (G .P) → Verdict
   verdict-of d = finished G (length (d .bytes)) (settled G (length (d .bytes)) [] (d .after))
 
   pub record CallsRead (d : Done (G .P)) : Type 0 where
-    pub verdict : verdict-of d ≡ read G (d .blocks) (d .bytes) .verdict
-    pub shown : d .shown ≡ unheaded (read G (d .blocks) (d .bytes) .said)
-    pub heads : d .heads ≡ headersIn (read G (d .blocks) (d .bytes) .said)
+    pub verdict : verdict-of d ≡ read G (d .sections) (d .bytes) .verdict
+    pub shown : d .shown ≡ unheaded (read G (d .sections) (d .bytes) .said)
+    pub heads : d .heads ≡ headersIn (read G (d .sections) (d .bytes) .said)
 
   -- DEMAND 2, whole: any sequence of feeds, allowances and sections gives the reading of the bytes consumed and the blocks taken
   pub calls-read : (cs : List Call) → CallsRead (calls (lives (between (G .start))) cs)
@@ -426,9 +426,9 @@ module _ (G : Grammar) where
   calls-read cs =
       let d = calls (lives (between (G .start))) cs in
       let c = calls-come 0 (lives (between (G .start))) cs in
-      let w = read-is G (d .blocks) (d .bytes) in
+      let w = read-is G (d .sections) (d .bytes) in
       let z = zero-add (length (d .bytes)) in
-      let a = append-nil (d .blocks) in
+      let a = append-nil (d .sections) in
       record {
         verdict = ap (finished G (length (d .bytes))) (rw (z, a) at (c .state [])) ∙ sym (ap (λ r. r .verdict) w);
         shown = (rw a at (c .shown 0 [])) ∙ sym (ap (λ r. unheaded (r .said)) w);

@@ -15,3 +15,4 @@ pub mod MessageLaws
 pub mod RequestLaws
 pub mod Whole
 pub mod Longer
+pub mod Instances
