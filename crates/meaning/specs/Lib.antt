@@ -7,6 +7,7 @@ pub mod Cut
 pub mod Shift
 pub mod Feed
 pub mod Feeds
+pub mod EveryFeed
 pub mod First
 pub mod ControlLaws
 pub mod OneWayFeed

@@ -17,7 +17,8 @@ use Rattle.meaning.specs.Machine.{Prog, fresh, need, Fed, going, value, 
 use Rattle.meaning.specs.ControlLaws.{ControlView, v-refused, v-skipped, v-kept, control-view}
 use Rattle.meaning.specs.Cut.{run-append, lists-append, read-from-is}
 use Rattle.meaning.specs.Feed as F
-use Rattle.meaning.specs.Feeds.{Within, shows-also, within-also, unheaded, unheaded-append, headersIn, headersIn-append, Runs, feed-runs, Stops, feed-stops, ReadsOn, feed-moves, feed-allows}
+use Rattle.meaning.specs.Feeds.{Within, shows-also, within-also, unheaded, unheaded-append, headersIn, headersIn-append, Runs, feed-runs}
+use Rattle.meaning.specs.EveryFeed.{Stops, feed-stops, ReadsOn, feed-moves, feed-allows}
 use Rattle.meaning.specs.OneWayFeed.{OneState, in-stream-type, in-control, in-qpack, in-skipped, OneOutcome, lives, dies, OneEvent, of-frames, qpack-bytes, OneFeeding, controlled, of-control, halt, also, qpack-feed, kind-feed, typed-feed, type-feed, feed, shows, Call, feed-call, Done, nothing-done, done-then, called, calls}
 
 -- ---- the type, a byte at a time
@@ -254,7 +255,7 @@ module _ (seen : List ℕ) where
 -- no section is ever due on a control stream, so a byte moves it
 abbrev pub ReadsOnOne : OneState → Type 0
 ReadsOnOne (in-stream-type g) = Unit {0}
-ReadsOnOne (in-control s) = ReadsOn control s
+ReadsOnOne (in-control s) = ReadsOn s
 ReadsOnOne (in-qpack q) = Unit {0}
 ReadsOnOne in-skipped = Unit {0}
 
@@ -428,7 +429,7 @@ run-none at r [] h = h
 run-none at (reads bl s) (b ∷ bs) h = run-none (suc at) (settled control (suc at) bl (step control s b)) bs (step-none bl (suc at) b s h)
 run-none at (stuck v) (b ∷ bs) h = run-none (suc at) (stuck v) bs h
 
-settled-none : (at : ℕ) (s : State Control) → NoSectionRun (settled control at [] (Outcome.lives s)) → ReadsOn control s
+settled-none : (at : ℕ) (s : State Control) → NoSectionRun (settled control at [] (Outcome.lives s)) → ReadsOn s
 unfolding settled supplied
 settled-none at (in-type g c) h = tt
 settled-none at (in-length t g c) h = tt
