@@ -12,5 +12,6 @@ pub mod OneWay
 pub mod Numbers
 pub mod Writer
 pub mod Legal
+pub mod LegalEdges
 pub mod Worked
 pub mod Edges
