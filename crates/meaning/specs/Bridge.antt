@@ -117,7 +117,7 @@ module _ (G : Grammar) where
 
     full-reads : (o : ℕ) (u : Use) (k : List ℕ) (q : G .P) (bl : List Section) (l at to : ℕ) (bs : List ℕ) → at + l ≡ to → l ≤ length bs
         → put (left-says G u k l q) (resume o at (settled G at bl (with-left G u k l q)) bs)
-          ≡ put (told u (take l bs)) (carried-on to (drop l bs) (completed G u q (k ++ take l bs) bl))
+        ≡ put (told u (take l bs)) (carried-on to (drop l bs) (completed G u q (k ++ take l bs) bl))
     unfolding reading next step settled supplied tells says begins with-left left-says
     full-reads o u k q bl zero at to bs e h =
         let t = told-nil u in let n : at ≡ to = omega arith in let a = append-nil k in rw (t, n, a) (over-reads o u k q bl to bs ∙ sym (put-nil _))
@@ -153,7 +153,7 @@ module _ (G : Grammar) where
     frame-reads : {f : ℕ} → Agree f → (o : ℕ) (p : G .P) (bl : List Section) (t len from : ℕ) (pay : List ℕ) → length pay ≤ f → from + length pay ≡ total → len ≤ length pay
         → (r : Ruling (G .P)) → G .rule p t len ≡ r
         → after-length o t p bl (got len from pay)
-          ≡ judge G total p bl (frame (record { at = o; from = from; type = t; len = len }) (take len pay) (framesUpTo f (from + len) (drop len pay)))
+        ≡ judge G total p bl (frame (record { at = o; from = from; type = t; len = len }) (take len pay) (framesUpTo f (from + len) (drop len pay)))
     unfolding after-length judge rule-says ruled settled begins
     frame-reads ih o p bl t len from pay hf e h (refuse code) q = rw (q, judge) (ap (put (refused (record { at = o; from = from; type = t; len = len }) ∷ [])) (stuck-reads o from (fault code from) pay))
     frame-reads ih o p bl t len from pay hf e h (accept u r) q =
@@ -161,13 +161,14 @@ module _ (G : Grammar) where
         let hd = header (record { at = o; from = from; type = t; len = len }) u ∷ [] in
         let rest = onward-reads ih (completed G u r (take len pay) bl) (from + len) (drop len pay) (omega arith) (omega arith) in
         rw (q, judge) (sym (put-put hd _ _)
-          ∙ ap (put hd) (full-reads o u [] r bl len from (from + len) pay refl h ∙ ap (put (told u (take len pay))) rest) ∙ put-put hd _ _)
+        ∙ ap (put hd) (full-reads o u [] r bl len from (from + len) pay refl h ∙ ap (put (told u (take len pay))) rest) ∙ put-put hd _ _)
 
     payload-reads : {f : ℕ} → Agree f → (o : ℕ) (p : G .P) (bl : List Section) (t len from : ℕ) (pay : List ℕ) → length pay ≤ f → from + length pay ≡ total
         → (x : Bool) → ltb (length pay) len ≡ x
         → after-length o t p bl (got len from pay) ≡ judge G total p bl (elim x [
-            true ↦ in-frame (record { at = o; from = from; type = t; len = len }) pay
-          | false ↦ frame (record { at = o; from = from; type = t; len = len }) (take len pay) (framesUpTo f (from + len) (drop len pay)) ])
+          | true ↦ in-frame (record { at = o; from = from; type = t; len = len }) pay
+          | false ↦ frame (record { at = o; from = from; type = t; len = len }) (take len pay) (framesUpTo f (from + len) (drop len pay))
+        ])
     payload-reads ih o p bl t len from pay hf e true x = cut-reads o p bl t len from pay e (ltb→lt (length pay) len (rw x tt)) (G .rule p t len) refl
     payload-reads ih o p bl t len from pay hf e false x = frame-reads ih o p bl t len from pay hf e (nltb→le (length pay) len (rw x tt)) (G .rule p t len) refl
 
@@ -185,10 +186,12 @@ module _ (G : Grammar) where
     second-reads : {f : ℕ} → Agree f → (o : ℕ) (p : G .P) (bl : List Section) (t here : ℕ) (rest : List ℕ) → length rest ≤ f → here + length rest ≡ total
         → (x : Int) → integer here rest ≡ x
         → after-length o t p bl x ≡ judge G total p bl (elim x [
-            cut ↦ Frames.in-header
+          | cut ↦ Frames.in-header
           | got len from pay ↦ elim (ltb (length pay) len) [
-              true ↦ in-frame (record { at = o; from = from; type = t; len = len }) pay
-            | false ↦ frame (record { at = o; from = from; type = t; len = len }) (take len pay) (framesUpTo f (from + len) (drop len pay)) ] ])
+            | true ↦ in-frame (record { at = o; from = from; type = t; len = len }) pay
+            | false ↦ frame (record { at = o; from = from; type = t; len = len }) (take len pay) (framesUpTo f (from + len) (drop len pay))
+          ]
+        ])
     unfolding after-length judge
     second-reads ih o p bl t here rest hf e cut x = refl
     second-reads ih o p bl t here rest hf e (got len from pay) x =

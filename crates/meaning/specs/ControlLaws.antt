@@ -7,10 +7,10 @@ use mathlib.Core.Bool.{Bool, true, false, _||_}
 use mathlib.Core.Option.{Option, some}
 use lib.Dec.{ltb, eqb, nltb→le, T}
 use lib.ListN.{length}
-use Rattle.rules.specs.Text.{isOneOf}
+use Rattle.rules.specs.Text.{isOneOf, lookup}
 use Rattle.rules.specs.Integers.{Int, cut, got, integer}
 use Rattle.rules.specs.Reading.{Kept, settings, goaway, max-push-id, cancel-push, skipped, kept, Ruling, refuse, accept, Next, stop, go}
-use Rattle.rules.specs.Control.{Settings, set-to, reserved-identifiers, pairs, Control, unset, set, settings-limit, forbidden-types, one-integer, set-rule, first-rule, rule, above, below, goaway-told, max-push-told}
+use Rattle.rules.specs.Control.{Settings, set-to, reserved-identifiers, pairs, Control, unset, set, settings-limit, Kind, forbidden, one-integer, unknown, column, ruleFor, first-rule, rule, above, below, goaway-told, max-push-told}
 use Rattle.meaning.specs.IntegerLaws.{integer-length}
 
 -- ---- the rule answers one of these: nothing of a control stream is content or a section
@@ -25,19 +25,16 @@ either : (x : Bool) {a b : Ruling Control} → ControlView a → ControlView b �
 either true a b = a
 either false a b = b
 
-integer-view : (len : ℕ) (k : Kept) (c : Control) → ControlView (one-integer len k c)
-unfolding one-integer
-integer-view len k c = either (eqb len 0 || ltb 8 len) v-refused v-kept
+kind-view : (k : Kind) (c : Control) (len : ℕ) → ControlView (ruleFor k c len)
+unfolding ruleFor
+kind-view forbidden c len = v-refused
+kind-view (one-integer k) c len = either (eqb len 0 || ltb 8 len) v-refused v-kept
+kind-view unknown c len = v-skipped
 
 pub control-view : (c : Control) (t len : ℕ) → ControlView (rule c t len)
-unfolding rule first-rule set-rule
+unfolding rule first-rule
 control-view unset t len = either (eqb t 4) (either (ltb settings-limit len) v-refused v-kept) v-refused
-control-view (set s g m) t len =
-    let c = set s g m in
-    either (isOneOf forbidden-types t) v-refused
-    (either (eqb t 3) (integer-view len cancel-push c)
-    (either (eqb t 7) (integer-view len goaway c)
-    (either (eqb t 13) (integer-view len max-push-id c) v-skipped)))
+control-view (set s g m) t len = kind-view (lookup column unknown t) (set s g m) len
 
 -- ---- more laws
 
@@ -76,7 +73,7 @@ enough-seen f g seen s i v bs ih h k false = ih (i ∷ seen) (set-to i v s) bs h
 
 enough-value : (f g : ℕ) (seen : List ℕ) (s : Settings) (i : ℕ) (rest : List ℕ) → Enough f g → length rest ≤ f → length rest ≤ g → (x : Int) → integer 0 rest ≡ x
     → _≡_ {A = Next Settings} (elim x [ cut ↦ stop 0x0106 | got v to shorter ↦ elim (isOneOf reserved-identifiers i || isOneOf seen i) [ true ↦ stop 0x0109 | false ↦ pairs f (i ∷ seen) (set-to i v s) shorter ] ])
-        (elim x [ cut ↦ stop 0x0106 | got v to shorter ↦ elim (isOneOf reserved-identifiers i || isOneOf seen i) [ true ↦ stop 0x0109 | false ↦ pairs g (i ∷ seen) (set-to i v s) shorter ] ])
+    (elim x [ cut ↦ stop 0x0106 | got v to shorter ↦ elim (isOneOf reserved-identifiers i || isOneOf seen i) [ true ↦ stop 0x0109 | false ↦ pairs g (i ∷ seen) (set-to i v s) shorter ] ])
 enough-value f g seen s i rest ih h k cut e = refl
 enough-value f g seen s i rest ih h k (got v to shorter) e =
     let l = integer-length 0 rest e in enough-seen f g seen s i v shorter ih (omega arith) (omega arith) (isOneOf reserved-identifiers i || isOneOf seen i)

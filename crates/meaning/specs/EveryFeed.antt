@@ -49,8 +49,9 @@ module _ (G : Grammar) (Q : (allow : ℕ) (piece : List ℕ) → Feeding (G .P) 
 
   length-holds : (n t : ℕ) (p : G .P) (b : ℕ) (bs : List ℕ) → ((n : ℕ) (s : State (G .P)) → Q n bs (feed G n s bs)) → (x : Fed)
       → Q (suc n) (b ∷ bs) (elim x [
-          going g ↦ also 0 (feed G (suc n) (in-length t g p) bs)
-        | value len ↦ also 1 (behind-header G len (G .rule p t len) (λ s. feed G n s bs)) ])
+        | going g ↦ also 0 (feed G (suc n) (in-length t g p) bs)
+        | value len ↦ also 1 (behind-header G len (G .rule p t len) (λ s. feed G n s bs))
+      ])
   length-holds n t p b bs ih (going g) = c .byte (suc n) b bs _ (ih (suc n) (in-length t g p))
   length-holds n t p b bs ih (value len) = c .header-byte n b bs _ (behind-holds n bs len (G .rule p t len) (λ s. feed G n s bs) (λ s. ih n s))
 
@@ -99,16 +100,17 @@ also-stops h all n (while-due e) = while-due e
 pub feed-stops : (G : Grammar) (allow : ℕ) (s : State (G .P)) (piece : List ℕ) → Stops allow piece (feed G allow s piece)
 unfolding halt taking named
 feed-stops G = every-feed G Stops (record {
-    nothing-left = λ allow s. at-end refl;
-    none-allowed = λ s piece. at-allowance refl;
-    waiting = λ allow piece t p. while-due refl;
-    fault = λ allow piece code. at-fault refl;
-    empty-section = λ allow piece t p. at-section refl;
-    told = λ allow piece k payload p. at-taken refl;
-    content-part = λ allow left b bs p. at-content refl;
-    section-part = λ allow left b bs t p. at-section refl;
-    byte = λ allow b bs f q. also-stops 0 allow (omega arith) q;
-    header-byte = λ allow b bs f q. also-stops 1 (suc allow) (omega arith) q })
+  nothing-left = λ allow s. at-end refl;
+  none-allowed = λ s piece. at-allowance refl;
+  waiting = λ allow piece t p. while-due refl;
+  fault = λ allow piece code. at-fault refl;
+  empty-section = λ allow piece t p. at-section refl;
+  told = λ allow piece k payload p. at-taken refl;
+  content-part = λ allow left b bs p. at-content refl;
+  section-part = λ allow left b bs t p. at-section refl;
+  byte = λ allow b bs f q. also-stops 0 allow (omega arith) q;
+  header-byte = λ allow b bs f q. also-stops 1 (suc allow) (omega arith) q;
+})
 
 -- ---- progress
 
@@ -119,8 +121,9 @@ ReadsOn (in-payload u k left p) = Unit {0}
 ReadsOn (due t p) = ⊥
 
 length-moves : (G : Grammar) (n t : ℕ) (p : G .P) (bs : List ℕ) (x : Fed) → 1 ≤ (elim x as (λ y. Feeding (G .P)) [
-    going g ↦ also 0 (feed G (suc n) (in-length t g p) bs)
-  | value len ↦ also 1 (behind-header G len (G .rule p t len) (λ s. feed G n s bs)) ]) .used
+  | going g ↦ also 0 (feed G (suc n) (in-length t g p) bs)
+  | value len ↦ also 1 (behind-header G len (G .rule p t len) (λ s. feed G n s bs))
+]) .used
 unfolding also
 length-moves G n t p bs (going g) = omega arith
 length-moves G n t p bs (value len) = omega arith
@@ -167,16 +170,17 @@ section-greedy G allow left b bs t p (suc l) e = piece-used (omega arith)
 pub feed-greedy : (G : Grammar) (allow : ℕ) (s : State (G .P)) (piece : List ℕ) → Greedy allow piece (feed G allow s piece)
 unfolding halt
 feed-greedy G = every-feed G Greedy (record {
-    nothing-left = λ allow s. no-part refl;
-    none-allowed = λ s piece. no-part refl;
-    waiting = λ allow piece t p. no-part refl;
-    fault = λ allow piece code. no-part refl;
-    empty-section = λ allow piece t p. section-over refl;
-    told = λ allow piece k payload p. no-bytes refl;
-    content-part = λ allow left b bs p. content-greedy G allow left b bs p (left - min left (length bs)) refl;
-    section-part = λ allow left b bs t p. section-greedy G allow left b bs t p (left - min left (length bs)) refl;
-    byte = λ allow b bs f q. also-greedy 0 allow q;
-    header-byte = λ allow b bs f q. also-greedy 1 (suc allow) q })
+  nothing-left = λ allow s. no-part refl;
+  none-allowed = λ s piece. no-part refl;
+  waiting = λ allow piece t p. no-part refl;
+  fault = λ allow piece code. no-part refl;
+  empty-section = λ allow piece t p. section-over refl;
+  told = λ allow piece k payload p. no-bytes refl;
+  content-part = λ allow left b bs p. content-greedy G allow left b bs p (left - min left (length bs)) refl;
+  section-part = λ allow left b bs t p. section-greedy G allow left b bs t p (left - min left (length bs)) refl;
+  byte = λ allow b bs f q. also-greedy 0 allow q;
+  header-byte = λ allow b bs f q. also-greedy 1 (suc allow) q;
+})
 
 -- ---- the allowance
 
@@ -184,16 +188,17 @@ feed-greedy G = every-feed G Greedy (record {
 pub feed-allows : (G : Grammar) (allow : ℕ) (s : State (G .P)) (piece : List ℕ) → feed G allow s piece .heads ≤ allow
 unfolding halt also taking
 feed-allows G = every-feed G (λ allow piece f. f .heads ≤ allow) (record {
-    nothing-left = λ allow s. zero-le;
-    none-allowed = λ s piece. zero-le;
-    waiting = λ allow piece t p. zero-le;
-    fault = λ allow piece code. zero-le;
-    empty-section = λ allow piece t p. zero-le;
-    told = λ allow piece k payload p. zero-le;
-    content-part = λ allow left b bs p. zero-le;
-    section-part = λ allow left b bs t p. zero-le;
-    byte = λ allow b bs f q. omega arith;
-    header-byte = λ allow b bs f q. omega arith })
+  nothing-left = λ allow s. zero-le;
+  none-allowed = λ s piece. zero-le;
+  waiting = λ allow piece t p. zero-le;
+  fault = λ allow piece code. zero-le;
+  empty-section = λ allow piece t p. zero-le;
+  told = λ allow piece k payload p. zero-le;
+  content-part = λ allow left b bs p. zero-le;
+  section-part = λ allow left b bs t p. zero-le;
+  byte = λ allow b bs f q. omega arith;
+  header-byte = λ allow b bs f q. omega arith;
+})
 
 -- ---- the mark
 
@@ -221,13 +226,14 @@ section-marked G allow piece t p j (suc l) = unmarked (ap (section-bytes (suc j)
 pub feed-marks : (G : Grammar) (allow : ℕ) (s : State (G .P)) (piece : List ℕ) → Marked allow piece (feed G allow s piece)
 unfolding halt taking named
 feed-marks G = every-feed G Marked (record {
-    nothing-left = λ allow s. not-at-all refl;
-    none-allowed = λ s piece. not-at-all refl;
-    waiting = λ allow piece t p. not-at-all refl;
-    fault = λ allow piece code. not-at-all refl;
-    empty-section = λ allow piece t p. marked refl refl;
-    told = λ allow piece k payload p. not-told refl;
-    content-part = λ allow left b bs p. not-content refl;
-    section-part = λ allow left b bs t p. section-marked G allow (b ∷ bs) t p (min left (length bs)) (left - min left (length bs));
-    byte = λ allow b bs f q. also-marked 0 allow q;
-    header-byte = λ allow b bs f q. also-marked 1 (suc allow) q })
+  nothing-left = λ allow s. not-at-all refl;
+  none-allowed = λ s piece. not-at-all refl;
+  waiting = λ allow piece t p. not-at-all refl;
+  fault = λ allow piece code. not-at-all refl;
+  empty-section = λ allow piece t p. marked refl refl;
+  told = λ allow piece k payload p. not-told refl;
+  content-part = λ allow left b bs p. not-content refl;
+  section-part = λ allow left b bs t p. section-marked G allow (b ∷ bs) t p (min left (length bs)) (left - min left (length bs));
+  byte = λ allow b bs f q. also-marked 0 allow q;
+  header-byte = λ allow b bs f q. also-marked 1 (suc allow) q;
+})

@@ -13,11 +13,11 @@ pub data Event : Type 0 where
   quiet : Event
   section-bytes : (len : ℕ) (last : Bool) → Event
   content-bytes : (len : ℕ) → Event
-  taken : Kept → (payload : List ℕ) → Event             -- a kept payload, judged good: settings, GOAWAY, MAX_PUSH_ID
+  taken : Kept → (payload : List ℕ) → Event  -- a kept payload, judged good: settings, GOAWAY, MAX_PUSH_ID
 
 pub record Feeding (P : Type 0) : Type 0 where
-  pub used : ℕ                                          -- bytes consumed
-  pub heads : ℕ                                         -- frame headers finished
+  pub used : ℕ  -- bytes consumed
+  pub heads : ℕ  -- frame headers finished
   pub event : Event
   pub after : Outcome P
 
@@ -74,8 +74,9 @@ module _ (G : Grammar) where
   feed (suc n) (in-type g p) (b ∷ bs) = also 0 (feed (suc n) (typed p (fed g b)) bs)
   feed zero (in-length t g p) (b ∷ bs) = halt quiet (lives (in-length t g p))
   feed (suc n) (in-length t g p) (b ∷ bs) = elim (fed g b) [
-      going g′ ↦ also 0 (feed (suc n) (in-length t g′ p) bs)
-    | value len ↦ also 1 (behind-header len (G .rule p t len) (λ s. feed n s bs)) ]
+    | going g′ ↦ also 0 (feed (suc n) (in-length t g′ p) bs)
+    | value len ↦ also 1 (behind-header len (G .rule p t len) (λ s. feed n s bs))
+  ]
   feed n (in-payload content k left p) (b ∷ bs) = let j = min left (length bs) in taking content j (left - j) p
   feed n (in-payload (section t) k left p) (b ∷ bs) = let j = min left (length bs) in taking (section t) j (left - j) p
   feed n (in-payload skipped k left p) (b ∷ bs) = also 0 (onward quiet (with-left G skipped [] left p) (λ s. feed n s bs))

@@ -129,16 +129,17 @@ module _ (G : Grammar) where
         within = within-also (f .event) (f .used) (r .within);
         state = λ bl. rw (n, g bl) (r .state bl);
         shown = λ begun bl. rw (g bl) (
-          let q = settled G (suc place) bl (step G s b) in
-          let begun′ = begins G begun (suc place) q in
-          let rest = lists G begun′ (suc place) q (take (f .used) bs) in
-          shows-also (f .event) (f .used) b bs (r .within) ∙ r .shown begun′ bl ∙ ap (λ x. x ++ unheaded rest) (sym (fs begun))
+            let q = settled G (suc place) bl (step G s b) in
+            let begun′ = begins G begun (suc place) q in
+            let rest = lists G begun′ (suc place) q (take (f .used) bs) in
+            shows-also (f .event) (f .used) b bs (r .within) ∙ r .shown begun′ bl ∙ ap (λ x. x ++ unheaded rest) (sym (fs begun))
             ∙ sym (unheaded-append (says G begun (suc place) s b) rest));
         heads = λ begun bl. rw (g bl) (
-          let q = settled G (suc place) bl (step G s b) in
-          let begun′ = begins G begun (suc place) q in
-          let rest = lists G begun′ (suc place) q (take (f .used) bs) in
-          ap (λ k. h + k) (r .heads begun′ bl) ∙ ap (λ k. k + headersIn rest) (sym (fh begun)) ∙ sym (headersIn-append (says G begun (suc place) s b) rest)) }
+            let q = settled G (suc place) bl (step G s b) in
+            let begun′ = begins G begun (suc place) q in
+            let rest = lists G begun′ (suc place) q (take (f .used) bs) in
+            ap (λ k. h + k) (r .heads begun′ bl) ∙ ap (λ k. k + headersIn rest) (sym (fh begun)) ∙ sym (headersIn-append (says G begun (suc place) s b) rest));
+      }
 
   judged-shows : (f : Kept) (k bs : List ℕ) (n : Next (G .P)) → shows (judged-event f k n) 0 bs ≡ unheaded (judged-says G f k n)
   unfolding shows judged-event judged-says unheaded
@@ -209,16 +210,17 @@ module _ (G : Grammar) where
   length-runs : (n place t : ℕ) (g : Prog) (p : G .P) (b : ℕ) (bs : List ℕ) → ((n place : ℕ) (s : State (G .P)) → Runs place (lives s) [] bs (feed G n s bs))
       → (x : Fed) → fed g b ≡ x
       → Runs place (lives (in-length t g p)) [] (b ∷ bs) (elim x [
-          going f ↦ also 0 (feed G (suc n) (in-length t f p) bs)
-        | value len ↦ also 1 (behind-header G len (G .rule p t len) (λ s. feed G n s bs)) ])
+        | going f ↦ also 0 (feed G (suc n) (in-length t f p) bs)
+        | value len ↦ also 1 (behind-header G len (G .rule p t len) (λ s. feed G n s bs))
+      ])
   unfolding step sized supplied says size-says unheaded headersIn
   length-runs n place t g p b bs ih (going f) e =
       also-runs place (in-length t g p) (lives (in-length t f p)) [] b 0 bs (feed G (suc n) (in-length t f p) bs)
-        (λ bl. refl) (rw e) (λ begun. rw e) (λ begun. rw e) (ih (suc n) (suc place) (in-length t f p))
+      (λ bl. refl) (rw e) (λ begun. rw e) (λ begun. rw e) (ih (suc n) (suc place) (in-length t f p))
   length-runs n place t g p b bs ih (value len) e =
       also-runs place (in-length t g p) (ruled G len (G .rule p t len)) (rule-shows len (G .rule p t len)) b 1 bs _
-        (λ bl. refl) (rw e) (λ begun. rw e (rule-unheaded begun (suc place) t len (G .rule p t len))) (λ begun. rw e (rule-heads begun (suc place) t len (G .rule p t len)))
-        (behind-runs (suc place) len (G .rule p t len) bs (λ s. feed G n s bs) (λ s. ih n (suc place) s))
+      (λ bl. refl) (rw e) (λ begun. rw e (rule-unheaded begun (suc place) t len (G .rule p t len))) (λ begun. rw e (rule-heads begun (suc place) t len (G .rule p t len)))
+      (behind-runs (suc place) len (G .rule p t len) bs (λ s. feed G n s bs) (λ s. ih n (suc place) s))
 
   -- ---- a payload that is handed on: content, or a section
   data Handed : Use → Type 0 where
@@ -247,7 +249,7 @@ module _ (G : Grammar) where
       let d = suc-sub-suc l j in
       let k = handed-keep [] b h in
       rw (n, d) (payload-run h p bl j l (suc place) bs (omega arith) (omega arith)
-        ∙ ap (λ x. run G (suc place) (settled G (suc place) bl (with-left G u x l p)) (take j bs)) (sym k))
+      ∙ ap (λ x. run G (suc place) (settled G (suc place) bl (with-left G u x l p)) (take j bs)) (sym k))
 
   payload-says : {u : Use} (h : Handed u) (p : G .P) (bl : List Section) (j l begun place : ℕ) (bs : List ℕ) → j ≤ l → j ≤ length bs
       → (told u (take j bs) ≡ unheaded (lists G begun place (settled G place bl (with-left G u [] l p)) (take j bs)))
@@ -262,9 +264,10 @@ module _ (G : Grammar) where
       let a = append-nil (told u (b ∷ [])) in
       let q = settled G (suc place) bl (with-left G u [] l p) in
       let begun′ = begins G begun (suc place) q in
-      let r = payload-says h p bl j l begun′ (suc place) bs (omega arith) (omega arith) in
-      (rw (k, e, a) (told-then u b (take j bs) (lists G begun′ (suc place) q (take j bs)) (r .0)),
-       rw (k, e, a) (omega (arith, r .1, told-heads u b, headersIn-append (told u (b ∷ [])) (lists G begun′ (suc place) q (take j bs)))))
+      let r = payload-says h p bl j l begun′ (suc place) bs (omega arith) (omega arith) in (
+        rw (k, e, a) (told-then u b (take j bs) (lists G begun′ (suc place) q (take j bs)) (r .0)),
+        rw (k, e, a) (omega (arith, r .1, told-heads u b, headersIn-append (told u (b ∷ [])) (lists G begun′ (suc place) q (take j bs)))),
+      )
 
   taking-runs : {u : Use} (h : Handed u) (k : List ℕ) (p : G .P) (j left place b : ℕ) (bs : List ℕ) → j ≤ left → j ≤ length bs
       → shows (named G u (suc j) (left - j)) (suc j) (b ∷ bs) ≡ told u (b ∷ take j bs) → Within (named G u (suc j) (left - j)) (suc j)
@@ -280,14 +283,19 @@ module _ (G : Grammar) where
         within = w;
         state = λ bl. rw (n, e) (payload-run h p bl j left (suc place) bs i m);
         shown = λ begun bl. rw (e, d, a) (
-          let q = settled G (suc place) bl (with-left G u [] left p) in
-          let begun′ = begins G begun (suc place) q in
-          c ∙ told-then u b (take j bs) (lists G begun′ (suc place) q (take j bs)) (payload-says h p bl j left begun′ (suc place) bs i m .0));
+            let q = settled G (suc place) bl (with-left G u [] left p) in
+            let begun′ = begins G begun (suc place) q in
+            c ∙ told-then u b (take j bs) (lists G begun′ (suc place) q (take j bs)) (payload-says h p bl j left begun′ (suc place) bs i m .0));
         heads = λ begun bl. rw (e, d, a) (
-          let q = settled G (suc place) bl (with-left G u [] left p) in
-          let begun′ = begins G begun (suc place) q in
-          omega (arith, payload-says h p bl j left begun′ (suc place) bs i m .1, told-heads u b,
-            headersIn-append (told u (b ∷ [])) (lists G begun′ (suc place) q (take j bs)))) }
+            let q = settled G (suc place) bl (with-left G u [] left p) in
+            let begun′ = begins G begun (suc place) q in
+            omega (
+              arith,
+              payload-says h p bl j left begun′ (suc place) bs i m .1,
+              told-heads u b,
+              headersIn-append (told u (b ∷ [])) (lists G begun′ (suc place) q (take j bs)),
+            ));
+      }
 
   handed-shows : {u : Use} → Handed u → (j l b : ℕ) (bs : List ℕ) → shows (named G u (suc j) l) (suc j) (b ∷ bs) ≡ told u (b ∷ take j bs)
   unfolding shows told named
@@ -306,7 +314,7 @@ module _ (G : Grammar) where
   feed-runs zero place (in-type g p) (b ∷ bs) = halt-runs place quiet (lives (in-type g p)) [] (b ∷ bs) tt (unfold shows in refl)
   feed-runs (suc n) place (in-type g p) (b ∷ bs) =
       also-runs place (in-type g p) (lives (typed p (fed g b))) [] b 0 bs _ (λ bl. refl) refl (λ begun. refl) (λ begun. refl)
-        (feed-runs (suc n) (suc place) (typed p (fed g b)) bs)
+      (feed-runs (suc n) (suc place) (typed p (fed g b)) bs)
   feed-runs zero place (in-length t g p) (b ∷ bs) = halt-runs place quiet (lives (in-length t g p)) [] (b ∷ bs) tt (unfold shows in refl)
   feed-runs (suc n) place (in-length t g p) (b ∷ bs) =
       length-runs n place t g p b bs (λ n place s. feed-runs n place s bs) (fed g b) refl
@@ -318,19 +326,19 @@ module _ (G : Grammar) where
       taking-runs of-section k p j left place b bs (omega arith) (omega arith) (handed-shows (of-section {t = t}) j (left - j) b bs) (omega arith)
   feed-runs n place (in-payload skipped k left p) (b ∷ bs) =
       also-runs place (in-payload skipped k left p) (with-left G skipped [] left p) _ b 0 bs _ (λ bl. refl) refl (λ begun. refl) (λ begun. payload-heads begun (suc place) skipped k left p b)
-        (onward-runs (suc place) quiet (with-left G skipped [] left p) _ bs (λ s. feed G n s bs) tt (skip-shows left p b bs) (λ s. feed-runs n (suc place) s bs))
+      (onward-runs (suc place) quiet (with-left G skipped [] left p) _ bs (λ s. feed G n s bs) tt (skip-shows left p b bs) (λ s. feed-runs n (suc place) s bs))
   feed-runs n place (in-payload (kept t) k left p) (b ∷ bs) =
       let k′ = k ++ (b ∷ []) in
       also-runs place (in-payload (kept t) k left p) (with-left G (kept t) k′ left p) _ b 0 bs _ (λ bl. refl) refl (λ begun. refl) (λ begun. payload-heads begun (suc place) (kept t) k left p b)
-        (onward-runs (suc place) (left-event G (kept t) k′ left p) (with-left G (kept t) k′ left p) _ bs (λ s. feed G n s bs)
-          (left-within (kept t) k′ left p) (left-shows (kept t) k′ left p bs) (λ s. feed-runs n (suc place) s bs))
+      (onward-runs (suc place) (left-event G (kept t) k′ left p) (with-left G (kept t) k′ left p) _ bs (λ s. feed G n s bs)
+      (left-within (kept t) k′ left p) (left-shows (kept t) k′ left p bs) (λ s. feed-runs n (suc place) s bs))
   feed-runs n place (due t p) (b ∷ bs) = halt-runs place quiet (lives (due t p)) [] (b ∷ bs) tt (unfold shows in refl)
 
 -- ---- the calls of one stream, in whatever order the host makes them
 
 pub data Call : Type 0 where
-  feed-call : (allow : ℕ) (piece : List ℕ) → Call          -- while a section is due it is refused with 4, and consumes nothing
-  give-call : Section → Call                                 -- where none is due it is refused with 5, and nothing is altered
+  feed-call : (allow : ℕ) (piece : List ℕ) → Call  -- while a section is due it is refused with 4, and consumes nothing
+  give-call : Section → Call  -- where none is due it is refused with 5, and nothing is altered
 
 -- the block is taken if a section is due
 unfoldable pub takes : {P : Type 0} → Section → State P → List Section
@@ -394,22 +402,34 @@ module _ (G : Grammar) where
       let q : place + length (x ++ d .bytes) ≡ place + f .used + length (d .bytes) = omega arith in
       record {
         state = λ bl. rw q (c .state bl ∙ ap (λ z. run G (place + f .used) z (d .bytes)) (r .state (d .sections ++ bl))
-          ∙ sym (run-append G place (place + f .used) (settled G place (d .sections ++ bl) (lives s)) x (d .bytes) n));
+            ∙ sym (run-append G place (place + f .used) (settled G place (d .sections ++ bl) (lives s)) x (d .bytes) n));
         shown = λ begun bl. (let r0 = settled G place (d .sections ++ bl) (lives s) in
-          let begun′ = began G begun place r0 x in
-          cc (r .shown begun (d .sections ++ bl), c .shown begun′ bl, r .state (d .sections ++ bl), lists-append G begun place (place + f .used) r0 x (d .bytes) n,
-            unheaded-append (lists G begun place r0 x) (lists G begun′ (place + f .used) (run G place r0 x) (d .bytes))));
+            let begun′ = began G begun place r0 x in
+            cc (
+              r .shown begun (d .sections ++ bl),
+              c .shown begun′ bl,
+              r .state (d .sections ++ bl),
+              lists-append G begun place (place + f .used) r0 x (d .bytes) n,
+              unheaded-append (lists G begun place r0 x) (lists G begun′ (place + f .used) (run G place r0 x) (d .bytes)),
+            ));
         heads = λ begun bl. (let r0 = settled G place (d .sections ++ bl) (lives s) in
-          let begun′ = began G begun place r0 x in
-          cc (r .heads begun (d .sections ++ bl), c .heads begun′ bl, r .state (d .sections ++ bl), lists-append G begun place (place + f .used) r0 x (d .bytes) n,
-            headersIn-append (lists G begun place r0 x) (lists G begun′ (place + f .used) (run G place r0 x) (d .bytes)))) }
+            let begun′ = began G begun place r0 x in
+            cc (
+              r .heads begun (d .sections ++ bl),
+              c .heads begun′ bl,
+              r .state (d .sections ++ bl),
+              lists-append G begun place (place + f .used) r0 x (d .bytes) n,
+              headersIn-append (lists G begun place r0 x) (lists G begun′ (place + f .used) (run G place r0 x) (d .bytes)),
+            ));
+      }
   calls-come place (lives s) (give-call block ∷ cs) =
       let c = calls-come place (given G block s) cs in
       let d = calls (given G block s) cs in
       record {
         state = λ bl. (let e = append-assoc (takes block s) (d .sections) bl in let g = given-settled place s block (d .sections ++ bl) in rw (e, g) (c .state bl));
         shown = λ begun bl. (let e = append-assoc (takes block s) (d .sections) bl in let g = given-settled place s block (d .sections ++ bl) in rw (e, g) (c .shown begun bl));
-        heads = λ begun bl. (let e = append-assoc (takes block s) (d .sections) bl in let g = given-settled place s block (d .sections ++ bl) in rw (e, g) (c .heads begun bl)) }
+        heads = λ begun bl. (let e = append-assoc (takes block s) (d .sections) bl in let g = given-settled place s block (d .sections ++ bl) in rw (e, g) (c .heads begun bl));
+      }
 
   -- the verdict at the end of the calls: a section still due is a wait
   unfoldable pub verdict-of : Done (G .P) → Verdict
@@ -432,4 +452,5 @@ module _ (G : Grammar) where
       record {
         verdict = ap (finished G (length (d .bytes))) (rw (z, a) at (c .state [])) ∙ sym (ap (λ r. r .verdict) w);
         shown = (rw a at (c .shown 0 [])) ∙ sym (ap (λ r. unheaded (r .said)) w);
-        heads = (rw a at (c .heads 0 [])) ∙ sym (ap (λ r. headersIn (r .said)) w) }
+        heads = (rw a at (c .heads 0 [])) ∙ sym (ap (λ r. headersIn (r .said)) w);
+      }

@@ -75,7 +75,8 @@ module _ (G : Grammar) where
         fits = omega arith;
         place = settled-place (suc at) bl (step G s b) v q′ ∙ omega arith;
         then = q′;
-        before = λ n h. (let z : n ≡ 0 = omega arith in rw z tt) }
+        before = λ n h. (let z : n ≡ 0 = omega arith in rw z tt);
+      }
   strike at bl s b bs v ih (reads c u) q e =
       let i = ih c u e in
       record {
@@ -83,7 +84,8 @@ module _ (G : Grammar) where
         fits = omega (arith, i .fits);
         place = i .place ∙ omega arith;
         then = ap (λ x. run G (suc at) x (take (i .k) bs)) q ∙ i .then;
-        before = λ n h. earlier c u (i .k) (i .before) q n h }
+        before = λ n h. earlier c u (i .k) (i .before) q n h;
+      }
     where
       earlier : (c : List Section) (u : State (G .P)) (k : ℕ) → ((q : ℕ) → q < k → ReadsOn (run G (suc at) (reads c u) (take q bs)))
           → next G (suc at) (reads bl s) b ≡ reads c u → (n : ℕ) → n < suc k → ReadsOn (run G at (reads bl s) (take n (b ∷ bs)))
@@ -107,9 +109,10 @@ module _ (G : Grammar) where
       let k = stuck-run G (length x) v t in
       let m = stuck-lists G o (length x) v t in
       let f : run G 0 r0 (x ++ t) ≡ stuck v = cc in
-      let n : lists G o (length x) (run G 0 r0 x) t ≡ [] = cc in
-      (ap (λ r. r .verdict) (read-is G bl (x ++ t)) ∙ rw f (unfold finished in refl),
-       ap (λ r. r .said) (read-is G bl (x ++ t)) ∙ l ∙ ap (λ z. lists G 0 0 r0 x ++ z) n ∙ append-nil _ ∙ sym (ap (λ r. r .said) (read-is G bl x)))
+      let n : lists G o (length x) (run G 0 r0 x) t ≡ [] = cc in (
+        ap (λ r. r .verdict) (read-is G bl (x ++ t)) ∙ rw f (unfold finished in refl),
+        ap (λ r. r .said) (read-is G bl (x ++ t)) ∙ l ∙ ap (λ z. lists G 0 0 r0 x ++ z) n ∙ append-nil _ ∙ sym (ap (λ r. r .said) (read-is G bl x)),
+      )
 
   -- THE FIRST FAULT, at place p: it is there after p bytes, it is the verdict whatever follows them, and no shorter beginning settles anything.
   pub record FirstFault (bl : List Section) (bytes : List ℕ) (code p : ℕ) : Type 0 where
@@ -132,7 +135,8 @@ module _ (G : Grammar) where
         within = omega (arith, s .fits, z);
         there = th;
         same = λ t. last-word bl (take p bytes) t (fault code p) th .0;
-        first = λ q v h i. not-both (run G 0 (fresh-run G bl) (take q bytes)) v (s .before q (omega (arith, z, h))) i }
+        first = λ q v h i. not-both (run G 0 (fresh-run G bl) (take q bytes)) v (s .before q (omega (arith, z, h))) i;
+      }
 
   -- where nothing is settled inside, the verdict is the end rule's, at the end
   pub end-rule : (bl : List Section) (bytes : List ℕ) {c : List Section} {s : State (G .P)} → run G 0 (fresh-run G bl) bytes ≡ reads c s

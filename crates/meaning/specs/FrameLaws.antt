@@ -32,17 +32,20 @@ module _ (fuel at b : ℕ) (bs : List ℕ) where
   view-payload : {t here len from : ℕ} {rest pay : List ℕ} → integer at (b ∷ bs) ≡ got t here rest → integer here rest ≡ got len from pay
       → (x : Bool) → ltb (length pay) len ≡ x
       → View fuel at (b ∷ bs) (elim x [
-          true ↦ in-payload (head at from t len) pay
-        | false ↦ frame (head at from t len) (take len pay) (framesUpTo fuel (from + len) (drop len pay)) ])
+        | true ↦ in-payload (head at from t len) pay
+        | false ↦ frame (head at from t len) (take len pay) (framesUpTo fuel (from + len) (drop len pay))
+      ])
   view-payload {len = len} {pay = pay} e f true x = cut-payload e f (ltb→lt (length pay) len (rw x tt))
   view-payload {len = len} {pay = pay} e f false x = a-frame e f (nltb→le (length pay) len (rw x tt))
 
   view-length : {t here : ℕ} {rest : List ℕ} → integer at (b ∷ bs) ≡ got t here rest → (y : Int) → integer here rest ≡ y
       → View fuel at (b ∷ bs) (elim y [
-          cut ↦ in-header
+        | cut ↦ in-header
         | got len from pay ↦ elim (ltb (length pay) len) [
-            true ↦ in-payload (head at from t len) pay
-          | false ↦ frame (head at from t len) (take len pay) (framesUpTo fuel (from + len) (drop len pay)) ] ])
+          | true ↦ in-payload (head at from t len) pay
+          | false ↦ frame (head at from t len) (take len pay) (framesUpTo fuel (from + len) (drop len pay))
+        ]
+      ])
   view-length e cut f = cut-length e f
   view-length e (got len from pay) f = view-payload e f (ltb (length pay) len) refl
 
@@ -117,7 +120,7 @@ complete-from at bs a = completes (length bs) at bs a
 
 append-view : (f g at b : ℕ) (s t : List ℕ)
     → ((at : ℕ) (xs : List ℕ) → length xs ≤ f → length xs + length t ≤ g → AllThere (framesUpTo f at xs)
-        → framesUpTo g at (xs ++ t) ≡ join (framesUpTo f at xs) (framesFrom (at + length xs) t))
+    → framesUpTo g at (xs ++ t) ≡ join (framesUpTo f at xs) (framesFrom (at + length xs) t))
     → length s ≤ f → length s + length t ≤ g → {fs : Frames} → View f at (b ∷ s) fs → AllThere fs
     → framesUpTo (suc g) at (b ∷ s ++ t) ≡ join fs (framesFrom (at + length (b ∷ s)) t)
 unfolding join

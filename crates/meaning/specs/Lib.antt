@@ -1,3 +1,4 @@
+pub mod TextLaws
 pub mod IntegerLaws
 pub mod FrameLaws
 pub mod WriterLaws

@@ -13,8 +13,9 @@ use Rattle.rules.specs.Reading.{header-section, trailers, content, skipped, sec
 use Rattle.rules.specs.Message.{Message, opening, body, trailed, heads, trails}
 use Rattle.rules.specs.Request.{Rules, Header.good as good-header, Trailer.good as good-trailer, rule, given, headed-by, trailed-by, next-of, request, headers-limit}
 use Rattle.rules.specs.Legal.{Unknown, AddsUp, Unknowns, Rest, Legal}
+use Rattle.meaning.specs.TextLaws.{is-false}
 use Rattle.meaning.specs.MessageLaws.{Fits, carry-goes}
-use Rattle.meaning.specs.RequestLaws.{is-false, rule-unknown, rule-data, rule-header, rule-trailers}
+use Rattle.meaning.specs.RequestLaws.{rule-unknown, rule-data, rule-header, rule-trailers}
 use Rattle.meaning.specs.FrameLaws.{Complete, AllThere, join, complete-from, frames-append}
 use Rattle.meaning.specs.Whole.{rest-fits, whole-iff-legal}
 
@@ -47,7 +48,7 @@ pub data Extra (R : Rules) : (trailersMay : Bool) → List Section → Frames �
 pub record Longer (R : Rules) (sections : List Section) (short long : Reading) (s t : List ℕ) : Type 0 where
   pub same-header : headerBytes (long .said) ≡ headerBytes (short .said)
   pub same-content : contents (long .said) ≡ contents (short .said)
-  pub taken : List Section                                                       -- by the shorter one
+  pub taken : List Section  -- by the shorter one
   pub left : List Section
   pub are : sections ≡ taken ++ left
   pub only : Extra R (noTrailers (framesFrom 0 s)) left (framesFrom (length s) t)
@@ -284,7 +285,8 @@ longer R first sections others s t n states w w2 =
       taken = b .taken;
       left = b .left;
       are = b .are;
-      only = b .extra }
+      only = b .extra;
+    }
 
 -- HALF AN UPLOAD IS NEVER WHOLE: of a whole request that states a Content-Length, no beginning that lacks a byte of its content is whole.
 pub half-is-never-whole : (R : Rules) (first : Section) (sections others : List Section) (s t : List ℕ) (n : ℕ) → R .header first ≡ good-header (some n)

@@ -29,10 +29,10 @@ fed (need k v) b = after k (v * 256 + b)
 -- ---- a stream
 
 pub data State (P : Type 0) : Type 0 where
-  in-type : Prog → P → State P                                     -- between two frames, as long as nothing of the type is read
+  in-type : Prog → P → State P  -- between two frames, as long as nothing of the type is read
   in-length : (type : ℕ) → Prog → P → State P
-  in-payload : Use → (sofar : List ℕ) (left : ℕ) → P → State P     -- suc left bytes to come; sofar only where it is kept
-  due : Part → P → State P                                         -- a section is due
+  in-payload : Use → (sofar : List ℕ) (left : ℕ) → P → State P  -- suc left bytes to come; sofar only where it is kept
+  due : Part → P → State P  -- a section is due
 
 pub data Outcome (P : Type 0) : Type 0 where
   lives : State P → Outcome P

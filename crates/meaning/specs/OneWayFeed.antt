@@ -21,7 +21,7 @@ pub data OneOutcome : Type 0 where
 
 pub data OneEvent : Type 0 where
   of-frames : F.Event → OneEvent
-  qpack-bytes : Qpack → (len : ℕ) → OneEvent           -- the part of the piece that ends where the feed stopped
+  qpack-bytes : Qpack → (len : ℕ) → OneEvent  -- the part of the piece that ends where the feed stopped
 
 pub record OneFeeding : Type 0 where
   pub used : ℕ

@@ -124,11 +124,13 @@ module _ (seen : List ℕ) where
         fits = r .fits;
         within = r .within;
         holds = controlled-holds (f .after) (integer-append 0 bytes x e) ru
-          (record {
-            state = rw k (r .state [] ∙ ap (λ z. run control (length bytes) z x) (c .state) ∙ sym ra);
-            shown = cc (c .shown, r .shown begun [], c .state, la, unheaded-append (lists control next next r0 rest) (lists control begun (length bytes) (run control next r0 rest) x));
-            heads = cc (c .heads, r .heads begun [], c .state, la, headersIn-append (lists control next next r0 rest) (lists control begun (length bytes) (run control next r0 rest) x)) })
-          (rw q refl) }
+            (record {
+              state = rw k (r .state [] ∙ ap (λ z. run control (length bytes) z x) (c .state) ∙ sym ra);
+              shown = cc (c .shown, r .shown begun [], c .state, la, unheaded-append (lists control next next r0 rest) (lists control begun (length bytes) (run control next r0 rest) x));
+              heads = cc (c .heads, r .heads begun [], c .state, la, headersIn-append (lists control next next r0 rest) (lists control begun (length bytes) (run control next r0 rest) x));
+            })
+            (rw q refl);
+      }
 
   -- nothing more is read
   halted : {bytes : List ℕ} {frames : List Saying} {qpack : List ℕ} {heads : ℕ} (piece : List ℕ) (o : OneOutcome) → Holds bytes frames qpack heads o
@@ -231,7 +233,7 @@ module _ (seen : List ℕ) where
       let n : next + length rest ≡ length (d .bytes) = omega arith in
       let w = read-from-is control next (length (d .bytes)) [] rest n in
       rw (e, behind-type, r) (a-control-stream o a (c .shown ∙ sym (ap (λ x. unheaded (x .said)) w)) q (c .heads ∙ sym (ap (λ x. headersIn (x .said)) w))
-        (ap (λ x. x .verdict) w ∙ ap (finished control (length (d .bytes))) (sym (c .state))))
+      (ap (λ x. x .verdict) w ∙ ap (finished control (length (d .bytes))) (sym (c .state))))
 
   came : (d : Done) (o : OneOutcome) → d .after ≡ o → Holds (d .bytes) (d .frames) (d .qpack) (d .heads) o → Came d (oneWay seen (d .bytes))
   unfolding oneWay behind-type typed
@@ -280,7 +282,7 @@ pub data OneStops (allow : ℕ) (piece : List ℕ) (f : OneFeeding) : Type 0 whe
   at-end : f .used ≡ length piece → OneStops allow piece f
   at-allowance : f .heads ≡ allow → OneStops allow piece f
   at-fault : {code : ℕ} → f .after ≡ dies code → OneStops allow piece f
-  while-due : {t : Part} {c : Control} → f .after ≡ lives (in-control (due t c)) → OneStops allow piece f        -- which never comes: never-due
+  while-due : {t : Part} {c : Control} → f .after ≡ lives (in-control (due t c)) → OneStops allow piece f  -- which never comes: never-due
 
 control-stops : {allow : ℕ} {piece : List ℕ} (f : F.Feeding Control) → Stops allow piece f → OneStops allow piece (of-control f)
 unfolding of-control controlled

@@ -95,7 +95,7 @@ module _ (R : Rules) where
     frame-legal h payload fs (body stated sum) [] ih s (r-trailers z l) q w = let v = rw (q, judge) at w in let y : _≡_ {A = ℕ} 0 1 = cc in absurd (omega arith)
     frame-legal h payload fs (body stated sum) (b ∷ bl) ih s (r-trailers z l) q w =
         trailers-legal b bl (h .from + h .len) stated sum z l s ih (R .trailer b) refl
-          (sym (onward-judge fs (h .from + h .len) (left-by (request R) bl [] (trailed-by (R .trailer b) (body stated sum)))) ∙ unfold given in (rw (q, judge) at w))
+        (sym (onward-judge fs (h .from + h .len) (left-by (request R) bl [] (trailed-by (R .trailer b) (body stated sum)))) ∙ unfold given in (rw (q, judge) at w))
 
     cut-legal : (h : Header) (part : List ℕ) (m : Message) (bl : List Section) → (x : Ruling Message) → rule m (h .type) (h .len) ≡ x
         → judge (request R) total m bl (in-payload h part) .verdict ≡ whole → LegalFrom m bl (in-payload h part)

@@ -47,9 +47,9 @@ bytes-back : (type len at : ℕ) (bs pay rest : List ℕ) → header-bytes type 
 unfolding header-bytes
 bytes-back type len at bs pay rest e l = both-view (written type) (written len) bs e
     (λ x y ex ey p.
-      (let n = length-append x y in
-       let m : at + length x + length y ≡ at + length (x ++ y) = omega arith in
-       rw (← p, append-assoc x y (pay ++ rest), ← m) (frame-back at type len x y pay rest ex ey l)))
+    (let n = length-append x y in
+    let m : at + length x + length y ≡ at + length (x ++ y) = omega arith in
+    rw (← p, append-assoc x y (pay ++ rest), ← m) (frame-back at type len x y pay rest ex ey l)))
 
 pub header-back : (room type len at : ℕ) (bs pay rest : List ℕ) → write-header room type len ≡ wrote bs → length pay ≡ len
     → framesFrom at (bs ++ (pay ++ rest)) ≡ frame (head at (at + length bs) type len) pay (framesFrom (at + length bs + len) rest)
@@ -62,25 +62,26 @@ pub record FrameBack (at type v : ℕ) (bs rest : List ℕ) : Type 0 where
   pub from : ℕ
   pub payload : List ℕ
   pub reads : framesFrom at (bs ++ rest) ≡ frame (head at from type (length payload)) payload (framesFrom (at + length bs) rest)
-  pub holds : integer 0 payload ≡ got v (length payload) []                                -- the integer is the whole payload
+  pub holds : integer 0 payload ≡ got v (length payload) []  -- the integer is the whole payload
 
 frame-bytes-back : (type v at : ℕ) (bs rest : List ℕ) (o : Option (List ℕ)) → written v ≡ o → integer-frame type o ≡ some bs → FrameBack at type v bs rest
 unfolding integer-frame
 frame-bytes-back type v at bs rest none w e = let z : _≡_ {A = ℕ} 0 1 = cc in absurd (omega arith)
 frame-bytes-back type v at bs rest (some p) w e = both-view (header-bytes type (length p)) (some p) bs e
     (λ x y ex ey j.
-      (let q : p ≡ y = cc in
-       let z : 0 + length p ≡ length p = omega arith in
-       let n = length-append x p in
-       let m : at + length (x ++ p) ≡ at + length x + length p = omega arith in
-       let i = written-reads v 0 p [] w in
-       let i′ : integer 0 p ≡ got v (0 + length p) [] = rw (append-nil p) at i in
-       let j′ : x ++ p ≡ bs = ap (λ l. x ++ l) q ∙ j in
-       record {
-         from = at + length x;
-         payload = p;
-         reads = rw (← j′, m, append-assoc x p rest) (bytes-back type (length p) at x p rest ex refl);
-         holds = rw z at i′ }))
+    (let q : p ≡ y = cc in
+    let z : 0 + length p ≡ length p = omega arith in
+    let n = length-append x p in
+    let m : at + length (x ++ p) ≡ at + length x + length p = omega arith in
+    let i = written-reads v 0 p [] w in
+    let i′ : integer 0 p ≡ got v (0 + length p) [] = rw (append-nil p) at i in
+    let j′ : x ++ p ≡ bs = ap (λ l. x ++ l) q ∙ j in
+    record {
+      from = at + length x;
+      payload = p;
+      reads = rw (← j′, m, append-assoc x p rest) (bytes-back type (length p) at x p rest ex refl);
+      holds = rw z at i′;
+    }))
 
 pub integer-frame-back : (room type v at : ℕ) (bs rest : List ℕ) → write-integer-frame room type v ≡ wrote bs → FrameBack at type v bs rest
 unfolding write-integer-frame
@@ -100,8 +101,9 @@ goaway-back sent room id at bs rest e = go (badGoaway sent id) e
 
 pub opening-back : (payload : List ℕ)
     × (oneWay [] opening ≡ of-control (record {
-        said = header (head 1 3 4 9) (kept settings) ∷ frame-kept settings payload ∷ [];
-        verdict = fault 0x0104 12 }))
+      said = header (head 1 3 4 9) (kept settings) ∷ frame-kept settings payload ∷ [];
+      verdict = fault 0x0104 12;
+    }))
     × (tells settings payload ≡ told-settings (record { section-size = some 16_384; table-capacity = 0; blocked-streams = 0 }))
 unfolding answer opening
 opening-back = (0x01 ∷ 0x00 ∷ 0x06 ∷ 0x80 ∷ 0x00 ∷ 0x40 ∷ 0x00 ∷ 0x07 ∷ 0x00 ∷ [], refl, refl)

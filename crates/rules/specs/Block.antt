@@ -19,8 +19,8 @@ Section = List Line
 -- Why a block is unreadable.
 pub data Flaw : Type 0 where
   other-kind : Flaw
-  short-length : Flaw                 -- a length below 4
-  long-name : Flaw                    -- a name longer than the record
+  short-length : Flaw  -- a length below 4
+  long-name : Flaw  -- a name longer than the record
   cut-record : Flaw
 
 pub data Lines : Type 0 where
@@ -58,14 +58,17 @@ linesFrom (suc fuel) number at (a ∷ []) = unreadable cut-record
 linesFrom (suc fuel) number at (a ∷ b ∷ rest) =
     let len : ℕ = little a b in
     elim (ltb len 4) [
-      true ↦ unreadable short-length
-    | false ↦ elim (ltb (length rest) len) [
-        true ↦ unreadable cut-record
-      | false ↦ elim (record-of (take len rest)) [
-          flawed f ↦ unreadable f
-        | line name value ↦
-            before (record { number = number; at = at; name = name; value = value })
-              (linesFrom fuel (suc number) (at + 2 + len) (drop len rest)) ] ] ]
+      | true ↦ unreadable short-length
+      | false ↦ elim (ltb (length rest) len) [
+        | true ↦ unreadable cut-record
+        | false ↦ elim (record-of (take len rest)) [
+          | flawed f ↦ unreadable f
+          | line name value ↦
+              before (record { number = number; at = at; name = name; value = value })
+              (linesFrom fuel (suc number) (at + 2 + len) (drop len rest))
+        ]
+      ]
+    ]
 
 unfoldable pub lines : (block : List ℕ) → Lines
 lines block = linesFrom (length block) 0 0 block

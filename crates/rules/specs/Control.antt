@@ -6,7 +6,7 @@ use mathlib.Core.Bool.{Bool, true, false, _||_}
 use mathlib.Core.Option.{Option, none, some}
 use lib.Dec.{ltb, eqb}
 use lib.ListN.{length}
-use Rattle.rules.specs.Text.{isOneOf}
+use Rattle.rules.specs.Text.{isOneOf, lookup}
 use Rattle.rules.specs.Integers.{Int, cut, got, integer}
 use Rattle.rules.specs.Reading.{Kept, settings, goaway, max-push-id, cancel-push, skipped, kept, Ruling, refuse, accept, Next, stop, go, lacking, Grammar}
 
@@ -14,9 +14,9 @@ use Rattle.rules.specs.Reading.{Kept, settings, goaway, max-push-id, can
 
 -- what is kept of them
 pub record Settings : Type 0 where
-  pub section-size : Option ℕ             -- identifier 6; absent means unlimited
-  pub table-capacity : ℕ                  -- identifier 1 (QPACK); absent means 0
-  pub blocked-streams : ℕ                 -- identifier 7 (QPACK); absent means 0
+  pub section-size : Option ℕ  -- identifier 6; absent means unlimited
+  pub table-capacity : ℕ  -- identifier 1 (QPACK); absent means 0
+  pub blocked-streams : ℕ  -- identifier 7 (QPACK); absent means 0
 
 unfoldable pub no-settings : Settings
 no-settings = record { section-size = none; table-capacity = 0; blocked-streams = 0 }
@@ -24,9 +24,15 @@ no-settings = record { section-size = none; table-capacity = 0; blocked-streams 
 -- others, 0 among them, are ignored
 unfoldable pub set-to : (identifier value : ℕ) → Settings → Settings
 set-to i v s =
-    elim (eqb i 6) [ true ↦ record { section-size = some v; table-capacity = s .table-capacity; blocked-streams = s .blocked-streams } | false ↦
-    elim (eqb i 1) [ true ↦ record { section-size = s .section-size; table-capacity = v; blocked-streams = s .blocked-streams } | false ↦
-    elim (eqb i 7) [ true ↦ record { section-size = s .section-size; table-capacity = s .table-capacity; blocked-streams = v } | false ↦ s ] ] ]
+    elim (eqb i 6) [
+      | true ↦ record { section-size = some v; table-capacity = s .table-capacity; blocked-streams = s .blocked-streams }
+      | false ↦
+          elim (eqb i 1) [
+            | true ↦ record { section-size = s .section-size; table-capacity = v; blocked-streams = s .blocked-streams }
+            | false ↦
+                elim (eqb i 7) [ true ↦ record { section-size = s .section-size; table-capacity = s .table-capacity; blocked-streams = v } | false ↦ s ]
+          ]
+    ]
 
 unfoldable pub reserved-identifiers : List ℕ
 reserved-identifiers = 2 ∷ 3 ∷ 4 ∷ 5 ∷ []
@@ -38,12 +44,15 @@ pairs zero seen s payload = go s
 pairs (suc fuel) seen s [] = go s
 pairs (suc fuel) seen s (b ∷ bs) =
     elim (integer 0 (b ∷ bs)) [
-      cut ↦ stop 0x0106
-    | got identifier at rest ↦ elim (integer 0 rest) [
-        cut ↦ stop 0x0106
-      | got value to shorter ↦ elim (isOneOf reserved-identifiers identifier || isOneOf seen identifier) [
-          true ↦ stop 0x0109
-        | false ↦ pairs fuel (identifier ∷ seen) (set-to identifier value s) shorter ] ] ]
+      | cut ↦ stop 0x0106
+      | got identifier at rest ↦ elim (integer 0 rest) [
+        | cut ↦ stop 0x0106
+        | got value to shorter ↦ elim (isOneOf reserved-identifiers identifier || isOneOf seen identifier) [
+          | true ↦ stop 0x0109
+          | false ↦ pairs fuel (identifier ∷ seen) (set-to identifier value s) shorter
+        ]
+      ]
+    ]
 
 unfoldable pub settings-of : (payload : List ℕ) → Next Settings
 settings-of payload = pairs (length payload) [] no-settings payload
@@ -58,30 +67,43 @@ pub data Control : Type 0 where
 unfoldable pub settings-limit : ℕ
 settings-limit = 256
 
--- the frame table, second column
-unfoldable pub forbidden-types : List ℕ
-forbidden-types = 0 ∷ 1 ∷ 2 ∷ 4 ∷ 5 ∷ 6 ∷ 8 ∷ 9 ∷ []
+-- the frame table, second column, behind SETTINGS
+pub data Kind : Type 0 where
+  forbidden : Kind
+  one-integer : Kept → Kind  -- 0x0108 for CANCEL_PUSH comes once its integer is read
+  unknown : Kind
 
--- types 3, 7 and 13 hold exactly one integer
-unfoldable pub one-integer : (len : ℕ) → Kept → Control → Ruling Control
-one-integer len k c = elim (eqb len 0 || ltb 8 len) [ true ↦ refuse 0x0106 | false ↦ accept (kept k) c ]
+unfoldable pub column : List (ℕ × Kind)
+column =
+    (0, forbidden)
+    ∷ (1, forbidden)
+    ∷ (4, forbidden)
+    ∷ (3, one-integer cancel-push)
+    ∷ (7, one-integer goaway)
+    ∷ (13, one-integer max-push-id)
+    ∷ (5, forbidden)
+    ∷ (2, forbidden)
+    ∷ (6, forbidden)
+    ∷ (8, forbidden)
+    ∷ (9, forbidden)
+    ∷ []
 
-unfoldable pub set-rule : Control → (type len : ℕ) → Ruling Control
-set-rule c t len =
-    elim (isOneOf forbidden-types t) [ true ↦ refuse 0x0105 | false ↦
-    elim (eqb t 3) [ true ↦ one-integer len cancel-push c | false ↦
-    elim (eqb t 7) [ true ↦ one-integer len goaway c | false ↦
-    elim (eqb t 13) [ true ↦ one-integer len max-push-id c | false ↦ accept skipped c ] ] ] ]
+-- one integer takes 1 to 8 bytes
+unfoldable pub ruleFor : Kind → Control → (len : ℕ) → Ruling Control
+ruleFor forbidden c len = refuse 0x0105
+ruleFor (one-integer k) c len = elim (eqb len 0 || ltb 8 len) [ true ↦ refuse 0x0106 | false ↦ accept (kept k) c ]
+ruleFor unknown c len = accept skipped c
 
 -- a first frame other than SETTINGS is 0x010a, before all else
 unfoldable pub first-rule : (type len : ℕ) → Ruling Control
 first-rule t len = elim (eqb t 4) [
-    false ↦ refuse 0x010a
-  | true ↦ elim (ltb settings-limit len) [ true ↦ refuse 0x0107 | false ↦ accept (kept settings) unset ] ]
+  | false ↦ refuse 0x010a
+  | true ↦ elim (ltb settings-limit len) [ true ↦ refuse 0x0107 | false ↦ accept (kept settings) unset ]
+]
 
 unfoldable pub rule : Control → (type len : ℕ) → Ruling Control
 rule unset t len = first-rule t len
-rule (set s g m) t len = set-rule (set s g m) t len
+rule (set s g m) t len = ruleFor (lookup column unknown t) (set s g m) len
 
 -- the integer that is the whole of a payload
 unfoldable pub only : Int → Option ℕ
@@ -129,7 +151,8 @@ control = record {
   given = λ t c s. go c;
   judged = judged;
   end = λ c. lacking 0x0104;
-  cut = 0x0104 }
+  cut = 0x0104;
+}
 
 -- ---- what a kept frame tells the host
 

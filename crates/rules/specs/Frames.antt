@@ -29,12 +29,15 @@ framesUpTo zero at bs = none
 framesUpTo (suc fuel) at [] = none
 framesUpTo (suc fuel) at (b ∷ bs) =
     elim (integer at (b ∷ bs)) [
-      cut ↦ in-header
-    | got type here rest ↦ elim (integer here rest) [
-        cut ↦ in-header
-      | got len from pay ↦ elim (ltb (length pay) len) [
-          true ↦ in-payload (record { at = at; from = from; type = type; len = len }) pay
-        | false ↦ frame (record { at = at; from = from; type = type; len = len }) (take len pay) (framesUpTo fuel (from + len) (drop len pay)) ] ] ]
+      | cut ↦ in-header
+      | got type here rest ↦ elim (integer here rest) [
+        | cut ↦ in-header
+        | got len from pay ↦ elim (ltb (length pay) len) [
+          | true ↦ in-payload (record { at = at; from = from; type = type; len = len }) pay
+          | false ↦ frame (record { at = at; from = from; type = type; len = len }) (take len pay) (framesUpTo fuel (from + len) (drop len pay))
+        ]
+      ]
+    ]
 
 -- the frames from an offset on
 unfoldable pub framesFrom : (at : ℕ) → List ℕ → Frames

@@ -16,11 +16,11 @@ pub data Message : Type 0 where
   trailed : (stated : Option ℕ) (sum : ℕ) → Message
 
 pub data Reason : Type 0 where
-  out-of-place : Reason          -- DATA before the header section or behind the trailers, or a third section
-  past-stated : Reason           -- DATA takes the sum past the Content-Length
-  past-limit : Reason            -- none is stated, and DATA takes the sum past the limit
-  no-section : Reason            -- the end, and no header section has come
-  unequal : Reason               -- the end, and the sum is not the Content-Length
+  out-of-place : Reason  -- DATA before the header section or behind the trailers, or a third section
+  past-stated : Reason  -- DATA takes the sum past the Content-Length
+  past-limit : Reason  -- none is stated, and DATA takes the sum past the limit
+  no-section : Reason  -- the end, and no header section has come
+  unequal : Reason  -- the end, and the sum is not the Content-Length
 
 pub data Step : Type 0 where
   goes : Message → Step
@@ -60,4 +60,3 @@ unfoldable pub ends : Message → Ended
 ends opening = lacks no-section
 ends (body stated sum) = tally stated sum
 ends (trailed stated sum) = tally stated sum
-

@@ -3,9 +3,8 @@ use Prim.Native.Nat.{ℕ}
 use mathlib.Core.List.{List, [], _∷_}
 use mathlib.Core.Bool.{true, false}
 use mathlib.Core.Option.{Option, none, some}
-use lib.Dec.{eqb}
 use lib.ListN.{length}
-use Rattle.rules.specs.Text.{isOneOf}
+use Rattle.rules.specs.Text.{isOneOf, lookup}
 use Rattle.rules.specs.Integers.{Int, cut, got, integer}
 use Rattle.rules.specs.Reading.{Reading, readFrom}
 use Rattle.rules.specs.Control.{control}
@@ -22,23 +21,27 @@ pub data Typed : Type 0 where
   refuse : (code : ℕ) → Typed
   is : Kind → Typed
 
--- 0 control, 2 and 3 QPACK, each once: `seen` are the types of those that came before on the connection. 1 is no client's.
+-- a stream that a connection has once: `seen` are the types of those that came before
 unfoldable pub once : (seen : List ℕ) (type : ℕ) → Kind → Typed
 once seen t k = elim (isOneOf seen t) [ true ↦ refuse 0x0103 | false ↦ is k ]
 
 unfoldable pub typeRule : (seen : List ℕ) (type : ℕ) → Typed
 typeRule seen t =
-    elim (eqb t 0) [ true ↦ once seen 0 a-control | false ↦
-    elim (eqb t 1) [ true ↦ refuse 0x0103 | false ↦
-    elim (eqb t 2) [ true ↦ once seen 2 (a-qpack encoder) | false ↦
-    elim (eqb t 3) [ true ↦ once seen 3 (a-qpack decoder) | false ↦ is skipped ] ] ] ]
+    lookup
+    ((0, once seen 0 a-control)
+    ∷ (1, refuse 0x0103)
+    ∷ (2, once seen 2 (a-qpack encoder))
+    ∷ (3, once seen 3 (a-qpack decoder))
+    ∷ [])
+    (is skipped)
+    t
 
 -- What such a stream means.
 pub data OneWay : Type 0 where
-  untyped : OneWay                                  -- its type has not come whole
-  refused : (code place : ℕ) → OneWay               -- at the type's last byte
-  of-control : Reading → OneWay                     -- frames behind the type
-  of-qpack : Qpack → (bytes : List ℕ) → OneWay       -- the bytes behind the type
+  untyped : OneWay  -- its type has not come whole
+  refused : (code place : ℕ) → OneWay  -- at the type's last byte
+  of-control : Reading → OneWay  -- frames behind the type
+  of-qpack : Qpack → (bytes : List ℕ) → OneWay  -- the bytes behind the type
   passed-over : OneWay
 
 unfoldable pub typed : (next total : ℕ) → (rest : List ℕ) → Typed → OneWay

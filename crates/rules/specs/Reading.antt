@@ -18,10 +18,10 @@ pub data Kept : Type 0 where
 
 -- What a payload is for.
 pub data Use : Type 0 where
-  content : Use                       -- handed on as content
-  skipped : Use                       -- passed over
-  section : Part → Use                -- handed on to the decoder; judged from the section that comes back
-  kept : Kept → Use                   -- kept; judged from the payload itself
+  content : Use  -- handed on as content
+  skipped : Use  -- passed over
+  section : Part → Use  -- handed on to the decoder; judged from the section that comes back
+  kept : Kept → Use  -- kept; judged from the payload itself
 
 -- A header is refused with a code, or its payload has a use, and P is where the stream then stands.
 pub data Ruling (P : Type 0) : Type 0 where
@@ -39,28 +39,28 @@ pub data End : Type 0 where
   lacking : (code : ℕ) → End
 
 pub record Grammar : Type 1 where
-  pub P : Type 0                                     -- where a stream stands between two frames
+  pub P : Type 0  -- where a stream stands between two frames
   pub start : P
-  pub rule : P → (type len : ℕ) → Ruling P           -- a header, judged at its last byte
-  pub given : Part → P → Section → Next P            -- the section that was due
+  pub rule : P → (type len : ℕ) → Ruling P  -- a header, judged at its last byte
+  pub given : Part → P → Section → Next P  -- the section that was due
   pub judged : Kept → P → (payload : List ℕ) → Next P
-  pub end : P → End                                  -- an end between two frames
-  pub cut : ℕ                                        -- the code of an end inside a frame, its header included
+  pub end : P → End  -- an end between two frames
+  pub cut : ℕ  -- the code of an end inside a frame, its header included
 
 -- ---- a reading
 
 pub data Verdict : Type 0 where
   whole : Verdict
-  fault : (code place : ℕ) → Verdict                 -- the place counts the bytes up to and including the deciding one
-  waits : (place : ℕ) → Verdict                      -- a section is due and none is left
+  fault : (code place : ℕ) → Verdict  -- the place counts the bytes up to and including the deciding one
+  waits : (place : ℕ) → Verdict  -- a section is due and none is left
 
 -- What a reading says, in order.
 pub data Saying : Type 0 where
-  header : Header → Use → Saying                     -- an accepted header and what its payload is for
-  refused : Header → Saying                          -- a header that is refused; nothing is said after it
+  header : Header → Use → Saying  -- an accepted header and what its payload is for
+  refused : Header → Saying  -- a header that is refused; nothing is said after it
   section-byte : ℕ → Saying
   content-byte : ℕ → Saying
-  frame-kept : Kept → (payload : List ℕ) → Saying    -- a kept payload, judged good
+  frame-kept : Kept → (payload : List ℕ) → Saying  -- a kept payload, judged good
 
 pub record Reading : Type 0 where
   pub said : List Saying
@@ -108,14 +108,17 @@ module _ (G : Grammar) where
     judge p sections no-more = ending (ended (G .end p) total)
     judge p sections in-header = ending (fault (G .cut) total)
     judge p sections (in-payload h part) = elim (G .rule p (h .type) (h .len)) [
-        refuse code ↦ put (refused h ∷ []) (ending (fault code (h .from)))
-      | accept u q ↦ put (header h u ∷ told u part) (ending (fault (G .cut) total)) ]
+      | refuse code ↦ put (refused h ∷ []) (ending (fault code (h .from)))
+      | accept u q ↦ put (header h u ∷ told u part) (ending (fault (G .cut) total))
+    ]
     judge p sections (frame h payload fs) = elim (G .rule p (h .type) (h .len)) [
-        refuse code ↦ put (refused h ∷ []) (ending (fault code (h .from)))
+      | refuse code ↦ put (refused h ∷ []) (ending (fault code (h .from)))
       | accept u q ↦ put (header h u ∷ told u payload) (elim (completed u q payload sections) [
-          stops code ↦ ending (fault code (h .from + h .len))
+        | stops code ↦ ending (fault code (h .from + h .len))
         | waiting ↦ ending (waits (h .from + h .len))
-        | on r rest says ↦ put says (judge r rest fs) ]) ]
+        | on r rest says ↦ put says (judge r rest fs)
+      ])
+    ]
 
   -- What a stream of `total` bytes means, once it is ended, whose frames are these bytes from an offset on.
   unfoldable pub readFrom : (at total : ℕ) → List Section → List ℕ → Reading

@@ -3,8 +3,8 @@ use Prim.Native.Nat.{ℕ}
 use mathlib.Core.List.{List, [], _∷_}
 use mathlib.Core.Bool.{true, false}
 use mathlib.Core.Option.{Option}
-use lib.Dec.{ltb, eqb}
-use Rattle.rules.specs.Text.{isOneOf}
+use lib.Dec.{ltb}
+use Rattle.rules.specs.Text.{lookup}
 use Rattle.rules.specs.Block.{Section}
 use Rattle.rules.specs.Section.{Judgement, refused, sound, Head, header-section as judge-header-section, trailers as judge-trailers, codeOf as section-code}
 use Rattle.rules.specs.Reading.{Part, header-section, trailers, content, skipped, section, Ruling, refuse, accept, Next, stop, go, End, complete, lacking, Grammar}
@@ -45,14 +45,23 @@ all-sound stated = record { header = λ s. good stated; trailer = λ s. good }
 pub data Kind : Type 0 where
   data· headers forbidden unknown : Kind
 
-unfoldable pub forbidden-types : List ℕ
-forbidden-types = 2 ∷ 3 ∷ 4 ∷ 5 ∷ 6 ∷ 7 ∷ 8 ∷ 9 ∷ 13 ∷ []
+unfoldable pub column : List (ℕ × Kind)
+column =
+    (0, data·)
+    ∷ (1, headers)
+    ∷ (4, forbidden)
+    ∷ (3, forbidden)
+    ∷ (7, forbidden)
+    ∷ (13, forbidden)
+    ∷ (5, forbidden)
+    ∷ (2, forbidden)
+    ∷ (6, forbidden)
+    ∷ (8, forbidden)
+    ∷ (9, forbidden)
+    ∷ []
 
 unfoldable pub kindOf : (type : ℕ) → Kind
-kindOf t =
-    elim (eqb t 0) [ true ↦ data· | false ↦
-    elim (eqb t 1) [ true ↦ headers | false ↦
-    elim (isOneOf forbidden-types t) [ true ↦ forbidden | false ↦ unknown ] ] ]
+kindOf t = lookup column unknown t
 
 unfoldable pub codeOf : Reason → ℕ
 codeOf out-of-place = 0x0105
@@ -117,4 +126,5 @@ request R = record {
   given = given R;
   judged = λ k m payload. go m;
   end = λ m. end-of (ends m);
-  cut = 0x0106 }
+  cut = 0x0106;
+}

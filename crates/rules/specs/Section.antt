@@ -286,7 +286,7 @@ firstBroken (c ∷ cs) s = elim (c .broken s) [ true ↦ some (c .reason) | fals
 -- what a sound header section says
 pub record Head : Type 0 where
   pub method : List ℕ
-  pub stated : Option ℕ               -- its Content-Length
+  pub stated : Option ℕ  -- its Content-Length
 
 pub data Judgement (A : Type 0) : Type 0 where
   refused : Reason → Judgement A

@@ -32,6 +32,11 @@ unfoldable pub isOneOf : List ℕ → ℕ → Bool
 isOneOf [] b = false
 isOneOf (x ∷ xs) b = eqb b x || isOneOf xs b
 
+-- a table by number; what is not in it is other
+unfoldable pub lookup : {A : Type 0} → (table : List (ℕ × A)) (other : A) (key : ℕ) → A
+lookup [] other key = other
+lookup (row ∷ rows) other key = elim (eqb key (row .0)) [ true ↦ row .1 | false ↦ lookup rows other key ]
+
 unfoldable pub any : {A : Type 0} → (A → Bool) → List A → Bool
 any test [] = false
 any test (x ∷ xs) = test x || any test xs
