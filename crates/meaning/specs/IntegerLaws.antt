@@ -15,7 +15,7 @@ use Rattle.rules.specs.Integers.{Int, cut, got, more, extra, integer, Row, row,
 -- ---- reading
 
 -- the bytes that an integer leaves
-more-length : (k v at : ℕ) (bs : List ℕ) {t here : ℕ} {rest : List ℕ} → more k v at bs ≡ got t here rest → (here + length rest ≡ at + length bs) × (length rest ≤ length bs)
+pub more-length : (k v at : ℕ) (bs : List ℕ) {t here : ℕ} {rest : List ℕ} → more k v at bs ≡ got t here rest → (here + length rest ≡ at + length bs) × (length rest ≤ length bs)
 unfolding more
 more-length zero v at bs {t} {here} {rest} e =
     let n : at ≡ here = cc in

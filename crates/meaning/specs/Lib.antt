@@ -7,6 +7,7 @@ pub mod Bridge
 pub mod Cut
 pub mod Shift
 pub mod Feed
+pub mod FeedLaws
 pub mod Feeds
 pub mod EveryFeed
 pub mod First
