@@ -8,6 +8,7 @@ pub mod Cut
 pub mod Shift
 pub mod Feed
 pub mod FeedLaws
+pub mod Hom
 pub mod Feeds
 pub mod EveryFeed
 pub mod First

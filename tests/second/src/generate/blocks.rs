@@ -130,6 +130,12 @@ fn set(lines: &mut Lines, name: &str, value: &[u8]) {
     }
 }
 
+fn set_present(lines: &mut Lines, name: &str, value: &str) {
+    if lines.iter().any(|line| line.0 == name.as_bytes()) {
+        set(lines, name, value.as_bytes());
+    }
+}
+
 fn remove(lines: &mut Lines, name: &str) {
     lines.retain(|line| line.0 != name.as_bytes());
 }
@@ -196,7 +202,15 @@ pub fn flaw_lines(random: &mut Random, lines: &mut Lines) {
             let value = random.pick(&CONTENT_LENGTHS);
             lines.push(line("content-length", value));
         }
-        16 => lines.push(line("host", random.pick(&["", "a", "a@b", "example.org", "Example.org"]))),
+        16 => {
+            let authority = lines.iter().find(|line| line.0 == b":authority");
+            let near = authority.map_or(b"a".to_vec(), |line| line.1.to_ascii_uppercase());
+            let host = match random.below(3) {
+                0 => near,
+                _ => random.pick(&["", "a", "a@b", "example.org"]).as_bytes().to_vec(),
+            };
+            lines.push((b"host".to_vec(), host));
+        }
         17 => {
             let name = random.pick(&[
                 ":protocol",
@@ -236,11 +250,29 @@ pub fn flaw_lines(random: &mut Random, lines: &mut Lines) {
     }
 }
 
+/// Bytes beside the bounds of the classes.
+const BOUNDS: &[u8] = b"\x00\x08\x09\x0a\x0d\x1f\x20!\"/0:9;@AZ[`a{z|}~\x7f\x80\xff";
+
 fn change_byte(random: &mut Random, bytes: &mut Vec<u8>) {
-    let byte = random.byte();
+    let byte = if random.one_in(2) { random.byte() } else { random.pick(BOUNDS) };
     match bytes.len() {
         0 => bytes.push(byte),
         length => bytes[random.index(length)] = byte,
+    }
+}
+
+/// Two flaws of a header section that its order tells apart; pseudo-fields stay in front.
+pub fn flaw_order(random: &mut Random, lines: &mut Lines) {
+    for _ in 0..2 {
+        match random.below(7) {
+            0 => set(lines, ":method", b"CONNECT"),
+            1 => remove(lines, random.pick(&[":scheme", ":path"])),
+            2 => set_present(lines, ":scheme", random.pick(&["ftp", "HTTP", ""])),
+            3 => set_present(lines, ":path", random.pick(&["", "x", "*", "*x"])),
+            4 => set_present(lines, ":authority", random.pick(&["", "a@b", "A"])),
+            5 => set(lines, "content-length", random.pick(&["1048577", "4611686018427387903"]).as_bytes()),
+            _ => set(lines, ":method", b"OPTIONS"),
+        }
     }
 }
 
@@ -320,11 +352,19 @@ fn any_for(random: &mut Random, part: Part) -> Vec<u8> {
         Part::Trailers if random.percent(85) => sound_trailers(random),
         _ => sound_header_section(random, content_length),
     };
-    if random.one_in(60) {
+    let limit = random.one_in(60);
+    if limit {
         to_size_limit(random, &mut lines);
     }
-    for _ in 0..random.pick(&[0, 1, 1, 1, 1, 1, 2, 2]) {
-        flaw_lines(random, &mut lines);
+    match random.below(8) {
+        0 => {}
+        1 if part == Part::HeaderSection => flaw_order(random, &mut lines),
+        2 => {
+            flaw_lines(random, &mut lines);
+            flaw_lines(random, &mut lines);
+        }
+        _ if limit => {}
+        _ => flaw_lines(random, &mut lines),
     }
     let mut block = bytes(&lines);
     if random.one_in(7) {

@@ -322,7 +322,8 @@ pub fn broken_control(random: &mut Random, goaway: Option<u64>, max_push: Option
             let length = random.between(1, 8) as usize;
             Draft::new(integer_type, random.bytes(length))
         }
-        7 => sound_settings(random),
+        7 if random.one_in(2) => sound_settings(random),
+        7 => broken_settings(random),
         8 => {
             let length = random.pick(&[0, 2]);
             let kind = random.pick(&[0, 1, 2, 5, 6, 8, 9]);

@@ -366,8 +366,10 @@ impl Schedule {
         if random.one_in(400) {
             blocks::to_size_limit(random, &mut lines);
         }
-        if random.percent(12) {
-            blocks::flaw_lines(random, &mut lines);
+        match random.below(20) {
+            0..=2 => blocks::flaw_lines(random, &mut lines),
+            3 if !trailers => blocks::flaw_order(random, &mut lines),
+            _ => {}
         }
         let mut block = blocks::bytes(&lines);
         if random.percent(8) {
