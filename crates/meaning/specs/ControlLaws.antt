@@ -5,7 +5,7 @@ use native.Mathlib.Omega.{arith}
 use mathlib.Core.List.{List, [], _∷_}
 use mathlib.Core.Bool.{Bool, true, false, _||_}
 use mathlib.Core.Option.{Option, some}
-use lib.Dec.{ltb, eqb, nltb→le, T}
+use lib.Dec.{ltb, eqb, nltb→le, lit≤, T}
 use lib.ListN.{length}
 use Rattle.rules.specs.Text.{isOneOf, lookup}
 use Rattle.rules.specs.Integers.{Int, cut, got, integer}
@@ -16,7 +16,7 @@ use Rattle.meaning.specs.IntegerLaws.{integer-length}
 -- ---- the rule answers one of these: nothing of a control stream is content or a section
 
 pub data ControlView : Ruling Control → Type 0 where
-  v-refused : {code : ℕ} → ControlView (refuse code)
+  v-refused : {code : ℕ} → 0x0103 ≤ code → ControlView (refuse code)  -- a code of the protocol
   v-skipped : {c : Control} → ControlView (accept skipped c)
   v-kept : {k : Kept} {c : Control} → ControlView (accept (kept k) c)
 
@@ -27,13 +27,13 @@ either false a b = b
 
 kind-view : (k : Kind) (c : Control) (len : ℕ) → ControlView (ruleFor k c len)
 unfolding ruleFor
-kind-view forbidden c len = v-refused
-kind-view (one-integer k) c len = either (eqb len 0 || ltb 8 len) v-refused v-kept
+kind-view forbidden c len = v-refused (lit≤ tt)
+kind-view (one-integer k) c len = either (eqb len 0 || ltb 8 len) (v-refused (lit≤ tt)) v-kept
 kind-view unknown c len = v-skipped
 
 pub control-view : (c : Control) (t len : ℕ) → ControlView (rule c t len)
 unfolding rule first-rule
-control-view unset t len = either (eqb t 4) (either (ltb settings-limit len) v-refused v-kept) v-refused
+control-view unset t len = either (eqb t 4) (either (ltb settings-limit len) (v-refused (lit≤ tt)) v-kept) (v-refused (lit≤ tt))
 control-view (set s g m) t len = kind-view (lookup column unknown t) (set s g m) len
 
 -- ---- more laws

@@ -119,11 +119,13 @@ module _ (G H : Grammar) (f : G .P → H .P) (c : Carries G H f) where
 
   map-length : (n t : ℕ) (p : G .P) (bs : List ℕ) → ((n : ℕ) (s : State (G .P)) → feed H n (map-state f s) bs ≡ map-feeding f (feed G n s bs)) → (x : Fed)
       → _≡_ {A = Feeding (H .P)} (elim x [
-          | going g ↦ also 0 (feed H (suc n) (in-length t g (f p)) bs)
-          | value len ↦ also 1 (behind-header H len (H .rule (f p) t len) (λ s. feed H n s bs)) ])
-        (map-feeding f (elim x [
-          | going g ↦ also 0 (feed G (suc n) (in-length t g p) bs)
-          | value len ↦ also 1 (behind-header G len (G .rule p t len) (λ s. feed G n s bs)) ]))
+        | going g ↦ also 0 (feed H (suc n) (in-length t g (f p)) bs)
+        | value len ↦ also 1 (behind-header H len (H .rule (f p) t len) (λ s. feed H n s bs))
+      ])
+      (map-feeding f (elim x [
+        | going g ↦ also 0 (feed G (suc n) (in-length t g p) bs)
+        | value len ↦ also 1 (behind-header G len (G .rule p t len) (λ s. feed G n s bs))
+      ]))
   unfolding map-state
   map-length n t p bs ih (going g) = ap (also 0) (ih (suc n) (in-length t g p)) ∙ map-also 0 _
   map-length n t p bs ih (value len) =

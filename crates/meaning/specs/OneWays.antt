@@ -401,7 +401,7 @@ left-none bl at (kept f) k (suc l) c h = tt
 
 ruled-none : (bl : List Section) (at len : ℕ) {r : Ruling Control} → ControlView r → NoSectionRun (settled control at bl (ruled control len r))
 unfolding ruled settled
-ruled-none bl at len v-refused = tt
+ruled-none bl at len (v-refused h) = tt
 ruled-none bl at len (v-skipped {c = c}) = left-none bl at skipped-frame [] len c tt
 ruled-none bl at len (v-kept {k = k} {c = c}) = left-none bl at (kept k) [] len c tt
 

@@ -5,11 +5,11 @@ use native.Mathlib.Omega.{arith}
 use mathlib.Core.List.{List, [], _∷_}
 use mathlib.Core.Bool.{Bool, true, false}
 use mathlib.Core.Option.{Option}
-use lib.Dec.{ltb, ltb→lt, nltb→le, T}
+use lib.Dec.{ltb, ltb→lt, nltb→le, lit≤, T}
 use Rattle.rules.specs.Text.{lookup}
 use Rattle.rules.specs.Reading.{header-section, trailers, content, skipped, section, Ruling, refuse, accept}
-use Rattle.rules.specs.Message.{Message, opening, body, trailed, Step, goes, refuses, carries}
-use Rattle.rules.specs.Request.{Kind, data·, headers, forbidden, unknown, column, kindOf, headers-limit, within-limit, data-rule, headers-rule, ruleFor, rule}
+use Rattle.rules.specs.Message.{Message, opening, body, trailed, Reason, out-of-place, past-stated, past-limit, no-section, unequal, Step, goes, refuses, carries}
+use Rattle.rules.specs.Request.{Kind, data·, headers, forbidden, unknown, column, kindOf, codeOf, headers-limit, within-limit, data-rule, headers-rule, ruleFor, rule}
 use Rattle.rules.specs.Legal.{Unknown}
 use Rattle.meaning.specs.TextLaws.{Absent, lookup-view, lookup-absent}
 
@@ -44,39 +44,47 @@ kind-view t = lookup-view t (KindView t) column unknown
 -- ---- the rule answers one of these
 
 pub data RuleView (t len : ℕ) : Message → Ruling Message → Type 0 where
-  r-refused : {m : Message} {code : ℕ} → RuleView t len m (refuse code)
+  r-refused : {m : Message} {code : ℕ} → 0x0103 ≤ code → RuleView t len m (refuse code)  -- a code of the protocol
   r-skipped : {m : Message} → Unknown t → RuleView t len m (accept skipped m)
   r-content : {m q : Message} → t ≡ 0 → carries len m ≡ goes q → RuleView t len m (accept content q)
   r-header : t ≡ 1 → len ≤ headers-limit → RuleView t len opening (accept (section header-section) opening)
   r-trailers : {stated : Option ℕ} {sum : ℕ} → t ≡ 1 → len ≤ headers-limit
       → RuleView t len (body stated sum) (accept (section trailers) (body stated sum))
 
+code-high : (r : Reason) → 0x0103 ≤ codeOf r
+unfolding codeOf
+code-high out-of-place = lit≤ tt
+code-high past-stated = lit≤ tt
+code-high past-limit = lit≤ tt
+code-high no-section = lit≤ tt
+code-high unequal = lit≤ tt
+
 data-view : (t len : ℕ) (m : Message) → t ≡ 0 → (s : Step) → carries len m ≡ s → RuleView t len m (data-rule s)
 unfolding data-rule
 data-view t len m z (goes q) e = r-content z e
-data-view t len m z (refuses r) e = r-refused
+data-view t len m z (refuses r) e = r-refused (code-high r)
 
 header-view : (t len : ℕ) → t ≡ 1 → (x : Bool) → ltb headers-limit len ≡ x
     → RuleView t len opening (elim x [ true ↦ refuse 0x0107 | false ↦ accept (section header-section) opening ])
-header-view t len z true e = r-refused
+header-view t len z true e = r-refused (lit≤ tt)
 header-view t len z false e = r-header z (nltb→le headers-limit len (rw e tt))
 
 trailer-view : (t len : ℕ) (stated : Option ℕ) (sum : ℕ) → t ≡ 1 → (x : Bool) → ltb headers-limit len ≡ x
     → RuleView t len (body stated sum) (elim x [ true ↦ refuse 0x0107 | false ↦ accept (section trailers) (body stated sum) ])
-trailer-view t len stated sum z true e = r-refused
+trailer-view t len stated sum z true e = r-refused (lit≤ tt)
 trailer-view t len stated sum z false e = r-trailers z (nltb→le headers-limit len (rw e tt))
 
 headers-view : (t len : ℕ) (m : Message) → t ≡ 1 → RuleView t len m (headers-rule len m)
 unfolding headers-rule within-limit
 headers-view t len opening z = header-view t len z (ltb headers-limit len) refl
 headers-view t len (body stated sum) z = trailer-view t len stated sum z (ltb headers-limit len) refl
-headers-view t len (trailed stated sum) z = r-refused
+headers-view t len (trailed stated sum) z = r-refused (code-high out-of-place)
 
 kind-rule : (m : Message) (t len : ℕ) {k : Kind} → KindView t k → RuleView t len m (ruleFor k m len)
 unfolding ruleFor
 kind-rule m t len (k-data z) = data-view t len m z (carries len m) refl
 kind-rule m t len (k-headers z) = headers-view t len m z
-kind-rule m t len k-forbidden = r-refused
+kind-rule m t len k-forbidden = r-refused (lit≤ tt)
 kind-rule m t len (k-unknown u) = r-skipped u
 
 pub rule-view : (m : Message) (t len : ℕ) → RuleView t len m (rule m t len)

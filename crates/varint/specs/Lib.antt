@@ -1,0 +1,4 @@
+pub mod ByByte
+pub mod Whole
+pub mod Shortest
+pub mod Write
