@@ -15,23 +15,23 @@ use Rattle.meaning.specs.IntegerLaws.{integer-length}
 
 -- ---- the rule answers one of these: nothing of a control stream is content or a section
 
-pub data ControlView : Ruling Control → Type 0 where
-  v-refused : {code : ℕ} → 0x0103 ≤ code → ControlView (refuse code)  -- a code of the protocol
-  v-skipped : {c : Control} → ControlView (accept skipped c)
-  v-kept : {k : Kept} {c : Control} → ControlView (accept (kept k) c)
+pub data ControlView (c : Control) : Ruling Control → Type 0 where
+  v-refused : {code : ℕ} → 0x0103 ≤ code → ControlView c (refuse code)  -- a code of the protocol
+  v-skipped : ControlView c (accept skipped c)
+  v-kept : {k : Kept} → ControlView c (accept (kept k) c)
 
 -- whichever way a test goes
-either : (x : Bool) {a b : Ruling Control} → ControlView a → ControlView b → ControlView (elim x [ true ↦ a | false ↦ b ])
+either : {c : Control} (x : Bool) {a b : Ruling Control} → ControlView c a → ControlView c b → ControlView c (elim x [ true ↦ a | false ↦ b ])
 either true a b = a
 either false a b = b
 
-kind-view : (k : Kind) (c : Control) (len : ℕ) → ControlView (ruleFor k c len)
+kind-view : (k : Kind) (c : Control) (len : ℕ) → ControlView c (ruleFor k c len)
 unfolding ruleFor
 kind-view forbidden c len = v-refused (lit≤ tt)
 kind-view (one-integer k) c len = either (eqb len 0 || ltb 8 len) (v-refused (lit≤ tt)) v-kept
 kind-view unknown c len = v-skipped
 
-pub control-view : (c : Control) (t len : ℕ) → ControlView (rule c t len)
+pub control-view : (c : Control) (t len : ℕ) → ControlView c (rule c t len)
 unfolding rule first-rule
 control-view unset t len = either (eqb t 4) (either (ltb settings-limit len) (v-refused (lit≤ tt)) v-kept) (v-refused (lit≤ tt))
 control-view (set s g m) t len = kind-view (lookup column unknown t) (set s g m) len

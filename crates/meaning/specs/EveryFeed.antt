@@ -237,3 +237,39 @@ feed-marks G = every-feed G Marked (record {
   byte = λ allow b bs f q. also-marked 0 allow q;
   header-byte = λ allow b bs f q. also-marked 1 (suc allow) q;
 })
+
+-- ---- no refusal gives an event
+
+never-dies : {P : Type 0} {A : Type 0} (s : State P) (code : ℕ) → lives s ≡ dies code → A
+never-dies s code e = let z : _≡_ {A = ℕ} 0 1 = cc in absurd (omega arith)
+
+abbrev isPart : Use → Bool
+isPart content = true
+isPart skipped = false
+isPart (section t) = true
+isPart (kept k) = false
+
+part-lives : (G : Grammar) (u : Use) → isPart u ≡ true → (j l : ℕ) (p : G .P) (code : ℕ) → taking G u j l p .after ≡ dies code → ⊥
+unfolding taking with-left over
+part-lives G content h j zero p code e = never-dies (between p) code e
+part-lives G content h j (suc l) p code e = never-dies (in-payload content [] l p) code e
+part-lives G skipped h j l p code e = let z : _≡_ {A = ℕ} 0 1 = cc in omega arith
+part-lives G (section t) h j zero p code e = never-dies (due t p) code e
+part-lives G (section t) h j (suc l) p code e = never-dies (in-payload (section t) [] l p) code e
+part-lives G (kept k) h j l p code e = let z : _≡_ {A = ℕ} 0 1 = cc in omega arith
+
+-- A FAULT IS SILENT
+pub feed-silent : (G : Grammar) (allow : ℕ) (s : State (G .P)) (piece : List ℕ) (code : ℕ) → feed G allow s piece .after ≡ dies code → feed G allow s piece .event ≡ quiet
+unfolding halt also taking
+feed-silent G allow s piece = every-feed G (λ allow piece f. (code : ℕ) → f .after ≡ dies code → f .event ≡ quiet) (record {
+  nothing-left = λ allow s code e. refl;
+  none-allowed = λ s piece code e. refl;
+  waiting = λ allow piece t p code e. refl;
+  fault = λ allow piece c code e. refl;
+  empty-section = λ allow piece t p code e. never-dies (due t p) code e;
+  told = λ allow piece k payload p code e. never-dies (between p) code e;
+  content-part = λ allow left b bs p code e. absurd (part-lives G content refl (min left (length bs)) (left - min left (length bs)) p code e);
+  section-part = λ allow left b bs t p code e. absurd (part-lives G (section t) refl (min left (length bs)) (left - min left (length bs)) p code e);
+  byte = λ allow b bs f q. q;
+  header-byte = λ allow b bs f q. q;
+}) allow s piece

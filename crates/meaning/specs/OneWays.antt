@@ -399,11 +399,11 @@ left-none bl at (section t) k l c h = absurd h
 left-none bl at (kept f) k zero c h = answered-none bl at (control .judged f c k)
 left-none bl at (kept f) k (suc l) c h = tt
 
-ruled-none : (bl : List Section) (at len : ℕ) {r : Ruling Control} → ControlView r → NoSectionRun (settled control at bl (ruled control len r))
+ruled-none : (bl : List Section) (at len : ℕ) {c : Control} {r : Ruling Control} → ControlView c r → NoSectionRun (settled control at bl (ruled control len r))
 unfolding ruled settled
 ruled-none bl at len (v-refused h) = tt
-ruled-none bl at len (v-skipped {c = c}) = left-none bl at skipped-frame [] len c tt
-ruled-none bl at len (v-kept {k = k} {c = c}) = left-none bl at (kept k) [] len c tt
+ruled-none bl at len {c} v-skipped = left-none bl at skipped-frame [] len c tt
+ruled-none bl at len {c} (v-kept {k = k}) = left-none bl at (kept k) [] len c tt
 
 sized-none : (bl : List Section) (at t : ℕ) (c : Control) (x : Fed) → NoSectionRun (settled control at bl (sized control t c x))
 unfolding sized settled supplied

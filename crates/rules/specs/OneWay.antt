@@ -6,7 +6,7 @@ use mathlib.Core.Option.{Option, none, some}
 use lib.ListN.{length}
 use Rattle.rules.specs.Text.{isOneOf, lookup}
 use Rattle.rules.specs.Integers.{Int, cut, got, integer}
-use Rattle.rules.specs.Reading.{Reading, readFrom}
+use Rattle.rules.specs.Reading.{Verdict, whole, fault, waits, Reading, readFrom}
 use Rattle.rules.specs.Control.{control}
 
 pub data Qpack : Type 0 where
@@ -58,10 +58,16 @@ behind-type seen total (got type next rest) = typed next total rest (typeRule se
 unfoldable pub oneWay : (seen : List ℕ) → List ℕ → OneWay
 oneWay seen bytes = behind-type seen (length bytes) (integer 0 bytes)
 
--- Control and QPACK streams may be neither ended nor reset; the others are freed without fault, even before their type.
+-- Control and QPACK streams may be neither ended nor reset: a control stream's reading says so itself, by its end. The others are freed
+-- without fault, even before their type.
+unfoldable pub faultIn : Verdict → Option ℕ
+faultIn whole = none
+faultIn (fault code place) = some code
+faultIn (waits place) = none
+
 unfoldable pub closed : OneWay → Option ℕ
 closed untyped = none
 closed (refused code place) = some code
-closed (of-control r) = some 0x0104
+closed (of-control r) = faultIn (r .verdict)
 closed (of-qpack q bytes) = some 0x0104
 closed passed-over = none
