@@ -1,16 +1,19 @@
 -- Laws of the control rules (rules, Control), so that no one else opens them. Assumes nothing.
 use mathlib.Core.Path.{_≡_, refl}
-use Prim.Native.Nat.{ℕ, zero, suc, _≤_}
+use Prim.Native.Nat.{ℕ, zero, suc, _≤_, _<_}
 use native.Mathlib.Omega.{arith}
 use mathlib.Core.List.{List, [], _∷_}
 use mathlib.Core.Bool.{Bool, true, false, _||_}
 use mathlib.Core.Option.{Option, some}
 use lib.Dec.{ltb, eqb, nltb→le, lit≤, T}
+use borrow.Author.Tests.{lt-ltb, le-ltb, ne-eqb}
 use lib.ListN.{length}
 use Rattle.rules.specs.Text.{isOneOf, lookup}
 use Rattle.rules.specs.Integers.{Int, cut, got, integer}
 use Rattle.rules.specs.Reading.{Kept, settings, goaway, max-push-id, cancel-push, skipped, kept, Ruling, refuse, accept, Next, stop, go}
 use Rattle.rules.specs.Control.{Settings, set-to, reserved-identifiers, pairs, Control, unset, set, settings-limit, Kind, forbidden, one-integer, unknown, column, ruleFor, first-rule, rule, above, below, goaway-told, max-push-told}
+use Rattle.rules.specs.Legal.{Unknown}
+use Rattle.meaning.specs.TextLaws.{lookup-absent}
 use Rattle.meaning.specs.IntegerLaws.{integer-length}
 
 -- ---- the rule answers one of these: nothing of a control stream is content or a section
@@ -94,3 +97,80 @@ pairs-enough (suc f) zero seen s [] h k = refl
 pairs-enough (suc f) zero seen s (b ∷ bs) h k = absurd (omega arith)
 pairs-enough (suc f) (suc g) seen s [] h k = refl
 pairs-enough (suc f) (suc g) seen s (b ∷ bs) h k = enough-pair f g seen s b bs (pairs-enough f g) (omega arith) (omega arith) (integer 0 (b ∷ bs)) refl
+
+-- ---- each frame behind SETTINGS, and the first
+
+unfoldable pub typeOf : Kept → ℕ
+typeOf settings = 4
+typeOf goaway = 7
+typeOf max-push-id = 13
+typeOf cancel-push = 3
+
+-- a second SETTINGS is forbidden
+unfoldable pub integerKind : Kept → Kind
+integerKind settings = forbidden
+integerKind goaway = one-integer goaway
+integerKind max-push-id = one-integer max-push-id
+integerKind cancel-push = one-integer cancel-push
+
+forbidden-row : (t : ℕ) → t < 10 → (t ≡ 3 → ⊥) → (t ≡ 7 → ⊥) → lookup column unknown t ≡ forbidden
+unfolding lookup column
+forbidden-row zero l n3 n7 = refl
+forbidden-row (suc zero) l n3 n7 = refl
+forbidden-row (suc (suc zero)) l n3 n7 = refl
+forbidden-row (suc (suc (suc zero))) l n3 n7 = absurd (n3 refl)
+forbidden-row (suc (suc (suc (suc zero)))) l n3 n7 = refl
+forbidden-row (suc (suc (suc (suc (suc zero))))) l n3 n7 = refl
+forbidden-row (suc (suc (suc (suc (suc (suc zero)))))) l n3 n7 = refl
+forbidden-row (suc (suc (suc (suc (suc (suc (suc zero))))))) l n3 n7 = absurd (n7 refl)
+forbidden-row (suc (suc (suc (suc (suc (suc (suc (suc zero)))))))) l n3 n7 = refl
+forbidden-row (suc (suc (suc (suc (suc (suc (suc (suc (suc zero))))))))) l n3 n7 = refl
+forbidden-row (suc (suc (suc (suc (suc (suc (suc (suc (suc (suc k)))))))))) l n3 n7 = absurd (omega arith)
+
+module _ (s : Settings) (g m : Option ℕ) (len : ℕ) where
+  pub control-forbidden : (t : ℕ) → t < 10 → (t ≡ 3 → ⊥) → (t ≡ 7 → ⊥) → rule (set s g m) t len ≡ refuse 0x0105
+  unfolding rule ruleFor
+  control-forbidden t l n3 n7 = let e = forbidden-row t l n3 n7 in rw e
+
+  pub control-unknown : (t : ℕ) → Unknown t → rule (set s g m) t len ≡ accept skipped (set s g m)
+  unfolding rule ruleFor column Unknown
+  control-unknown t u =
+      let e = lookup-absent t column unknown
+      ((λ e. omega arith), ((λ e. omega arith), ((λ e. omega arith), ((λ e. omega arith), ((λ e. omega arith), (u .1, ((λ e. omega arith), ((λ e. omega arith), ((λ e. omega arith), ((λ e. omega arith), ((λ e. omega arith), tt))))))))))) in
+      rw e
+
+  -- CANCEL_PUSH, GOAWAY and MAX_PUSH_ID are the rows 3, 7 and 13
+  pub control-integer : (k : Kept) → rule (set s g m) (typeOf k) len ≡ ruleFor (integerKind k) (set s g m) len
+  unfolding rule lookup column typeOf integerKind
+  control-integer settings = refl
+  control-integer goaway = refl
+  control-integer max-push-id = refl
+  control-integer cancel-push = refl
+
+pub integer-fits : (k : Kept) (c : Control) (len : ℕ) → 0 < len → len ≤ 8 → ruleFor (one-integer k) c len ≡ accept (kept k) c
+unfolding ruleFor
+integer-fits k c len h l =
+    let a = ne-eqb len 0 (λ e. omega arith) in
+    let b = le-ltb 8 len l in
+    let e : (eqb len 0 || ltb 8 len) ≡ false = rw (a, b) refl in
+    rw (e, ruleFor)
+
+pub integer-empty : (k : Kept) (c : Control) → ruleFor (one-integer k) c 0 ≡ refuse 0x0106
+unfolding ruleFor
+integer-empty k c = refl
+
+pub integer-long : (k : Kept) (c : Control) (len : ℕ) → 8 < len → ruleFor (one-integer k) c len ≡ refuse 0x0106
+unfolding ruleFor
+integer-long k c len h =
+    let a = ne-eqb len 0 (λ e. omega arith) in
+    let b = lt-ltb 8 len h in
+    let e : (eqb len 0 || ltb 8 len) ≡ true = rw (a, b) refl in
+    rw (e, ruleFor)
+
+pub first-fits : (len : ℕ) → len ≤ settings-limit → rule unset 4 len ≡ accept (kept settings) unset
+unfolding rule first-rule
+first-fits len h = let e = le-ltb settings-limit len h in rw (e, first-rule)
+
+pub first-long : (len : ℕ) → settings-limit < len → rule unset 4 len ≡ refuse 0x0107
+unfolding rule first-rule
+first-long len h = let e = lt-ltb settings-limit len h in rw (e, first-rule)

@@ -1,14 +1,15 @@
 -- Laws of the request rules (rules, Request), so that no one else opens them. Assumes nothing.
 use mathlib.Core.Path.{_≡_, refl}
-use Prim.Native.Nat.{ℕ, suc, _≤_, _<_, zero-le}
+use Prim.Native.Nat.{ℕ, zero, suc, _+_, _≤_, _<_, zero-le}
 use native.Mathlib.Omega.{arith}
 use mathlib.Core.List.{List, [], _∷_}
 use mathlib.Core.Bool.{Bool, true, false}
-use mathlib.Core.Option.{Option}
+use mathlib.Core.Option.{Option, none, some}
+use borrow.Author.Tests.{lt-ltb}
 use lib.Dec.{ltb, ltb→lt, nltb→le, lit≤, T}
 use Rattle.rules.specs.Text.{lookup}
 use Rattle.rules.specs.Reading.{header-section, trailers, content, skipped, section, Ruling, refuse, accept}
-use Rattle.rules.specs.Message.{Message, opening, body, trailed, Reason, out-of-place, past-stated, past-limit, no-section, unequal, Step, goes, refuses, carries}
+use Rattle.rules.specs.Message.{content-limit, Message, opening, body, trailed, Reason, out-of-place, past-stated, past-limit, no-section, unequal, Step, goes, refuses, sum-to, carries}
 use Rattle.rules.specs.Request.{Kind, data·, headers, forbidden, unknown, column, kindOf, codeOf, headers-limit, within-limit, data-rule, headers-rule, ruleFor, rule}
 use Rattle.rules.specs.Legal.{Unknown}
 use Rattle.meaning.specs.TextLaws.{Absent, lookup-view, lookup-absent}
@@ -111,3 +112,59 @@ rule-header len h = let e = short-enough len h (ltb headers-limit len) refl in r
 pub rule-trailers : (stated : Option ℕ) (sum len : ℕ) → len ≤ headers-limit → rule (body stated sum) 1 len ≡ accept (section trailers) (body stated sum)
 unfolding rule kindOf lookup column ruleFor headers-rule within-limit
 rule-trailers stated sum len h = let e = short-enough len h (ltb headers-limit len) refl in rw (e, within-limit)
+
+-- ---- and what is refused
+
+forbidden-kind : (t : ℕ) → 2 ≤ t → t < 10 → kindOf t ≡ forbidden
+unfolding kindOf lookup column
+forbidden-kind zero h l = absurd (omega arith)
+forbidden-kind (suc zero) h l = absurd (omega arith)
+forbidden-kind (suc (suc zero)) h l = refl
+forbidden-kind (suc (suc (suc zero))) h l = refl
+forbidden-kind (suc (suc (suc (suc zero)))) h l = refl
+forbidden-kind (suc (suc (suc (suc (suc zero))))) h l = refl
+forbidden-kind (suc (suc (suc (suc (suc (suc zero)))))) h l = refl
+forbidden-kind (suc (suc (suc (suc (suc (suc (suc zero))))))) h l = refl
+forbidden-kind (suc (suc (suc (suc (suc (suc (suc (suc zero)))))))) h l = refl
+forbidden-kind (suc (suc (suc (suc (suc (suc (suc (suc (suc zero))))))))) h l = refl
+forbidden-kind (suc (suc (suc (suc (suc (suc (suc (suc (suc (suc k)))))))))) h l = absurd (omega arith)
+
+pub rule-forbidden : (m : Message) (t len : ℕ) → 2 ≤ t → t < 10 → rule m t len ≡ refuse 0x0105
+unfolding rule ruleFor
+rule-forbidden m t len h l = let e = forbidden-kind t h l in rw e
+
+pub rule-thirteen : (m : Message) (len : ℕ) → rule m 13 len ≡ refuse 0x0105
+unfolding rule kindOf lookup column ruleFor
+rule-thirteen m len = refl
+
+pub rule-early-data : (len : ℕ) → rule opening 0 len ≡ refuse 0x0105
+unfolding rule kindOf lookup column ruleFor data-rule carries codeOf
+rule-early-data len = refl
+
+pub rule-late-data : (stated : Option ℕ) (sum len : ℕ) → rule (trailed stated sum) 0 len ≡ refuse 0x0105
+unfolding rule kindOf lookup column ruleFor data-rule carries codeOf
+rule-late-data stated sum len = refl
+
+pub rule-past-stated : (n sum len : ℕ) → n < sum + len → rule (body (some n) sum) 0 len ≡ refuse 0x010e
+unfolding rule kindOf lookup column ruleFor data-rule carries sum-to codeOf
+rule-past-stated n sum len h = let e = lt-ltb n (sum + len) h in rw (e, sum-to)
+
+pub rule-past-limit : (sum len : ℕ) → content-limit < sum + len → rule (body none sum) 0 len ≡ refuse 0x010c
+unfolding rule kindOf lookup column ruleFor data-rule carries sum-to codeOf
+rule-past-limit sum len h = let e = lt-ltb content-limit (sum + len) h in rw (e, sum-to)
+
+long-enough : (len : ℕ) (r : Ruling Message) → headers-limit < len → within-limit len r ≡ refuse 0x0107
+unfolding within-limit
+long-enough len r h = let e = lt-ltb headers-limit len h in rw (e, within-limit)
+
+pub rule-long-header : (len : ℕ) → headers-limit < len → rule opening 1 len ≡ refuse 0x0107
+unfolding rule kindOf lookup column ruleFor headers-rule
+rule-long-header len h = long-enough len _ h
+
+pub rule-long-trailers : (stated : Option ℕ) (sum len : ℕ) → headers-limit < len → rule (body stated sum) 1 len ≡ refuse 0x0107
+unfolding rule kindOf lookup column ruleFor headers-rule
+rule-long-trailers stated sum len h = long-enough len _ h
+
+pub rule-third : (stated : Option ℕ) (sum len : ℕ) → rule (trailed stated sum) 1 len ≡ refuse 0x0105
+unfolding rule kindOf lookup column ruleFor headers-rule codeOf
+rule-third stated sum len = refl
