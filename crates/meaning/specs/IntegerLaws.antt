@@ -8,7 +8,7 @@ use mathlib.Core.List.{List, [], _∷_, _++_}
 use mathlib.Core.Bool.{Bool, true, false}
 use mathlib.Core.Option.{Option, none, some}
 use lib.Dec.{leb, leb→le, nleb→lt, T, lit<, lit≤}
-use lib.ListN.{length}
+use lib.ListN.{length, drop}
 use lib.Arith.{digits-div, digits-mod}
 use Rattle.rules.specs.Integers.{Int, cut, got, more, extra, integer, Row, row, rows, low, inRow, inFirst, written}
 
@@ -167,3 +167,26 @@ shortest v at next rest w (byte {b = b} l bytes) e s =
     let one = one-le-pow (b / 64) 2 (zero-lt-suc 1) in
     let f = first-short v w (r .there) (omega (arith, r .holds, m .0)) s in
     omega (arith, r .long, m .1)
+
+-- ---- what follows an integer is what is behind it
+
+more-rest : (k v at : ℕ) (bs : List ℕ) {t here : ℕ} {rest : List ℕ} → more k v at bs ≡ got t here rest → rest ≡ drop (here - at) bs
+unfolding more
+more-rest zero v at bs {t} {here} {rest} e =
+    let n : at ≡ here = cc in
+    let r : bs ≡ rest = cc in
+    let z : here - at ≡ 0 = omega arith in
+    rw (z, r) refl
+more-rest (suc k) v at [] e = let z : _≡_ {A = ℕ} 0 1 = cc in absurd (omega arith)
+more-rest (suc k) v at (b ∷ bs) {here = here} e =
+    let l = more-length k (v * 256 + b) (suc at) bs e in
+    let z : here - at ≡ suc (here - suc at) = omega arith in
+    rw z (more-rest k (v * 256 + b) (suc at) bs e)
+
+pub integer-rest : (at : ℕ) (bs : List ℕ) {t here : ℕ} {rest : List ℕ} → integer at bs ≡ got t here rest → rest ≡ drop (here - at) bs
+unfolding integer
+integer-rest at [] e = let z : _≡_ {A = ℕ} 0 1 = cc in absurd (omega arith)
+integer-rest at (b ∷ bs) {here = here} e =
+    let l = more-length (extra b) (b % 64) (suc at) bs e in
+    let z : here - at ≡ suc (here - suc at) = omega arith in
+    rw z (more-rest (extra b) (b % 64) (suc at) bs e)
