@@ -170,23 +170,23 @@ shortest v at next rest w (byte {b = b} l bytes) e s =
 
 -- ---- what follows an integer is what is behind it
 
-more-rest : (k v at : ℕ) (bs : List ℕ) {t here : ℕ} {rest : List ℕ} → more k v at bs ≡ got t here rest → rest ≡ drop (here - at) bs
+more-rest : (k v at : ℕ) (bs : List ℕ) {t next : ℕ} {rest : List ℕ} → more k v at bs ≡ got t next rest → rest ≡ drop (next - at) bs
 unfolding more
-more-rest zero v at bs {t} {here} {rest} e =
-    let n : at ≡ here = cc in
+more-rest zero v at bs {t} {next} {rest} e =
+    let n : at ≡ next = cc in
     let r : bs ≡ rest = cc in
-    let z : here - at ≡ 0 = omega arith in
+    let z : next - at ≡ 0 = omega arith in
     rw (z, r) refl
 more-rest (suc k) v at [] e = let z : _≡_ {A = ℕ} 0 1 = cc in absurd (omega arith)
-more-rest (suc k) v at (b ∷ bs) {here = here} e =
+more-rest (suc k) v at (b ∷ bs) {next = next} e =
     let l = more-length k (v * 256 + b) (suc at) bs e in
-    let z : here - at ≡ suc (here - suc at) = omega arith in
+    let z : next - at ≡ suc (next - suc at) = omega arith in
     rw z (more-rest k (v * 256 + b) (suc at) bs e)
 
-pub integer-rest : (at : ℕ) (bs : List ℕ) {t here : ℕ} {rest : List ℕ} → integer at bs ≡ got t here rest → rest ≡ drop (here - at) bs
+pub integer-rest : (at : ℕ) (bs : List ℕ) {t next : ℕ} {rest : List ℕ} → integer at bs ≡ got t next rest → rest ≡ drop (next - at) bs
 unfolding integer
 integer-rest at [] e = let z : _≡_ {A = ℕ} 0 1 = cc in absurd (omega arith)
-integer-rest at (b ∷ bs) {here = here} e =
+integer-rest at (b ∷ bs) {next = next} e =
     let l = more-length (extra b) (b % 64) (suc at) bs e in
-    let z : here - at ≡ suc (here - suc at) = omega arith in
+    let z : next - at ≡ suc (next - suc at) = omega arith in
     rw z (more-rest (extra b) (b % 64) (suc at) bs e)
