@@ -12,15 +12,17 @@ use Rattle.rules.specs.Integers.{cut, got}
 use Rattle.rules.specs.Block.{Line, Section, Lines, Flaw, readable, unreadable, other-kind, short-length, long-name, cut-record}
 use Rattle.rules.specs.Classes.{isDigit, isCapital, isSmall, isMark, isToken, isName, isValue, isBlank}
 use Rattle.rules.specs.Section.{too-large, bad-bytes}
-use Rattle.rules.specs.Reading.{Use, content, skipped, section, header-section as as-header-section, trailers as as-trailers, refuse, accept, Verdict, whole, fault, waits, Accepted}
+use Rattle.rules.specs.Reading.{Kept, settings as a-settings, goaway, max-push-id, cancel-push, Use, content, skipped, section, kept, header-section as as-header-section, trailers as as-trailers, refuse, accept, Next, stop, go}
+use Rattle.rules.specs.Reading.{Verdict, whole, fault, waits, Saying, header, refused as header-refused, section-byte, content-byte, frame-kept, Accepted}
+use Rattle.rules.specs.Frames.{Header as FrameHeader}
 use Rattle.rules.specs.Message.{Message, opening, body, trailed}
 use Rattle.rules.specs.Request.{document, Header, Header.bad as bad-header, Header.good as good-header, Trailer, Trailer.bad as bad-trailer, Trailer.good as good-trailer}
-use Rattle.rules.specs.Control.{Told, told-settings, told-goaway, told-max-push-id}
+use Rattle.rules.specs.Control.{Settings, Control, unset, set, Told, told-settings, told-goaway, told-max-push-id}
 use Rattle.rules.specs.OneWay.{OneWay, encoder, decoder, untyped, refused as one-way-refused, of-control, of-qpack, passed-over}
 use Rattle.rules.specs.Numbers.{Severity, house, stream as a-stream, connection, Leaves, nothing-altered, id-unspent, untouched, record-freed, code-kept}
 use Rattle.rules.specs.Writer.{Write, wrote, refused}
-use Rattle.rules.specs.Worked.{Question, reads, writes, writes-header, writes-integer-frame, writes-goaway, writes-opening, block, request-stream, request-with, request-headers, request-sections, request-header-bytes, request-rule, one-way-stream, one-way-tells, closes, bytes-with, header-section, trailers, header-reason, trailer-reason, number}
-use Rattle.rules.specs.Worked.{Answer, read-as, written-as, lines-are, request-is, headers-are, ruling-is, one-way-is, tells, closed-with, bytes-are, header-is, trailer-is, reason-is, row-is}
+use Rattle.rules.specs.Worked.{Question, reads, writes, writes-header, writes-integer-frame, writes-goaway, writes-opening, block, request-stream, request-with, request-headers, request-sections, request-header-bytes, request-says, request-rule, one-way-stream, one-way-says, one-way-tells, control-judges, closes, bytes-with, header-section, trailers, header-reason, trailer-reason, number}
+use Rattle.rules.specs.Worked.{Answer, read-as, written-as, lines-are, request-is, headers-are, says-all, ruling-is, one-way-is, tells, control-leaves, closed-with, bytes-are, header-is, trailer-is, reason-is, row-is}
 use Rattle.rules.specs.Worked.{Worked, answer, reads-as, writes-as, stream, control, asked, said}
 
 abbrev asks : Question → Answer → Worked
@@ -395,9 +397,12 @@ request-ends =
     ∷ waiting 1 "01 01 00 00 01 61" "61" whole
     ∷ []
 
--- an accepted frame header: offset, offset of the payload, type, length, use
+-- a frame header: offset, offset of the payload, type, length; one that is accepted, and its use
+abbrev head : (at from type len : ℕ) → FrameHeader
+head at from type len = record { at = at; from = from; type = type; len = len }
+
 abbrev accepts : (at from type len : ℕ) → Use → Accepted
-accepts at from type len u = record { header = record { at = at; from = from; type = type; len = len }; purpose = u }
+accepts at from type len u = record { header = head at from type len; purpose = u }
 
 abbrev lists : String → List Accepted → Worked
 lists bytes headers = asks (request-headers (hex bytes)) (headers-are headers)
@@ -431,6 +436,28 @@ request-lines =
     ∷ hands-on-first "01 03 AA BB" "AA BB"
     ∷ hands-on "01 00 01 80 00 40 01 AA" ""
     ∷ hands-on "00 01 61" ""
+    ∷ []
+
+-- a request's reading, whole
+abbrev says : String → List Saying → Worked
+says bytes sayings = asks (request-says (hex bytes)) (says-all sayings)
+
+-- an empty HEADERS, the first frame
+abbrev headed : List Saying → List Saying
+headed more = header (head 0 2 1 0) (section as-header-section) ∷ more
+
+unfoldable pub request-sayings : List Worked
+unfolding hex hexFrom nibble
+request-sayings =
+    says "" []
+    ∷ says "01" []
+    ∷ says "00 00" (header-refused (head 0 2 0 0) ∷ [])
+    ∷ says "01 02 AA" (header (head 0 2 1 2) (section as-header-section) ∷ section-byte 0xaa ∷ [])
+    ∷ says "21 01 62 01 00" (header (head 0 2 33 1) skipped ∷ header (head 3 5 1 0) (section as-header-section) ∷ [])
+    ∷ says "01 00 00 02 61 62" (headed (header (head 2 4 0 2) content ∷ content-byte 0x61 ∷ content-byte 0x62 ∷ []))
+    ∷ says "01 00 01 01 AA 21 00" (headed (header (head 2 4 1 1) (section as-trailers) ∷ section-byte 0xaa ∷ header (head 5 7 33 0) skipped ∷ []))
+    ∷ says "01 00 04 40 00 00 01 61" (headed (header-refused (head 2 5 4 0) ∷ []))
+    ∷ says "01 00 01 00 01 02 AA" (headed (header (head 2 4 1 0) (section as-trailers) ∷ header-refused (head 4 6 1 2) ∷ []))
     ∷ []
 
 -- ---- the frame table, control stream
@@ -694,6 +721,62 @@ settings-kept =
     ∷ tell "00 04 00 03 01 00" (told none 0 0 ∷ [])
     ∷ []
 
+-- a control stream's reading, whole; a payload judged bad is not said
+abbrev control-says : String → List Saying → Worked
+control-says bytes sayings = asks (one-way-says (hex bytes)) (says-all sayings)
+
+-- an empty SETTINGS, the first frame
+abbrev settled : List Saying → List Saying
+settled more = header (head 1 3 4 0) (kept a-settings) ∷ frame-kept a-settings [] ∷ more
+
+unfoldable pub control-sayings : List Worked
+unfolding hex hexFrom nibble
+control-sayings =
+    control-says "00" []
+    ∷ control-says "00 04" []
+    ∷ control-says "02 04 00" []
+    ∷ control-says "00 07 01 05" (header-refused (head 1 3 7 1) ∷ [])
+    ∷ control-says "40 00 04 00" (header (head 2 4 4 0) (kept a-settings) ∷ frame-kept a-settings [] ∷ [])
+    ∷ control-says "00 04 02 06" (header (head 1 3 4 2) (kept a-settings) ∷ [])
+    ∷ control-says "00 04 02 02 00" (header (head 1 3 4 2) (kept a-settings) ∷ [])
+    ∷ control-says "00 04 00 07 01 05" (settled (header (head 3 5 7 1) (kept goaway) ∷ frame-kept goaway (hex "05") ∷ []))
+    ∷ control-says "00 04 00 0D 02 40 05" (settled (header (head 3 5 13 2) (kept max-push-id) ∷ frame-kept max-push-id (hex "40 05") ∷ []))
+    ∷ control-says "00 04 00 21 01 62 03 01 00" (settled (header (head 3 5 33 1) skipped ∷ header (head 6 8 3 1) (kept cancel-push) ∷ []))
+    ∷ control-says "00 04 00 04 00" (settled (header-refused (head 3 5 4 0) ∷ []))
+    ∷ []
+
+-- what a kept payload leaves
+abbrev client-settings : Settings
+client-settings = record { section-size = some 5; table-capacity = 7; blocked-streams = 9 }
+
+abbrev absent-settings : Settings
+absent-settings = record { section-size = none; table-capacity = 0; blocked-streams = 0 }
+
+abbrev judges : Kept → Control → String → Next Control → Worked
+judges k c payload n = asks (control-judges k c (hex payload)) (control-leaves n)
+
+unfoldable pub control-judgements : List Worked
+unfolding hex hexFrom nibble
+control-judgements =
+    judges a-settings unset "06 05 01 07 07 09" (go (set client-settings none none))
+    ∷ judges a-settings unset "" (go (set absent-settings none none))
+    ∷ judges a-settings unset "00 05 21 06" (go (set absent-settings none none))
+    ∷ judges a-settings unset "06 05 02 00" (stop 0x0109)
+    ∷ judges goaway (set client-settings none none) "05" (go (set client-settings (some 5) none))
+    ∷ judges goaway (set client-settings (some 5) (some 9)) "04" (go (set client-settings (some 4) (some 9)))
+    ∷ judges goaway (set client-settings (some 5) (some 4)) "40 05" (go (set client-settings (some 5) (some 4)))
+    ∷ judges goaway (set client-settings (some 5) (some 9)) "06" (stop 0x0108)
+    ∷ judges goaway (set client-settings (some 5) (some 9)) "06 00" (stop 0x0106)
+    ∷ judges max-push-id (set client-settings none none) "09" (go (set client-settings none (some 9)))
+    ∷ judges max-push-id (set client-settings (some 5) (some 9)) "0A" (go (set client-settings (some 5) (some 10)))
+    ∷ judges max-push-id (set client-settings (some 10) (some 9)) "40 09" (go (set client-settings (some 10) (some 9)))
+    ∷ judges max-push-id (set client-settings (some 5) (some 9)) "08" (stop 0x0108)
+    ∷ judges max-push-id (set client-settings (some 5) (some 9)) "08 00" (stop 0x0106)
+    ∷ judges cancel-push (set client-settings none none) "00" (stop 0x0108)
+    ∷ judges cancel-push (set client-settings none none) "00 00" (stop 0x0106)
+    ∷ judges cancel-push (set client-settings none none) "40" (stop 0x0106)
+    ∷ []
+
 -- ---- one-way streams
 
 abbrev one-way : (seen : List ℕ) → OneWay → (streams : List String) → List Worked
@@ -748,7 +831,13 @@ one-way-streams =
     ++ closing [] (some 0x0104) ("00" ∷ "00 04" ∷ "00 04 00" ∷ "00 04 00 07 01" ∷ "40 00" ∷ "02" ∷ "02 20" ∷ "03" ∷ "40 03 00" ∷ [])
     ++ closing [] none ("" ∷ "40" ∷ "80 00 00" ∷ "C0 00 00 00 00 00 00" ∷ "04" ∷ "21" ∷ "21 00 00" ∷ "40 21" ∷ "FF FF FF FF FF FF FF FF" ∷ [])
     ++ closing (3 ∷ 2 ∷ 0 ∷ []) none ("" ∷ "40" ∷ "04" ∷ "21 00" ∷ [])
-    -- a refused type is a connection fault, and a later call gives its code
+    -- after a connection fault a later call gives its code
+    ++ closing [] (some 0x010a) ("00 07 01" ∷ "00 21 00" ∷ "40 00 00 00" ∷ [])
+    ++ closing [] (some 0x0105) ("00 04 00 04 00" ∷ [])
+    ++ closing [] (some 0x0106) ("00 04 01 06" ∷ "00 04 00 07 00" ∷ [])
+    ++ closing [] (some 0x0107) ("00 04 41 01" ∷ [])
+    ++ closing [] (some 0x0108) ("00 04 00 03 01 00" ∷ [])
+    ++ closing [] (some 0x0109) ("00 04 02 02 00" ∷ [])
     ++ closing [] (some 0x0103) ("01" ∷ "40 01" ∷ [])
     ++ closing (0 ∷ 2 ∷ []) (some 0x0103) ("00" ∷ "02 20" ∷ [])
 
@@ -1443,7 +1532,7 @@ frames-written =
 -- ---- the claim
 
 unfoldable pub edges : List Worked
-unfolding integers-read integers-written blocks-read blocks-unread request-table request-positions request-limits headers-at-limit data-sums request-cuts request-ends request-lines control-table one-integer-frames settings-payloads settings-kept one-way-streams byte-classes sound-headers malformed-headers refused-headers size-first header-order trailers-judged bytes-in-place judged-streams number-rows frames-written
+unfolding integers-read integers-written blocks-read blocks-unread request-table request-positions request-limits headers-at-limit data-sums request-cuts request-ends request-lines request-sayings control-table one-integer-frames settings-payloads settings-kept control-sayings control-judgements one-way-streams byte-classes sound-headers malformed-headers refused-headers size-first header-order trailers-judged bytes-in-place judged-streams number-rows frames-written
 edges =
     integers-read
     ++ integers-written
@@ -1457,10 +1546,13 @@ edges =
     ++ request-cuts
     ++ request-ends
     ++ request-lines
+    ++ request-sayings
     ++ control-table
     ++ one-integer-frames
     ++ settings-payloads
     ++ settings-kept
+    ++ control-sayings
+    ++ control-judgements
     ++ one-way-streams
     ++ byte-classes
     ++ sound-headers

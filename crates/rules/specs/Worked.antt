@@ -11,7 +11,7 @@ use Rattle.rules.specs.Block.{Section, Lines, little, fields, record-of,
 use Rattle.rules.specs.Classes.{isDigit, isCapital, isSmall, isMark, isToken, isName, isValue, isBlank}
 use Rattle.rules.specs.Section as S
 use Rattle.rules.specs.Frames.{framesUpTo, framesFrom}
-use Rattle.rules.specs.Reading.{Ruling, Verdict, Saying, header, refused as header-refused, section-byte, content-byte, frame-kept, Reading, put, told, ended, left-by, completed, judge, readFrom, read, contents, sectionBytes, headerBytes, Accepted, accepted}
+use Rattle.rules.specs.Reading.{Kept, Ruling, Next, Verdict, Saying, header, refused as header-refused, section-byte, content-byte, frame-kept, Reading, put, told, ended, left-by, completed, judge, readFrom, read, contents, sectionBytes, headerBytes, Accepted, accepted}
 use Rattle.rules.specs.Reading.{whole, fault}
 use Rattle.rules.specs.Message.{Message, content-limit, heads, sum-to, carries, trails, tally, ends}
 use Rattle.rules.specs.Request as R
@@ -34,9 +34,12 @@ pub data Question : Type 0 where
   request-headers : (bytes : List ℕ) → Question  -- the frame headers accepted, as the lister shows them
   request-sections : (bytes : List ℕ) → Question  -- its section bytes
   request-header-bytes : (bytes : List ℕ) → Question  -- those of its header section
+  request-says : (bytes : List ℕ) → Question  -- all that its reading says
   request-rule : Message → (type len : ℕ) → Question  -- one frame header, where a message stands
   one-way-stream : (seen : List ℕ) (bytes : List ℕ) → Question
+  one-way-says : (bytes : List ℕ) → Question  -- all that a control stream's reading says
   one-way-tells : (bytes : List ℕ) → Question  -- what its kept frames tell the host
+  control-judges : Kept → C.Control → (payload : List ℕ) → Question  -- a kept payload, where the stream stands
   closes : (seen : List ℕ) (bytes : List ℕ) → Question  -- such a stream is ended or reset
   bytes-with : (ℕ → Bool) → Question  -- those of 0 to 255 that pass a test
   header-section : Section → Question
@@ -51,9 +54,11 @@ pub data Answer : Type 0 where
   lines-are : Lines → Answer
   request-is : (content : List ℕ) → Verdict → Answer
   headers-are : List Accepted → Answer
+  says-all : List Saying → Answer
   ruling-is : Ruling Message → Answer
   one-way-is : OneWay → Answer
   tells : List C.Told → Answer
+  control-leaves : Next C.Control → Answer
   closed-with : Option ℕ → Answer
   bytes-are : List ℕ → Answer
   header-is : R.Header → Answer
@@ -86,12 +91,12 @@ tellings (section-byte b ∷ xs) = tellings xs
 tellings (content-byte b ∷ xs) = tellings xs
 tellings (frame-kept k payload ∷ xs) = C.tells k payload ∷ tellings xs
 
-unfoldable pub told-by : OneWay → List C.Told
-told-by untyped = []
-told-by (refused code place) = []
-told-by (of-control r) = tellings (r .said)
-told-by (of-qpack k bytes) = []
-told-by passed-over = []
+unfoldable pub said-by : OneWay → List Saying
+said-by untyped = []
+said-by (refused code place) = []
+said-by (of-control r) = r .said
+said-by (of-qpack k bytes) = []
+said-by passed-over = []
 
 -- the numbers from `first` on, so many, that pass a test
 unfoldable pub those : (ℕ → Bool) → (count first : ℕ) → List ℕ
@@ -100,7 +105,7 @@ those test (ℕ.suc n) b = elim (test b) [ true ↦ b ∷ those test n (ℕ.suc 
 
 -- THE RULES' ANSWER
 unfoldable pub answer : Question → Answer
-unfolding ascii nibble hexFrom hex between isOneOf lookup any all same more extra integer rows low inRow inFirst written largest little fields record-of before linesFrom lines isDigit isCapital isSmall isMark isToken isName isValue isBlank S.isEmpty S.begins S.ends S.named S.lineWith S.has S.repeated S.valueOf S.holds S.decimalFrom S.decimal S.pseudo-fields S.connection-fields S.isPseudo S.lineSize S.size S.size-limit S.size-check S.badName S.badValue S.bytes-check S.unknown-check S.repeated-check S.pseudoBehindPlain S.late-check S.in-trailers-check S.connection-check S.te-check S.method-check S.no-method-check S.repeated-length-check S.length-in-trailers-check S.digits-check S.length-above-check S.repeated-host-check S.connect-check S.present-check S.scheme-check S.goodPath S.path-check S.authority-check S.empty-check S.differ-check S.at-check S.length-limit S.length-check S.header-checks S.trailer-checks S.codeOf S.firstBroken S.unless S.methodOf S.statedIn S.header-section S.trailers framesUpTo framesFrom put told ended left-by completed judge readFrom read contents content-limit heads sum-to carries trails tally ends R.header-by R.trailer-by R.document R.all-sound R.column R.kindOf R.codeOf R.headers-limit R.within-limit R.data-rule R.headers-rule R.ruleFor R.rule R.next-of R.headed-by R.trailed-by R.given R.end-of C.no-settings C.set-to C.reserved-identifiers C.pairs C.settings-of C.settings-limit C.column C.ruleFor C.first-rule C.rule C.only C.above C.below C.goaway-told C.max-push-told C.integer-told C.settings-told C.judged C.settings-in C.id-in C.tells once typeRule typed behind-type oneWay faultIn closed numbers rowIn rowOf into both write-integer header-bytes write-header integer-frame write-integer-frame opening write-opening isHigher badGoaway write-goaway sectionBytes headerBytes accepted sectionsFor request-answer verdict-alone tellings told-by those
+unfolding ascii nibble hexFrom hex between isOneOf lookup any all same more extra integer rows low inRow inFirst written largest little fields record-of before linesFrom lines isDigit isCapital isSmall isMark isToken isName isValue isBlank S.isEmpty S.begins S.ends S.named S.lineWith S.has S.repeated S.valueOf S.holds S.decimalFrom S.decimal S.pseudo-fields S.connection-fields S.isPseudo S.lineSize S.size S.size-limit S.size-check S.badName S.badValue S.bytes-check S.unknown-check S.repeated-check S.pseudoBehindPlain S.late-check S.in-trailers-check S.connection-check S.te-check S.method-check S.no-method-check S.repeated-length-check S.length-in-trailers-check S.digits-check S.length-above-check S.repeated-host-check S.connect-check S.present-check S.scheme-check S.goodPath S.path-check S.authority-check S.empty-check S.differ-check S.at-check S.length-limit S.length-check S.header-checks S.trailer-checks S.codeOf S.firstBroken S.unless S.methodOf S.statedIn S.header-section S.trailers framesUpTo framesFrom put told ended left-by completed judge readFrom read contents content-limit heads sum-to carries trails tally ends R.header-by R.trailer-by R.document R.all-sound R.column R.kindOf R.codeOf R.headers-limit R.within-limit R.data-rule R.headers-rule R.ruleFor R.rule R.next-of R.headed-by R.trailed-by R.given R.end-of C.no-settings C.set-to C.reserved-identifiers C.pairs C.settings-of C.settings-limit C.column C.ruleFor C.first-rule C.rule C.only C.above C.below C.goaway-told C.max-push-told C.integer-told C.settings-told C.judged C.settings-in C.id-in C.tells once typeRule typed behind-type oneWay faultIn closed numbers rowIn rowOf into both write-integer header-bytes write-header integer-frame write-integer-frame opening write-opening isHigher badGoaway write-goaway sectionBytes headerBytes accepted sectionsFor request-answer verdict-alone tellings said-by those
 answer (reads bytes) = read-as (integer 0 bytes)
 answer (writes room value) = written-as (write-integer room value)
 answer (writes-header room type len) = written-as (write-header room type len)
@@ -113,9 +118,12 @@ answer (request-with sections bytes) = request-answer (read (request document) s
 answer (request-headers bytes) = headers-are (accepted (read (request (all-sound none)) (sectionsFor 2) bytes .said))
 answer (request-sections bytes) = bytes-are (sectionBytes (read (request (all-sound none)) (sectionsFor 2) bytes .said))
 answer (request-header-bytes bytes) = bytes-are (headerBytes (read (request (all-sound none)) (sectionsFor 2) bytes .said))
+answer (request-says bytes) = says-all (read (request (all-sound none)) (sectionsFor 2) bytes .said)
 answer (request-rule m type len) = ruling-is (R.rule m type len)
 answer (one-way-stream seen bytes) = one-way-is (verdict-alone (oneWay seen bytes))
-answer (one-way-tells bytes) = tells (told-by (oneWay [] bytes))
+answer (one-way-says bytes) = says-all (said-by (oneWay [] bytes))
+answer (one-way-tells bytes) = tells (tellings (said-by (oneWay [] bytes)))
+answer (control-judges k c payload) = control-leaves (C.judged k c payload)
 answer (closes seen bytes) = closed-with (closed (oneWay seen bytes))
 answer (bytes-with test) = bytes-are (those test 256 0)
 answer (header-section s) = header-is (document .header s)

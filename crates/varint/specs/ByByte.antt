@@ -1,6 +1,6 @@
 -- An integer read a byte at a time, kept as two numbers: the machine's own step (meaning, Machine). Assumes nothing.
 use Prim.Native.Nat.{ℕ, zero, suc, _+_, _-_, _*_, _/_, _%_, _^_, _<_, _≤_}
-use mathlib.Core.Path.{_≡_, refl, ap, _∙_}
+use mathlib.Core.Path.{_≡_, refl, sym, ap, _∙_}
 use native.Mathlib.Nat.{one-mul, pow-suc, pow-le-pow-right, one-le-pow, zero-lt-suc}
 use native.Mathlib.Omega.{arith}
 use lib.Pow.{pow-mono, shl-exact}
@@ -54,6 +54,18 @@ kept-step (value v) = refl
 pub step-reads : (p : Part) (b : ℕ) → readAs (stepOf p b) ≡ fed (progOf p) b
 unfolding stepOf
 step-reads p b = kept-step (fed (progOf p) b)
+
+pub step-more : (p : Part) (b : ℕ) {n : Part} → stepOf p b ≡ More n → fed (progOf p) b ≡ going (progOf n)
+unfolding readAs
+step-more p b e = sym (step-reads p b) ∙ ap readAs e
+
+pub step-done : (p : Part) (b : ℕ) {v : ℕ} → stepOf p b ≡ Done v → fed (progOf p) b ≡ value v
+unfolding readAs
+step-done p b e = sym (step-reads p b) ∙ ap readAs e
+
+pub fresh-reads : progOf fresh-part ≡ fresh
+unfolding prog
+fresh-reads = refl
 
 -- ---- no sum wraps
 

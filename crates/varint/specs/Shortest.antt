@@ -1,18 +1,19 @@
 -- The shortest form of a value (rules, Integers): its row of RFC 9000's table, and its bytes stored one by one. Assumes nothing.
 use Prim.Native.Nat.{ℕ, zero, suc, _+_, _-_, _*_, _/_, _%_, _^_, _<_, _≤_}
-use mathlib.Core.Path.{_≡_, refl, sym, ap, _∙_}
-use mathlib.Core.List.{List, [], _∷_, _++_}
-use mathlib.Core.Bool.{Bool, true, false}
+use mathlib.Core.Path.{_≡_, refl, ap, _∙_}
+use mathlib.Core.List.{List, [], _∷_}
+use mathlib.Core.Bool.{Bool, true, false, _&&_}
 use mathlib.Core.Option.{Option, none, some}
 use native.Mathlib.Nat.{div-lt-iff-lt-mul, one-le-pow, zero-lt-suc, mod-eq-of-lt, pow-suc}
 use native.Mathlib.Numerals.{add-one}
 use native.Mathlib.Omega.{arith}
-use lib.Dec.{leb, lit≤}
+use lib.Dec.{leb, eqb}
 use lib.Pow.{pow-add}
 use lib.ListN.{length, set, length-set}
 use lib.Seq.{sets}
-use borrow.Author.Tests.{leb-true}
-use Rattle.rules.specs.Integers.{Row, rows, row, low, inRow, inFirst, written}
+use borrow.Author.Tests.{leb-true, eqb-true, le-leb}
+use Rattle.rules.specs.Text.{all}
+use Rattle.rules.specs.Integers.{Row, rows, low, inRow, inFirst, written}
 use Rattle.meaning.specs.IntegerLaws.{length-row}
 use Rattle.varint.specs.declared.Form.{Form}
 
@@ -43,28 +44,31 @@ pub record Room (v at : ℕ) (l : List ℕ) : Type 0 where
 
 -- ---- the table
 
+-- what the bytes of a row need, by one test of every row
 record Sound (r : Row) : Type 0 where
-  some : 0 < r .size
+  some : 1 ≤ r .size
   few : r .size ≤ 8
   mark : r .mark ≤ 3
   top : suc (r .top) ≡ 64 * 256 ^ (r .size - 1)
 
-abbrev AllSound : List Row → Type 0
-AllSound [] = Unit {0}
-AllSound (r ∷ rs) = Sound r × AllSound rs
+isSound : Row → Bool
+isSound r = leb 1 (r .size) && leb (r .size) 8 && leb (r .mark) 3 && eqb (suc (r .top)) (64 * 256 ^ (r .size - 1))
 
-all-sound : AllSound rows
-unfolding rows
-all-sound = (
-  record { some = lit≤ tt; few = lit≤ tt; mark = lit≤ tt; top = refl },
-  (
-    record { some = lit≤ tt; few = lit≤ tt; mark = lit≤ tt; top = refl },
-    (
-      record { some = lit≤ tt; few = lit≤ tt; mark = lit≤ tt; top = refl },
-      (record { some = lit≤ tt; few = lit≤ tt; mark = lit≤ tt; top = refl }, tt),
-    ),
-  ),
-)
+both-true : (a b : Bool) → (a && b) ≡ true → (a ≡ true) × (b ≡ true)
+both-true true b e = (refl, e)
+both-true false b e = let z : _≡_ {A = ℕ} 0 1 = cc in absurd (omega arith)
+
+sound : (r : Row) → isSound r ≡ true → Sound r
+unfolding isSound
+sound r e =
+    let f = both-true _ _ e in
+    let g = both-true _ _ (f .0) in
+    let h = both-true _ _ (g .0) in
+    record { some = leb-true _ _ (h .0); few = leb-true _ _ (h .1); mark = leb-true _ _ (g .1); top = eqb-true _ _ (f .1) }
+
+rows-sound : all isSound rows ≡ true
+unfolding rows all isSound
+rows-sound = refl
 
 -- what the table gives: a row that v fits, or none
 data Found (v : ℕ) : Option (List ℕ) → Form → Type 0 where
@@ -76,14 +80,14 @@ find-row : (r : Row) (v : ℕ) {o : Option (List ℕ)} {f : Form} → Sound r �
 find-row r v s behind true e = fits s (leb-true v (r .top) e)
 find-row r v s behind false e = behind
 
-find : (rs : List Row) (v : ℕ) → AllSound rs → Found v (inFirst rs v) (firstForm rs v)
-unfolding inFirst firstForm
+find : (rs : List Row) (v : ℕ) → all isSound rs ≡ true → Found v (inFirst rs v) (firstForm rs v)
+unfolding inFirst firstForm all
 find [] v a = above
-find (r ∷ rs) v a = find-row r v (a .0) (find rs v (a .1)) (leb v (r .top)) refl
+find (r ∷ rs) v a = let s = both-true _ _ a in find-row r v (sound r (s .0)) (find rs v (s .1)) (leb v (r .top)) refl
 
 found : (v : ℕ) → Found v (written v) (formOf v)
 unfolding written
-found v = find rows v all-sound
+found v = find rows v rows-sound
 
 -- ---- its size
 
@@ -113,6 +117,11 @@ some-bytes (some bs) h = refl
 
 pub size-some : (v : ℕ) → 0 < sizeOf v → written v ≡ some (bytesOf (written v))
 size-some v h = some-bytes (written v) h
+
+-- a value of the first row is its own byte
+pub size-one : (v : ℕ) → v ≤ 63 → sizeOf v ≡ 1
+unfolding written rows inFirst bytesOf inRow low
+size-one v h = let t = le-leb v 63 h in rw (inFirst, t)
 
 -- ---- its bytes, stored from the first on
 

@@ -198,7 +198,8 @@ pub fn put(v: u64, room: &mut [u8], at: usize)
     }
 }
 
-// v in its shortest form at the start of the room: 8 above 2^62-1, then 7 where the room is too short. It reads back (meaning, WriterLaws, integer-back).
+// v in its shortest form at the start of the room: 8 above 2^62-1, then 7 where the room is too short.
+// It reads back (meaning, WriterLaws, integer-back).
 pub fn write(v: u64, room: &mut [u8]) -> Wrote
     ensures { λ r. ⌜ Meets (write-integer (length (now (room .entry))) v) (now (room .entry)) r (now (room .exit)) ⌝ }
 {

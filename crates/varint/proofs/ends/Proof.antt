@@ -34,10 +34,10 @@ add-result-3 : tie.Need-add-result-3
 add-result-3 c = search needs
 
 returns-3 : tie.Need-returns-3
-returns-3 c = let s = c .before .before .before .before .before .before .before .args in ends-short (now (s .s)) (s .at) _ _ (c .before .before .before .wide .ensures) (c .before .follow .ensures) (c .before .before .before .before .before .if1 .left) (c .if3 .taken)
+returns-3 c = let s = c .before .before .before .before .before .before .before .args in ends-short (now (s .s)) (s .at) _ _ (c .before .before .before .wide .ensures) (c .before .follow .ensures) (c .before .before .before .before .before .if1 .left) (omega arith)
 
 returns-4 : tie.Need-returns-4
-returns-4 c = let s = c .before .before .before .before .before .before .before .args in ends-whole (now (s .s)) (s .at) _ _ (c .before .before .before .wide .ensures) (c .before .follow .ensures) (c .before .before .before .before .before .if1 .left) (c .if3 .left)
+returns-4 c = let s = c .before .before .before .before .before .before .before .args in ends-whole (now (s .s)) (s .at) _ _ (c .before .before .before .wide .ensures) (c .before .follow .ensures) (c .before .before .before .before .before .if1 .left) (omega arith)
 
 pub ends-spec : {M : Type 1} → statement M
 ends-spec =
