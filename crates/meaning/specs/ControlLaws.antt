@@ -11,7 +11,7 @@ use lib.ListN.{length}
 use Rattle.rules.specs.Text.{isOneOf, lookup}
 use Rattle.rules.specs.Integers.{Int, cut, got, integer}
 use Rattle.rules.specs.Reading.{Kept, settings, goaway, max-push-id, cancel-push, skipped, kept, Ruling, refuse, accept, Next, stop, go}
-use Rattle.rules.specs.Control.{Settings, set-to, reserved-identifiers, pairs, Control, unset, set, settings-limit, Kind, forbidden, one-integer, unknown, column, ruleFor, first-rule, rule, above, below, goaway-told, max-push-told}
+use Rattle.rules.specs.Control.{Settings, set-to, reserved-identifiers, pairs, Control, unset, set, settings-limit, Kind, forbidden, one-integer, unknown, column, ruleFor, first-rule, rule, above, below, after-goaway, after-max-push}
 use Rattle.rules.specs.Legal.{Unknown}
 use Rattle.meaning.specs.TextLaws.{lookup-absent}
 use Rattle.meaning.specs.IntegerLaws.{integer-length}
@@ -52,8 +52,8 @@ not-above : (s : Settings) (g v : ℕ) (m : Option ℕ) (x : Bool) → ltb g v �
 not-above s g v m true e c q = let z : _≡_ {A = ℕ} 0 1 = cc in absurd (omega arith)
 not-above s g v m false e c q = (nltb→le g v (rw e tt), cc)
 
-pub goaway-falls : (s : Settings) (g : ℕ) (m : Option ℕ) (v : ℕ) (c : Control) → goaway-told s (some g) m v ≡ go c → (v ≤ g) × (c ≡ set s (some v) m)
-unfolding goaway-told above
+pub goaway-falls : (s : Settings) (g : ℕ) (m : Option ℕ) (v : ℕ) (c : Control) → after-goaway s (some g) m v ≡ go c → (v ≤ g) × (c ≡ set s (some v) m)
+unfolding after-goaway above
 goaway-falls s g m v c q = not-above s g v m (ltb g v) refl c q
 
 not-below : (s : Settings) (g : Option ℕ) (v m : ℕ) (x : Bool) → ltb v m ≡ x → (c : Control)
@@ -61,8 +61,8 @@ not-below : (s : Settings) (g : Option ℕ) (v m : ℕ) (x : Bool) → ltb v m �
 not-below s g v m true e c q = let z : _≡_ {A = ℕ} 0 1 = cc in absurd (omega arith)
 not-below s g v m false e c q = (nltb→le v m (rw e tt), cc)
 
-pub max-push-rises : (s : Settings) (g : Option ℕ) (m v : ℕ) (c : Control) → max-push-told s g (some m) v ≡ go c → (m ≤ v) × (c ≡ set s g (some v))
-unfolding max-push-told below
+pub max-push-rises : (s : Settings) (g : Option ℕ) (m v : ℕ) (c : Control) → after-max-push s g (some m) v ≡ go c → (m ≤ v) × (c ≡ set s g (some v))
+unfolding after-max-push below
 max-push-rises s g m v c q = not-below s g v m (ltb v m) refl c q
 
 -- the fuel never runs out: more than the number of bytes changes nothing

@@ -120,27 +120,27 @@ below v none = false
 below v (some earlier) = ltb v earlier
 
 -- a client's GOAWAY above an earlier one; a MAX_PUSH_ID below an earlier one; we promise no push that could be cancelled
-unfoldable pub goaway-told : Settings → (goaway max-push-id : Option ℕ) → (id : ℕ) → Next Control
-goaway-told s g m id = elim (above id g) [ true ↦ stop 0x0108 | false ↦ go (set s (some id) m) ]
+unfoldable pub after-goaway : Settings → (goaway max-push-id : Option ℕ) → (id : ℕ) → Next Control
+after-goaway s g m id = elim (above id g) [ true ↦ stop 0x0108 | false ↦ go (set s (some id) m) ]
 
-unfoldable pub max-push-told : Settings → (goaway max-push-id : Option ℕ) → (id : ℕ) → Next Control
-max-push-told s g m id = elim (below id m) [ true ↦ stop 0x0108 | false ↦ go (set s g (some id)) ]
+unfoldable pub after-max-push : Settings → (goaway max-push-id : Option ℕ) → (id : ℕ) → Next Control
+after-max-push s g m id = elim (below id m) [ true ↦ stop 0x0108 | false ↦ go (set s g (some id)) ]
 
 -- (SETTINGS is kept only as the first frame, so it is not asked of here)
-unfoldable pub integer-told : Kept → Settings → (goaway max-push-id : Option ℕ) → Option ℕ → Next Control
-integer-told k s g m none = stop 0x0106
-integer-told settings s g m (some id) = stop 0x0105
-integer-told goaway s g m (some id) = goaway-told s g m id
-integer-told max-push-id s g m (some id) = max-push-told s g m id
-integer-told cancel-push s g m (some id) = stop 0x0108
+unfoldable pub after-integer : Kept → Settings → (goaway max-push-id : Option ℕ) → Option ℕ → Next Control
+after-integer k s g m none = stop 0x0106
+after-integer settings s g m (some id) = stop 0x0105
+after-integer goaway s g m (some id) = after-goaway s g m id
+after-integer max-push-id s g m (some id) = after-max-push s g m id
+after-integer cancel-push s g m (some id) = stop 0x0108
 
-unfoldable pub settings-told : Next Settings → Next Control
-settings-told (stop code) = stop code
-settings-told (go s) = go (set s none none)
+unfoldable pub after-settings : Next Settings → Next Control
+after-settings (stop code) = stop code
+after-settings (go s) = go (set s none none)
 
 unfoldable pub judged : Kept → Control → (payload : List ℕ) → Next Control
-judged k unset payload = settings-told (settings-of payload)
-judged k (set s g m) payload = integer-told k s g m (only (integer 0 payload))
+judged k unset payload = after-settings (settings-of payload)
+judged k (set s g m) payload = after-integer k s g m (only (integer 0 payload))
 
 -- It may never end. (No section is due on it, so what `given` would say is never asked.)
 abbrev pub control : Grammar

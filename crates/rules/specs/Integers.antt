@@ -1,4 +1,5 @@
--- Integers (document 01, "Integers"; RFC 9000 section 16). Assumes nothing.
+-- Integers (document 01, "Integers"; RFC 9000 section 16). A list of bytes is a list of numbers below 256 throughout; the definitions say something
+-- of every list, and only that is meant. Assumes nothing.
 use Prim.Native.Nat.{ℕ, zero, suc, _+_, _-_, _*_, _^_, _/_, _%_}
 use mathlib.Core.List.{List, [], _∷_}
 use mathlib.Core.Bool.{true, false}

@@ -7,26 +7,27 @@ use mathlib.Core.Bool.{Bool, true, false, _||_, _&&_}
 use mathlib.Core.Option.{Option, none, some}
 use lib.Dec.{leb, eqb}
 
--- a text's bytes
+-- a text's bytes; every text here is ASCII
 unfoldable pub ascii : String → List ℕ
 ascii String.[] = []
 ascii (String._∷_ c s) = code c ∷ ascii s
 
--- bytes as document 01 writes them: "80 00 40 00"
+-- lo ≤ b ≤ hi
+unfoldable pub between : (lo hi b : ℕ) → Bool
+between lo hi b = leb lo b && leb b hi
+
+-- bytes as document 01 writes them: "80 00 40 00"; what is not so written is 256 or more, which is no byte
 unfoldable pub nibble : ℕ → ℕ
-nibble c = elim (leb c 0x39) [ true ↦ c - 0x30 | false ↦ c - 0x37 ]
+nibble c = elim (between 0x30 0x39 c) [ true ↦ c - 0x30 | false ↦ elim (between 0x41 0x46 c) [ true ↦ c - 0x37 | false ↦ 0x100 ] ]
 
 unfoldable pub hexFrom : Option ℕ → String → List ℕ
-hexFrom high String.[] = []
+hexFrom none String.[] = []
+hexFrom (some high) String.[] = 0x100 ∷ []
 hexFrom none (String._∷_ c s) = elim (eqb (code c) 0x20) [ true ↦ hexFrom none s | false ↦ hexFrom (some (nibble (code c))) s ]
 hexFrom (some high) (String._∷_ c s) = (high * 16 + nibble (code c)) ∷ hexFrom none s
 
 unfoldable pub hex : String → List ℕ
 hex s = hexFrom none s
-
--- lo ≤ b ≤ hi
-unfoldable pub between : (lo hi b : ℕ) → Bool
-between lo hi b = leb lo b && leb b hi
 
 unfoldable pub isOneOf : List ℕ → ℕ → Bool
 isOneOf [] b = false
