@@ -187,3 +187,40 @@ module _ (G : Grammar) where
       → let j = min left (length bs) in feed G n (in-payload (section t) k left p) (b ∷ bs) ≡ taking G (section t) j (left - j) p
   unfolding feed
   section-feed n t k left p b bs = refl
+
+-- ---- a header that is not whole is not finished
+
+module _ (G : Grammar) (n : ℕ) (p : G .P) where
+  type-cut : (k v at : ℕ) (bs : List ℕ) → more k v at bs ≡ cut → feed G (suc n) (typed p (after k v)) bs .heads ≡ 0
+  unfolding more typed after fed feed halt also
+  type-cut zero v at bs e = let z : _≡_ {A = ℕ} 0 1 = cc in absurd (omega arith)
+  type-cut (suc k) v at [] e = refl
+  type-cut (suc k) v at (b ∷ bs) e = let i = type-cut k (v * 256 + b) (suc at) bs e in omega arith
+
+  length-cut : (t k v at : ℕ) (bs : List ℕ) → more k v at bs ≡ cut
+      → (elim (after k v) as (λ x. Feeding (G .P)) [
+        | going g ↦ also 0 (feed G (suc n) (in-length t g p) bs)
+        | value l ↦ also 1 (behind-header G l (G .rule p t l) (λ s. feed G n s bs))
+      ]) .heads ≡ 0
+  unfolding more after fed feed halt also
+  length-cut t zero v at bs e = let z : _≡_ {A = ℕ} 0 1 = cc in absurd (omega arith)
+  length-cut t (suc k) v at [] e = refl
+  length-cut t (suc k) v at (b ∷ bs) e = let i = length-cut t k (v * 256 + b) (suc at) bs e in omega arith
+
+  second-cut : (t at : ℕ) (bs : List ℕ) → integer at bs ≡ cut → feed G (suc n) (in-length t fresh p) bs .heads ≡ 0
+  unfolding integer fed feed halt
+  second-cut t at [] e = refl
+  second-cut t at (b ∷ bs) e = length-cut t (extra b) (b % 64) (suc at) bs e
+
+  pub unfinished-type : (at : ℕ) (bs : List ℕ) → integer at bs ≡ cut → feed G (suc n) (between p) bs .heads ≡ 0
+  unfolding integer fed feed halt also
+  unfinished-type at [] e = refl
+  unfinished-type at (b ∷ bs) e = let i = type-cut (extra b) (b % 64) (suc at) bs e in omega arith
+
+  pub unfinished-length : (at : ℕ) (bs : List ℕ) {t here : ℕ} {rest : List ℕ} → integer at bs ≡ got t here rest → integer here rest ≡ cut → feed G (suc n) (between p) bs .heads ≡ 0
+  unfolding integer fed feed also past
+  unfinished-length at [] e f = let z : _≡_ {A = ℕ} 0 1 = cc in absurd (omega arith)
+  unfinished-length at (b ∷ bs) {t} {here} {rest} e f =
+      let i = ap (λ x. x .heads) (type-feeds G n p (extra b) (b % 64) (suc at) bs e) in
+      let j = second-cut t here rest f in
+      omega arith
