@@ -1,0 +1,148 @@
+-- The numbers of a state and of an answer, and what they say of a feed. Assumes nothing.
+use mathlib.Core.Path.{_≡_, refl, sym, ap, _∙_}
+use Prim.Native.Nat.{ℕ, zero, suc, _+_, _-_, _≤_, _<_, _^_}
+use native.Mathlib.Nat.{add-zero, zero-add, sub-self, sub-zero}
+use native.Mathlib.Omega.{arith}
+use mathlib.Core.List.{List, [], _∷_, _++_, append-nil}
+use mathlib.Core.Bool.{true, false}
+use mathlib.Core.Logic.{_⊎_}
+use lib.ListN.{length, take, drop, length-drop}
+use lib.Seq.{drop-length}
+use Rattle.rules.specs.Reading.{Part, header-section, trailers, Kept, settings, goaway, max-push-id, cancel-push, Use, content, skipped, section, kept}
+use Rattle.meaning.specs.Machine.{State, in-payload, due, Outcome, lives, dies, between}
+use Rattle.meaning.specs.Feed.{Event, quiet, section-bytes, content-bytes, Feeding, halt, feed}
+use Rattle.meaning.specs.FeedLaws.{past}
+use Rattle.varint.specs.ByByte.{part, Good}
+use Rattle.streams.specs.declared.Cells.{Cells}
+use Rattle.streams.specs.declared.Answer.{Answer}
+use Rattle.streams.specs.Both.{Place, of-request, of-control, both}
+use Rattle.streams.specs.Uses.{placeOf, Stands, a-place, any-set}
+use Rattle.streams.specs.Heads.{headState}
+use Rattle.streams.specs.Parts.{judgedAs}
+
+-- ---- a state
+
+unfoldable pub keptAt : (mode : ℕ) → Kept
+keptAt (suc (suc (suc (suc (suc (suc (suc (suc zero)))))))) = settings
+keptAt (suc (suc (suc (suc (suc (suc (suc (suc (suc zero))))))))) = goaway
+keptAt (suc (suc (suc (suc (suc (suc (suc (suc (suc (suc zero)))))))))) = max-push-id
+keptAt (suc (suc (suc (suc (suc (suc (suc (suc (suc (suc (suc k))))))))))) = cancel-push
+keptAt zero = cancel-push
+keptAt (suc zero) = cancel-push
+keptAt (suc (suc zero)) = cancel-push
+keptAt (suc (suc (suc zero))) = cancel-push
+keptAt (suc (suc (suc (suc zero)))) = cancel-push
+keptAt (suc (suc (suc (suc (suc zero))))) = cancel-push
+keptAt (suc (suc (suc (suc (suc (suc zero)))))) = cancel-push
+keptAt (suc (suc (suc (suc (suc (suc (suc zero))))))) = cancel-push
+
+-- a place is p; what was kept of a kept payload is sofar
+unfoldable pub stateAt : (mode acc due ftype : ℕ) → Place → (sofar : List ℕ) → State Place
+stateAt zero a d t p k = headState 0 a d t p
+stateAt (suc zero) a d t p k = headState 1 a d t p
+stateAt (suc (suc zero)) a d t p k = in-payload skipped [] (a - 1) p
+stateAt (suc (suc (suc zero))) a d t p k = in-payload content [] (a - 1) p
+stateAt (suc (suc (suc (suc zero)))) a d t p k = in-payload (section header-section) [] (a - 1) p
+stateAt (suc (suc (suc (suc (suc zero))))) a d t p k = in-payload (section trailers) [] (a - 1) p
+stateAt (suc (suc (suc (suc (suc (suc zero)))))) a d t p k = due header-section p
+stateAt (suc (suc (suc (suc (suc (suc (suc zero))))))) a d t p k = due trailers p
+stateAt (suc (suc (suc (suc (suc (suc (suc (suc m)))))))) a d t p k = in-payload (kept (keptAt (suc (suc (suc (suc (suc (suc (suc (suc m)))))))))) k (a - 1) p
+
+abbrev pub stateOf : Cells → Place → (sofar : List ℕ) → State Place
+stateOf c p k = stateAt (c .mode) (c .acc) (c .due) (c .ftype) p k
+
+-- the place of a request by its numbers; a control stream's is kept elsewhere
+unfoldable pub placeAt : (phase has stated sum : ℕ) → Place → Place
+placeAt zero h n m p = placeOf 0 h n m
+placeAt (suc zero) h n m p = placeOf 1 h n m
+placeAt (suc (suc zero)) h n m p = placeOf 2 h n m
+placeAt (suc (suc (suc zero))) h n m p = placeOf 3 h n m
+placeAt (suc (suc (suc (suc k)))) h n m p = p
+
+abbrev pub placeIn : Cells → Place → Place
+placeIn c p = placeAt (c .phase) (c .has) (c .stated) (c .sum) p
+
+abbrev pub StandsIn : Cells → Place → Type 0
+StandsIn c p = Stands (c .has) (c .stated) (c .sum) (c .phase) p
+
+-- ---- an answer
+
+-- event 0 none, 1 content, 2 section bytes, 3 the last of them, 4 a fault with its code in len, 5 a kept payload complete, 6 a part of one
+unfoldable pub eventAt : (event len : ℕ) → Event
+eventAt zero n = quiet
+eventAt (suc zero) n = content-bytes n
+eventAt (suc (suc zero)) n = section-bytes n false
+eventAt (suc (suc (suc e))) n = section-bytes n true
+
+unfoldable pub answerAt : (event start len used heads : ℕ) → Cells → Place → (sofar s : List ℕ) → Feeding Place
+answerAt zero start len used heads c p k s = record { used = used; heads = heads; event = quiet; after = lives (stateOf c p k) }
+answerAt (suc zero) start len used heads c p k s = record { used = used; heads = heads; event = content-bytes len; after = lives (stateOf c p k) }
+answerAt (suc (suc zero)) start len used heads c p k s = record { used = used; heads = heads; event = section-bytes len false; after = lives (stateOf c p k) }
+answerAt (suc (suc (suc zero))) start len used heads c p k s = record { used = used; heads = heads; event = section-bytes len true; after = lives (stateOf c p k) }
+answerAt (suc (suc (suc (suc zero)))) start len used heads c p k s = record { used = used; heads = heads; event = quiet; after = dies len }
+answerAt (suc (suc (suc (suc (suc zero))))) start len used heads c p k s = past used heads (judgedAs both 0 p (keptAt (c .mode)) (k ++ take len (drop start s)))
+answerAt (suc (suc (suc (suc (suc (suc e)))))) start len used heads c p k s =
+    record { used = used; heads = heads; event = quiet; after = lives (stateOf c p (k ++ take len (drop start s))) }
+
+abbrev pub answerOf : Answer → Place → (sofar s : List ℕ) → Feeding Place
+answerOf r p k s = answerAt (r .event) (r .start) (r .len) (r .used) (r .heads) (r .cells) (placeIn (r .cells) p) k s
+
+-- ---- numbers that the code can go on with
+
+pub record Sane (c : Cells) : Type 0 where
+  pub modes : c .mode ≤ 11
+  pub header : c .mode < 2 → Good (part (c .acc) (c .due))
+  pub small : c .acc < 2 ^ 62
+  pub type : c .ftype < 2 ^ 62
+  pub some : 2 ≤ c .mode → (c .mode ≡ 6 → ⊥) → (c .mode ≡ 7 → ⊥) → 0 < c .acc
+  pub sums : c .sum ≤ 2 ^ 62
+  pub stateds : c .stated ≤ 2 ^ 62
+
+-- the sums alone
+abbrev pub Numbers : Cells → Type 0
+Numbers c = (c .sum ≤ 2 ^ 62) × (c .stated ≤ 2 ^ 62)
+
+-- nothing is kept so far, unless this is 0
+abbrev pub Held : (fresh : ℕ) (sofar : List ℕ) → Type 0
+Held zero k = Unit {0}
+Held (suc n) k = k ≡ []
+
+-- an answer to a feed that was to come, by any allowance left
+pub record Answers (c : Cells) (s : List ℕ) (fresh : ℕ) (want : (rest : ℕ) → Place → (sofar : List ℕ) → Feeding Place) (r : Answer) : Type 0 where
+  pub is : (n : ℕ) (p : Place) (k : List ℕ) → Held fresh k → StandsIn c p → want n p k ≡ answerOf r p k s
+  pub within : r .used ≤ length s
+  pub part : r .start + r .len ≤ r .used ⊎ r .event ≡ 4
+  pub sane : (r .event ≡ 5 → ⊥) → Sane (r .cells)
+  pub phase : r .cells .phase ≡ c .phase
+
+-- from a payload on: so many bytes and headers are behind it
+abbrev pub fromPayload : (c : Cells) (s : List ℕ) (at heads mode left : ℕ) → (rest : ℕ) → Place → (sofar : List ℕ) → Feeding Place
+fromPayload c s at heads mode left n p k = past at heads (feed both n (stateAt mode left 0 0 (placeIn c p) k) (drop at s))
+
+-- ---- laws
+
+set-phase : (h n m k : ℕ) (p : Place) → placeAt (suc (suc (suc (suc k)))) h n m p ≡ p
+unfolding placeAt
+set-phase h n m k p = refl
+
+own-phase : (h n m ph : ℕ) → placeAt ph h n m (placeOf ph h n m) ≡ placeOf ph h n m
+unfolding placeAt
+own-phase h n m zero = refl
+own-phase h n m (suc zero) = refl
+own-phase h n m (suc (suc zero)) = refl
+own-phase h n m (suc (suc (suc zero))) = refl
+own-phase h n m (suc (suc (suc (suc k)))) = refl
+
+stands-same : (h n m : ℕ) {ph : ℕ} {p : Place} → Stands h n m ph p → placeAt ph h n m p ≡ p
+stands-same h n m (a-place {phase = ph}) = own-phase h n m ph
+stands-same h n m (any-set {p = p} k i) = set-phase h n m k p
+
+pub place-same : (c : Cells) (p : Place) → StandsIn c p → placeIn c p ≡ p
+place-same c p st = stands-same (c .has) (c .stated) (c .sum) st
+
+-- the cells of another mode, at the same place
+abbrev pub inMode : Cells → (mode acc : ℕ) → Cells
+inMode c mode acc = record { mode = mode; acc = acc; due = 0; ftype = 0; phase = c .phase; has = c .has; stated = c .stated; sum = c .sum }
+
+abbrev pub answer : (event start len used heads : ℕ) → Cells → Answer
+answer event start len used heads c = record { event = event; start = start; len = len; used = used; heads = heads; cells = c }

@@ -1,0 +1,111 @@
+-- One feed, from its parts: a law for each way it goes. Assumes nothing.
+use mathlib.Core.Path.{_≡_, refl, sym, ap, _∙_}
+use Prim.Native.Nat.{ℕ, zero, suc, _+_, _-_, _≤_, _<_, _^_, zero-le}
+use native.Mathlib.Omega.{arith}
+use mathlib.Core.List.{List, []}
+use mathlib.Core.Logic.{_⊎_, inl}
+use lib.ListN.{length, drop}
+use Rattle.rules.specs.Reading.{header-section, trailers}
+use Rattle.meaning.specs.Machine.{lives, due}
+use Rattle.meaning.specs.Feed.{quiet, Feeding, halt, feed}
+use Rattle.meaning.specs.FeedLaws.{past, past-none, past-past, feed-due}
+use Rattle.streams.specs.declared.Cells.{Cells}
+use Rattle.streams.specs.declared.Answer.{Answer}
+use Rattle.streams.specs.declared.Start.{Start}
+use Rattle.streams.specs.Both.{Place, both}
+use Rattle.streams.specs.Stops.{stopOf, Stop}
+use Rattle.streams.specs.Answers.{stateAt, stateOf, placeIn, StandsIn, answerAt, answerOf, Sane, Held, Answers, fromPayload, place-same, answer}
+use Rattle.streams.specs.Stopped.{fromStop}
+use Rattle.streams.specs.Begun.{Started}
+
+-- THE DEFINITION'S FEED of these cells
+abbrev pub fedBy : (c : Cells) (s : List ℕ) (allow : ℕ) → (n : ℕ) → Place → (sofar : List ℕ) → Feeding Place
+fedBy c s allow n p k = feed both allow (stateOf c p k) s
+
+-- WHAT A FEED ANSWERS: nothing may be kept so far but of a kept payload (mode 8 and on)
+abbrev pub Fed : (c : Cells) (s : List ℕ) (allow : ℕ) → Answer → Type 0
+Fed c s allow r = Answers c s (8 - c .mode) (fedBy c s allow) r
+
+-- the rest of the cells says nothing of a payload's state
+state-free : (mode a d t : ℕ) (p : Place) (k : List ℕ) → 2 ≤ mode → stateAt mode a d t p k ≡ stateAt mode a 0 0 p k
+unfolding stateAt
+state-free zero a d t p k h = absurd (omega arith)
+state-free (suc zero) a d t p k h = absurd (omega arith)
+state-free (suc (suc zero)) a d t p k h = refl
+state-free (suc (suc (suc zero))) a d t p k h = refl
+state-free (suc (suc (suc (suc zero)))) a d t p k h = refl
+state-free (suc (suc (suc (suc (suc zero))))) a d t p k h = refl
+state-free (suc (suc (suc (suc (suc (suc zero)))))) a d t p k h = refl
+state-free (suc (suc (suc (suc (suc (suc (suc zero))))))) a d t p k h = refl
+state-free (suc (suc (suc (suc (suc (suc (suc (suc m)))))))) a d t p k h = refl
+
+module _ (c : Cells) (s : List ℕ) (allow : ℕ) where
+  -- a payload that goes on
+  pub fed-payload : (mode : ℕ) {r : Answer} → c .mode ≡ mode → 2 ≤ mode → Answers c s 0 (fromPayload c s 0 0 mode (c .acc)) r → Fed c s allow r
+  fed-payload mode e m a = record {
+    is = λ n p k hk st. (
+        ap (λ m. feed both allow (stateAt m (c .acc) (c .due) (c .ftype) p k) s) e
+        ∙ ap (λ x. feed both allow x s) (state-free mode (c .acc) (c .due) (c .ftype) p k m)
+        ∙ ap (λ q. feed both allow (stateAt mode (c .acc) 0 0 q k) s) (sym (place-same c p st)) ∙ sym (past-none _) ∙ a .is allow p k tt st);
+    within = a .within;
+    part = a .part;
+    sane = a .sane;
+    phase = a .phase;
+  }
+
+  due-state : (mode a d t : ℕ) (p : Place) (k : List ℕ) → 6 ≤ mode → mode < 8 → feed both allow (stateAt mode a d t p k) s ≡ halt quiet (lives (stateAt mode a d t p k))
+  unfolding stateAt
+  due-state zero a d t p k h l = absurd (omega arith)
+  due-state (suc zero) a d t p k h l = absurd (omega arith)
+  due-state (suc (suc zero)) a d t p k h l = absurd (omega arith)
+  due-state (suc (suc (suc zero))) a d t p k h l = absurd (omega arith)
+  due-state (suc (suc (suc (suc zero)))) a d t p k h l = absurd (omega arith)
+  due-state (suc (suc (suc (suc (suc zero))))) a d t p k h l = absurd (omega arith)
+  due-state (suc (suc (suc (suc (suc (suc zero)))))) a d t p k h l = feed-due both allow header-section p s
+  due-state (suc (suc (suc (suc (suc (suc (suc zero))))))) a d t p k h l = feed-due both allow trailers p s
+  due-state (suc (suc (suc (suc (suc (suc (suc (suc m)))))))) a d t p k h l = absurd (omega arith)
+
+  -- a section is due
+  pub fed-due : Sane c → 6 ≤ c .mode → c .mode < 8 → Fed c s allow (answer 0 0 0 0 0 c)
+  unfolding answerAt halt
+  fed-due sane h l = record {
+    is = λ n p k hk st. (let x = place-same c p st in rw x (due-state (c .mode) (c .acc) (c .due) (c .ftype) p k h l));
+    within = zero-le;
+    part = inl (omega arith);
+    sane = λ x. sane;
+    phase = refl;
+  }
+
+  -- nowhere
+  pub fed-stays : (r : Start) → Started c s allow r → r .number ≡ 9 → Fed c s allow (answer 0 (r .at) 0 (r .at) 0 (r .cells))
+  unfolding answerAt
+  fed-stays r q e = record {
+    is = λ n p k hk st. (let x = q .place p ∙ place-same c p st in q .stays e p k st ∙ rw x refl);
+    within = q .within;
+    part = inl (omega arith);
+    sane = λ x. q .sane;
+    phase = q .phase;
+  }
+
+  fresh-held : (mode : ℕ) (k : List ℕ) → mode < 3 → Held (8 - mode) k → Held 1 k
+  fresh-held zero k h e = e
+  fresh-held (suc zero) k h e = e
+  fresh-held (suc (suc zero)) k h e = e
+  fresh-held (suc (suc (suc m))) k h e = absurd (omega arith)
+
+  -- by the readers
+  pub fed-read : (b : Start) {to len rest number : ℕ} {r : Answer} → c .mode < 3 → Started c s allow b → (b .number ≡ 9 → ⊥)
+      → Stop s (c .phase) (c .has) (c .stated) (c .sum) (b .at) (allow - b .heads) (stopOf s (b .number) (b .left) (allow - b .heads) (b .at)) to len rest number
+      → Answers c s 1 (fromStop s to (allow - rest) number len rest) r → Fed c s allow r
+  fed-read b {to} {len} {rest} {number} m q n9 st a = record {
+    is = λ n p k hk sd.
+        (let e : b .at + (to - b .at) ≡ to = omega (arith, st .from) in
+        let f : b .heads + ((allow - b .heads) - rest) ≡ allow - rest = omega (arith, st .fewer, q .counted) in
+        q .goes n9 p k sd ∙ ap (past (b .at) (b .heads)) (st .is p sd) ∙ past-past (b .at) (b .heads) (to - b .at) ((allow - b .heads) - rest) _
+        ∙ ap (λ x. past x (b .heads + ((allow - b .heads) - rest)) (stopOf s number len rest to p)) e ∙ ap (λ x. past to x (stopOf s number len rest to p)) f
+        ∙ a .is n p k (fresh-held (c .mode) k m hk) sd);
+    within = a .within;
+    part = a .part;
+    sane = a .sane;
+    phase = a .phase;
+  }

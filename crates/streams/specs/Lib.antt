@@ -1,0 +1,11 @@
+pub mod Both
+pub mod Uses
+pub mod Ruled
+pub mod Stops
+pub mod Heads
+pub mod Parts
+pub mod Answers
+pub mod Handed
+pub mod Stopped
+pub mod Begun
+pub mod Fed

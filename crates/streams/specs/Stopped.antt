@@ -1,0 +1,220 @@
+-- What the code answers of a stop of the two readers: a law for each kind of stop. Assumes nothing.
+use mathlib.Core.Path.{_≡_, refl, sym, ap, _∙_}
+use Prim.Native.Nat.{ℕ, zero, suc, _+_, _-_, _≤_, _<_, _^_}
+use native.Mathlib.Nat.{add-zero}
+use native.Mathlib.Omega.{arith}
+use mathlib.Core.List.{List, [], _∷_, _++_}
+use mathlib.Core.Bool.{true, false}
+use mathlib.Core.Logic.{_⊎_, inl, inr, ⊎-elim}
+use lib.ListN.{length, take, drop, length-drop, drop-of-length-le}
+use Rattle.rules.specs.Reading.{Part, header-section, trailers, Kept, settings, goaway, max-push-id, cancel-push, Use, content, skipped, section, kept, Ruling, refuse, accept}
+use Rattle.rules.specs.Message.{body}
+use Rattle.meaning.specs.Machine.{State, in-payload, due, Outcome, lives, dies, between, with-left, over}
+use Rattle.meaning.specs.Feed.{Event, quiet, section-bytes, Feeding, halt, onward, left-event, over-event, behind-header, feed}
+use Rattle.meaning.specs.FeedLaws.{past, past-past, feed-held, skip-short}
+use Rattle.varint.specs.ByByte.{prog, fresh-good}
+use Rattle.streams.specs.declared.Cells.{Cells}
+use Rattle.streams.specs.declared.Answer.{Answer}
+use Rattle.streams.specs.Both.{Place, of-request, both}
+use Rattle.streams.specs.Uses.{placeOf, statedOf, Stands, a-place, any-set, withData, rulingAt}
+use Rattle.streams.specs.Heads.{headState}
+use Rattle.streams.specs.Parts.{judgedAs, over-judged}
+use Rattle.streams.specs.Stops.{headerOf, payloadOf, stopOf, not-header}
+use Rattle.streams.specs.Answers.{keptAt, stateAt, stateOf, placeAt, placeIn, StandsIn, answerAt, answerOf, Sane, Numbers, Held, Answers, fromPayload, place-same, inMode, answer}
+use Rattle.streams.specs.Handed.{sane-in, behind}
+
+-- from a stop on: so many bytes and headers are behind it
+abbrev pub fromStop : (s : List ℕ) (to heads number len rest : ℕ) → (n : ℕ) → Place → (sofar : List ℕ) → Feeding Place
+fromStop s to heads number len rest n p k = past to heads (stopOf s number len rest to p)
+
+-- the cells behind an accepted DATA
+abbrev pub moreSum : Cells → (len : ℕ) → Cells
+moreSum c len = record { mode = c .mode; acc = c .acc; due = c .due; ftype = c .ftype; phase = c .phase; has = c .has; stated = c .stated; sum = c .sum + len }
+
+data-place : (h n m len : ℕ) {ph : ℕ} {p : Place} (q : Place) → Stands h n m ph p → ph ≡ 1 → withData len p ≡ placeAt ph h n (m + len) q
+unfolding withData placeAt placeOf
+data-place h n m len q (a-place {phase = ph}) e = rw e refl
+data-place h n m len q (any-set k i) e = absurd (omega arith)
+
+free-place : (h n m ph : ℕ) (p q : Place) → ph ≡ 1 → placeAt ph h n m p ≡ placeAt ph h n m q
+unfolding placeAt
+free-place h n m ph p q e = rw e refl
+
+module _ (c : Cells) (s : List ℕ) (to heads len rest : ℕ) (w : to ≤ length s) (g : Numbers c) (sane : Sane c) where
+  -- ---- a fault
+
+  refused : (p : Place) (number : ℕ) → 8 ≤ number → rulingAt p number len ≡ refuse number
+  unfolding rulingAt
+  refused p zero h = absurd (omega arith)
+  refused p (suc zero) h = absurd (omega arith)
+  refused p (suc (suc zero)) h = absurd (omega arith)
+  refused p (suc (suc (suc zero))) h = absurd (omega arith)
+  refused p (suc (suc (suc (suc zero)))) h = absurd (omega arith)
+  refused p (suc (suc (suc (suc (suc zero))))) h = absurd (omega arith)
+  refused p (suc (suc (suc (suc (suc (suc zero)))))) h = absurd (omega arith)
+  refused p (suc (suc (suc (suc (suc (suc (suc zero))))))) h = absurd (omega arith)
+  refused p (suc (suc (suc (suc (suc (suc (suc (suc k)))))))) h = refl
+
+  pub stop-fault : (number : ℕ) → 8 ≤ number → (number ≡ 9 → ⊥) → Answers c s 1 (fromStop s to heads number len rest) (answer 4 to number to heads c)
+  unfolding answerAt payloadOf behind-header halt past
+  stop-fault number h n9 =
+      let u = add-zero to in
+      let z = add-zero heads in
+      record {
+        is = λ n p k hk st. ap (past to heads) (not-header s number len rest to p n9 ∙ ap (λ x. behind-header both len x (λ q. feed both rest q (drop to s))) (refused p number h)) ∙ rw (u, z) refl;
+        within = w;
+        part = inr refl;
+        sane = λ x. sane;
+        phase = refl;
+      }
+
+  -- ---- no more headers
+
+  pub stop-out : (number : ℕ) {r : Cells} → number ≡ 9 → rest ≡ 0 → r ≡ inMode c 0 0 → Answers c s 1 (fromStop s to heads number len rest) (answer 0 to 0 to heads r)
+  unfolding answerAt stateAt headState prog stopOf headerOf halt past
+  stop-out number e z q =
+      let u = add-zero to in
+      let v = add-zero heads in
+      rw (q, e, z) (record {
+        is = λ n p k hk st. (let x = place-same c p st in let y = feed-held both (Rattle.meaning.specs.Machine.fresh) p (drop to s) in rw (x, y, u, v) refl);
+        within = w;
+        part = inl (omega arith);
+        sane = λ x. sane-in c 0 0 g (omega arith) (omega arith) (λ l. refl) (λ a b f. absurd (omega arith));
+        phase = refl;
+      })
+
+  -- ---- a payload of some bytes
+
+  -- what is behind a header of this ruling, where its payload is not empty
+  some-payload : (number l : ℕ) (u : Use) (p q : Place) → len ≡ suc l → rulingAt p number len ≡ accept u q → payloadOf s number len rest to p ≡ feed both rest (in-payload u [] l q) (drop to s)
+  unfolding payloadOf behind-header left-event with-left onward
+  some-payload number l u p q e r = rw r (rw e refl)
+
+  -- ---- a skipped payload that the piece ends in
+
+  pub stop-skip : (number : ℕ) {r : Cells} → number ≡ 0 → length s - to < len → len < 2 ^ 62 → r ≡ inMode c 2 (len - (length s - to))
+      → Answers c s 1 (fromStop s to heads number len rest) (answer 0 (length s) 0 (length s) heads r)
+  unfolding answerAt stateAt
+  stop-skip number e l hi q =
+      let d = length-drop to s in
+      let f : to + (length s - to) ≡ length s = omega arith in
+      let b : (len - 1) - (length s - to) ≡ (len - (length s - to)) - 1 = omega arith in
+      rw (q, e) (record {
+        is = λ n p k hk st. (let x = place-same c p st in
+            rw x (ap (past to heads) (not-header s 0 len rest to p (λ z. omega arith) ∙ some-payload 0 (len - 1) skipped p p (omega arith) (unfold rulingAt in refl) ∙ skip-short both rest p (len - 1) (drop to s) (omega arith))
+            ∙ behind to heads (length (drop to s)) _ _ ∙ rw (d, f, b) refl));
+        within = omega arith;
+        part = inl (omega arith);
+        sane = λ x. sane-in c 2 (len - (length s - to)) g (omega arith) (omega arith) (λ l. absurd (omega arith)) (λ a b f. omega arith);
+        phase = refl;
+      })
+
+  -- ---- content: DATA moves the sum
+
+  pub stop-content : (number : ℕ) (d : Cells) {r : Answer} → number ≡ 1 → 0 < len → c .phase ≡ 1 → d ≡ moreSum c len
+      → Answers d s 0 (fromPayload d s to heads 3 len) r → Answers c s 1 (fromStop s to heads number len rest) r
+  unfolding stateAt
+  stop-content number d {r} e lo ph q b =
+      let a : Answers (moreSum c len) s 0 (fromPayload (moreSum c len) s to heads 3 len) r = rw q at b in
+      let p′ = placeOf (c .phase) (c .has) (c .stated) (c .sum + len) in
+      record {
+        is = λ n p k hk st.
+            ap (past to heads) (ap (λ x. stopOf s x len rest to p) e ∙ not-header s 1 len rest to p (λ z. omega arith)
+            ∙ some-payload 1 (len - 1) content p (withData len p) (omega arith) (unfold rulingAt in refl))
+            ∙ ap (λ x. past to heads (feed both rest (in-payload content [] (len - 1) x) (drop to s))) (data-place (c .has) (c .stated) (c .sum) len p′ st ph)
+            ∙ a .is rest p′ k tt a-place
+            ∙ ap (λ x. answerAt (r .event) (r .start) (r .len) (r .used) (r .heads) (r .cells) x k s) (free-place (r .cells .has) (r .cells .stated) (r .cells .sum) (r .cells .phase) p′ p (a .phase ∙ ph));
+        within = a .within;
+        part = a .part;
+        sane = a .sane;
+        phase = a .phase;
+      }
+
+  -- ---- a section or a kept payload, of some bytes
+
+  handed : (number mode : ℕ) (u : Use) {r : Answer} → ((p : Place) → rulingAt p number len ≡ accept u p) → ((p : Place) → stateAt mode len 0 0 p [] ≡ in-payload u [] (len - 1) p)
+      → (number ≡ 9 → ⊥) → 0 < len → Answers c s 0 (fromPayload c s to heads mode len) r → Answers c s 1 (fromStop s to heads number len rest) r
+  handed number mode u ru sa n9 lo a = record {
+    is = λ n p k hk st.
+        (let x = place-same c p st in
+        ap (past to heads) (not-header s number len rest to p n9 ∙ some-payload number (len - 1) u p p (omega arith) (ru p))
+        ∙ ap (λ y. past to heads (feed both rest y (drop to s))) (sym (sa p)) ∙ ap (λ y. past to heads (feed both rest (stateAt mode len 0 0 y []) (drop to s))) (sym x)
+        ∙ ap (λ y. past to heads (feed both rest (stateAt mode len 0 0 (placeIn c p) y) (drop to s))) (sym hk) ∙ a .is rest p k tt st);
+    within = a .within;
+    part = a .part;
+    sane = a .sane;
+    phase = a .phase;
+  }
+
+  pub stop-section : (number : ℕ) {r : Answer} → 2 ≤ number → number < 4 → 0 < len → Answers c s 0 (fromPayload c s to heads (number + 2) len) r → Answers c s 1 (fromStop s to heads number len rest) r
+  unfolding rulingAt stateAt
+  stop-section zero h l lo a = absurd (omega arith)
+  stop-section (suc zero) h l lo a = absurd (omega arith)
+  stop-section (suc (suc zero)) h l lo a = handed 2 4 (section header-section) (λ p. refl) (λ p. refl) (λ z. omega arith) lo a
+  stop-section (suc (suc (suc zero))) h l lo a = handed 3 5 (section trailers) (λ p. refl) (λ p. refl) (λ z. omega arith) lo a
+  stop-section (suc (suc (suc (suc k)))) h l lo a = absurd (omega arith)
+
+  pub stop-kept : (number : ℕ) {r : Answer} → 4 ≤ number → number < 8 → 0 < len → Answers c s 0 (fromPayload c s to heads (number + 4) len) r → Answers c s 1 (fromStop s to heads number len rest) r
+  unfolding rulingAt stateAt keptAt
+  stop-kept zero h l lo a = absurd (omega arith)
+  stop-kept (suc zero) h l lo a = absurd (omega arith)
+  stop-kept (suc (suc zero)) h l lo a = absurd (omega arith)
+  stop-kept (suc (suc (suc zero))) h l lo a = absurd (omega arith)
+  stop-kept (suc (suc (suc (suc zero)))) h l lo a = handed 4 8 (kept settings) (λ p. refl) (λ p. refl) (λ z. omega arith) lo a
+  stop-kept (suc (suc (suc (suc (suc zero))))) h l lo a = handed 5 9 (kept goaway) (λ p. refl) (λ p. refl) (λ z. omega arith) lo a
+  stop-kept (suc (suc (suc (suc (suc (suc zero)))))) h l lo a = handed 6 10 (kept max-push-id) (λ p. refl) (λ p. refl) (λ z. omega arith) lo a
+  stop-kept (suc (suc (suc (suc (suc (suc (suc zero))))))) h l lo a = handed 7 11 (kept cancel-push) (λ p. refl) (λ p. refl) (λ z. omega arith) lo a
+  stop-kept (suc (suc (suc (suc (suc (suc (suc (suc k)))))))) h l lo a = absurd (omega arith)
+
+  -- ---- and of none
+
+  empty-section : (number mode : ℕ) (t : Part) {r : Cells} → ((p : Place) → rulingAt p number len ≡ accept (section t) p) → ((p : Place) (k : List ℕ) → stateAt mode 0 0 0 p k ≡ due t p)
+      → (number ≡ 9 → ⊥) → len ≡ 0 → mode ≤ 11 → 2 ≤ mode → mode ≡ 6 ⊎ mode ≡ 7 → r ≡ inMode c mode 0 → Answers c s 1 (fromStop s to heads number len rest) (answer 3 to 0 to heads r)
+  unfolding answerAt payloadOf behind-header left-event over-event with-left over onward halt past
+  empty-section number mode t ru sa n9 z m m2 due-mode q =
+      let u = add-zero to in
+      let v = add-zero heads in
+      rw q (record {
+        is = λ n p k hk st. (let x = place-same c p st in let y = sa p k in let e = ru p in
+            ap (past to heads) (not-header s number len rest to p n9 ∙ ap (λ g. behind-header both len g (λ b. feed both rest b (drop to s))) e ∙ ap (λ g. behind-header both g (accept (section t) p) (λ b. feed both rest b (drop to s))) z)
+            ∙ rw (x, y, u, v) refl);
+        within = w;
+        part = inl (omega arith);
+        sane = λ x. sane-in c mode 0 g m (omega arith) (λ l. refl) (λ a b f. absurd (⊎-elim b f due-mode));
+        phase = refl;
+      })
+
+  pub stop-empty-section : (number : ℕ) {r : Cells} → 2 ≤ number → number < 4 → len ≡ 0 → r ≡ inMode c (number + 4) 0 → Answers c s 1 (fromStop s to heads number len rest) (answer 3 to 0 to heads r)
+  unfolding rulingAt stateAt
+  stop-empty-section zero h l z q = absurd (omega arith)
+  stop-empty-section (suc zero) h l z q = absurd (omega arith)
+  stop-empty-section (suc (suc zero)) h l z q = empty-section 2 6 header-section (λ p. refl) (λ p k. refl) (λ z. omega arith) z (omega arith) (omega arith) (inl refl) q
+  stop-empty-section (suc (suc (suc zero))) h l z q = empty-section 3 7 trailers (λ p. refl) (λ p k. refl) (λ z. omega arith) z (omega arith) (omega arith) (inr refl) q
+  stop-empty-section (suc (suc (suc (suc k)))) h l z q = absurd (omega arith)
+
+  empty-kept : (number mode : ℕ) (f : Kept) {r : Cells} → ((p : Place) → rulingAt p number len ≡ accept (kept f) p) → keptAt mode ≡ f → (number ≡ 9 → ⊥) → len ≡ 0 → r ≡ inMode c mode 0
+      → Answers c s 1 (fromStop s to heads number len rest) (answer 5 to 0 to heads r)
+  unfolding answerAt payloadOf behind-header judgedAs
+  empty-kept number mode f ru ka n9 z q =
+      rw q (record {
+        is = λ n p k hk st. (let x = place-same c p st in let e = ru p in
+            ap (past to heads) (not-header s number len rest to p n9 ∙ ap (λ g. behind-header both len g (λ b. feed both rest b (drop to s))) e ∙ ap (λ g. behind-header both g (accept (kept f) p) (λ b. feed both rest b (drop to s))) z
+            ∙ over-judged both rest p f [] (λ b. feed both rest b (drop to s)))
+            ∙ rw (x, ka, hk) refl);
+        within = w;
+        part = inl (omega arith);
+        sane = λ x. absurd (x refl);
+        phase = refl;
+      })
+
+  pub stop-empty-kept : (number : ℕ) {r : Cells} → 4 ≤ number → number < 8 → len ≡ 0 → r ≡ inMode c (number + 4) 0 → Answers c s 1 (fromStop s to heads number len rest) (answer 5 to 0 to heads r)
+  unfolding rulingAt keptAt
+  stop-empty-kept zero h l z q = absurd (omega arith)
+  stop-empty-kept (suc zero) h l z q = absurd (omega arith)
+  stop-empty-kept (suc (suc zero)) h l z q = absurd (omega arith)
+  stop-empty-kept (suc (suc (suc zero))) h l z q = absurd (omega arith)
+  stop-empty-kept (suc (suc (suc (suc zero)))) h l z q = empty-kept 4 8 settings (λ p. refl) refl (λ z. omega arith) z q
+  stop-empty-kept (suc (suc (suc (suc (suc zero))))) h l z q = empty-kept 5 9 goaway (λ p. refl) refl (λ z. omega arith) z q
+  stop-empty-kept (suc (suc (suc (suc (suc (suc zero)))))) h l z q = empty-kept 6 10 max-push-id (λ p. refl) refl (λ z. omega arith) z q
+  stop-empty-kept (suc (suc (suc (suc (suc (suc (suc zero))))))) h l z q = empty-kept 7 11 cancel-push (λ p. refl) refl (λ z. omega arith) z q
+  stop-empty-kept (suc (suc (suc (suc (suc (suc (suc (suc k)))))))) h l z q = absurd (omega arith)

@@ -1,0 +1,696 @@
+// The frames of a request or control stream (document 01, "Frames"), read in pieces.
+use varint::Part;
+use varint::Step;
+ghost use mathlib.Core.Path.{_≡_};
+ghost use Prim.Native.Nat.{_+_, _≤_, _<_, _^_};
+ghost use lib.ListN.{length};
+ghost use Rattle.streams.specs.Both.{rule};
+ghost use Rattle.streams.specs.Uses.{placeOf, numberOf, passesOf};
+ghost use Rattle.streams.specs.Ruled.{oneOf};
+ghost use Rattle.streams.specs.Heads.{GoodHead, HeadStepped, HeadRead};
+ghost use Rattle.streams.specs.Answers.{Sane, Numbers, Answers, fromPayload, inMode};
+ghost use Rattle.streams.specs.Stopped.{moreSum, fromStop};
+ghost use Rattle.streams.specs.Begun.{headCells, fromCut, Started};
+ghost use Rattle.streams.specs.Fed.{Fed};
+ghost use Rattle.streams.specs.Stops.{Lawful, Unready, Stuck, Stop, headerOf, stopOf};
+
+// A header's use is a number: 0 skipped, 1 content, 2 the header section, 3 trailers, 4 SETTINGS, 5 GOAWAY, 6 MAX_PUSH_ID, 7 CANCEL_PUSH;
+// 9: the header is not whole, or not allowed. Any other number is the code that refuses it.
+// A place between two frames is four: phase 0 before the header section, 1 behind it, 2 behind trailers, 3 control before SETTINGS, 4 behind them;
+// has 1 where a length is stated; the length; the sum of DATA.
+
+// DATA of a length, behind the header section.
+fn data_rule(has: u64, stated: u64, sum: u64, len: u64) -> u64
+    requires { ⌜ (sum ≤ 2 ^ 62) × (len < 2 ^ 62) ⌝ }
+    ensures { λ r. ⌜ r ≡ numberOf (rule (placeOf 1 has stated sum) 0 len) ⌝ }
+{
+    let total = sum + len;
+    if has == 0 {
+        if 1048576 < total { 0x010c } else { 1 }
+    } else if stated < total {
+        0x010e
+    } else {
+        1
+    }
+}
+
+// The frame table's first column.
+fn request_rule(phase: u64, has: u64, stated: u64, sum: u64, ftype: u64, len: u64) -> u64
+    requires { ⌜ (phase < 3) × (sum ≤ 2 ^ 62) × (len < 2 ^ 62) ⌝ }
+    ensures { λ r. ⌜ r ≡ numberOf (rule (placeOf phase has stated sum) ftype len) ⌝ }
+{
+    if ftype == 0 {
+        if phase == 1 {
+            data_rule(has, stated, sum, len)
+        } else {
+            0x0105
+        }
+    } else if ftype == 1 {
+        if phase == 2 {
+            0x0105
+        } else if 16384 < len {
+            0x0107
+        } else {
+            phase + 2
+        }
+    } else if ftype < 10 {
+        0x0105
+    } else if ftype == 13 {
+        0x0105
+    } else {
+        0
+    }
+}
+
+// The frame table's second column.
+fn control_rule(phase: u64, ftype: u64, len: u64) -> u64
+    requires { ⌜ 3 ≤ phase ⌝ }
+    ensures { λ r. ⌜ r ≡ numberOf (rule (placeOf phase 0 0 0) ftype len) ⌝ }
+{
+    if phase == 3 {
+        if ftype == 4 {
+            if 256 < len { 0x0107 } else { 4 }
+        } else {
+            0x010a
+        }
+    } else if ftype == 7 {
+        one_integer(len, 5)
+    } else if ftype == 13 {
+        one_integer(len, 6)
+    } else if ftype == 3 {
+        one_integer(len, 7)
+    } else if ftype < 10 {
+        0x0105
+    } else {
+        0
+    }
+}
+
+// A frame that holds one integer.
+fn one_integer(len: u64, use_number: u64) -> u64
+    ensures { λ r. ⌜ r ≡ oneOf len use_number ⌝ }
+{
+    if len == 0 {
+        0x0106
+    } else if 8 < len {
+        0x0106
+    } else {
+        use_number
+    }
+}
+
+fn ruled(phase: u64, has: u64, stated: u64, sum: u64, ftype: u64, len: u64) -> u64
+    requires { ⌜ (sum ≤ 2 ^ 62) × (len < 2 ^ 62) ⌝ }
+    ensures { λ r. ⌜ r ≡ numberOf (rule (placeOf phase has stated sum) ftype len) ⌝ }
+{
+    if phase < 3 {
+        request_rule(phase, has, stated, sum, ftype, len)
+    } else {
+        control_rule(phase, ftype, len)
+    }
+}
+
+// Whether a payload is passed with nothing for the caller.
+fn passes(left: u64, number: u64, room: u64) -> bool
+    ensures { λ r. ⌜ r ≡ passesOf left number room ⌝ }
+{
+    if number == 0 {
+        left <= room
+    } else if number == 1 {
+        left == 0
+    } else {
+        false
+    }
+}
+
+// A header, and what follows it, up to a stop: its place, its payload's length, the allowance left, and as the result its use.
+fn header(
+    s: &[u8],
+    at: usize,
+    phase: u64,
+    has: u64,
+    stated: u64,
+    sum: u64,
+    allow: u64,
+    to: &mut usize,
+    len: &mut u64,
+    rest: &mut u64,
+) -> u64
+    requires { ⌜ (at ≤ length (now s)) × (sum ≤ 2 ^ 62) × (stated ≤ 2 ^ 62) ⌝ }
+    ensures { λ r. ⌜ Stop (now (s .entry)) phase has stated sum at allow (headerOf (now (s .entry)) allow at) (now (to .exit)) (now (len .exit)) (now (rest .exit)) r ⌝ }
+{
+    if allow == 0 {
+        *to = at;
+        *len = 0;
+        *rest = allow;
+        return 9;
+    }
+    let n = varint::ends(s, at);
+    if n == 0 {
+        *to = at;
+        *len = 0;
+        *rest = allow;
+        return 9;
+    }
+    let m = varint::ends(s, n);
+    if m == 0 {
+        *to = at;
+        *len = 0;
+        *rest = allow;
+        return 9;
+    }
+    let l = varint::value(s, n);
+    let k = ruled(phase, has, stated, sum, varint::value(s, at), l);
+    payload(
+        s,
+        m,
+        l,
+        k,
+        phase,
+        has,
+        stated,
+        sum,
+        allow - 1,
+        to,
+        len,
+        rest,
+    )
+}
+
+// A payload, and what follows it, up to a stop.
+fn payload(
+    s: &[u8],
+    at: usize,
+    left: u64,
+    number: u64,
+    phase: u64,
+    has: u64,
+    stated: u64,
+    sum: u64,
+    allow: u64,
+    to: &mut usize,
+    len: &mut u64,
+    rest: &mut u64,
+) -> u64
+    requires { ⌜ (at ≤ length (now s)) × (sum ≤ 2 ^ 62) × (stated ≤ 2 ^ 62) × (number ≡ 9 → ⊥) × (left < 2 ^ 62) × Lawful number phase sum left ⌝ }
+    ensures { λ r. ⌜ Stop (now (s .entry)) phase has stated sum at allow (stopOf (now (s .entry)) number left allow at) (now (to .exit)) (now (len .exit)) (now (rest .exit)) r ⌝ }
+{
+    if passes(left, number, (s.len() - at) as u64) {
+        header(
+            s,
+            at + left as usize,
+            phase,
+            has,
+            stated,
+            sum,
+            allow,
+            to,
+            len,
+            rest,
+        )
+    } else {
+        *to = at;
+        *len = left;
+        *rest = allow;
+        number
+    }
+}
+
+// ---- a header that a piece cuts
+
+// A header of which some bytes were read. mode 0: in its type, 1: in the length behind its type; 2: it is whole, and acc is the length.
+struct Head {
+    mode: u64,
+    acc: u64,
+    due: u64,
+    ftype: u64,
+}
+
+struct HeadEnd {
+    head: Head,
+    next: usize,
+}
+
+// One byte more.
+fn head_step(h: Head, b: u8) -> Head
+    requires { ⌜ GoodHead h × (h .mode < 2) ⌝ }
+    ensures { λ r. ⌜ HeadStepped h b r ⌝ }
+{
+    let p = Part {
+        acc: h.acc,
+        due: h.due,
+    };
+    match varint::read_step(p, b) {
+        Step::More(q) => Head {
+            mode: h.mode,
+            acc: q.acc,
+            due: q.due,
+            ftype: h.ftype,
+        },
+        Step::Done(v) => {
+            if h.mode == 0 {
+                Head {
+                    mode: 1,
+                    acc: 0,
+                    due: 0,
+                    ftype: v,
+                }
+            } else {
+                Head {
+                    mode: 2,
+                    acc: v,
+                    due: 0,
+                    ftype: h.ftype,
+                }
+            }
+        }
+    }
+}
+
+// On to the header's end or the piece's.
+fn head_on(s: &[u8], at: usize, h: Head) -> HeadEnd
+    requires { ⌜ (at ≤ length (now s)) × GoodHead h × (h .mode < 2) ⌝ }
+    ensures { λ r. ⌜ HeadRead (now (s .entry)) at h r ⌝ }
+{
+    let mut i = at;
+    let mut q = h;
+    while i < s.len() {
+        q = head_step(q, s[i]);
+        i += 1;
+        if q.mode == 2 {
+            return HeadEnd { head: q, next: i };
+        }
+    }
+    HeadEnd { head: q, next: i }
+}
+
+// ---- one feed
+
+// Where a stream stands, in numbers. mode 0: in a type, 1: in a length, 2: in a payload to skip, 3: in content, 4: in the header section,
+// 5: in trailers, 6: the header section is due, 7: trailers are due, 8 to 11: in SETTINGS, GOAWAY, MAX_PUSH_ID, CANCEL_PUSH.
+// acc: the value of an integer's bytes so far, or the payload's bytes to come; due: the integer's bytes to come; ftype: the type before a length.
+// phase, has, stated, sum: the place between two frames, as above.
+pub struct Cells {
+    pub mode: u64,
+    pub acc: u64,
+    pub due: u64,
+    pub ftype: u64,
+    pub phase: u64,
+    pub has: u64,
+    pub stated: u64,
+    pub sum: u64,
+}
+
+// event 0: none, 1: content, 2: section bytes, 3: the last of them, 4: a fault, its code in len, 5: a kept payload is complete, 6: a part of one.
+// A part is len bytes of the piece from start on.
+pub struct Answer {
+    pub event: u64,
+    pub start: usize,
+    pub len: u64,
+    pub used: usize,
+    pub heads: u64,
+    pub cells: Cells,
+}
+
+fn in_mode(c: Cells, mode: u64, acc: u64) -> Cells
+    ensures { λ r. ⌜ r ≡ inMode c mode acc ⌝ }
+{
+    Cells {
+        mode,
+        acc,
+        due: 0,
+        ftype: 0,
+        phase: c.phase,
+        has: c.has,
+        stated: c.stated,
+        sum: c.sum,
+    }
+}
+
+// Content, of which some is to come.
+fn content(s: &[u8], at: usize, left: u64, c: Cells, heads: u64) -> Answer
+    requires { ⌜ (at ≤ length (now s)) × (0 < left) × (left < 2 ^ 62) × Numbers c ⌝ }
+    ensures { λ r. ⌜ Answers c (now (s .entry)) 0 (fromPayload c (now (s .entry)) at heads 3 left) r ⌝ }
+{
+    let room = (s.len() - at) as u64;
+    if left <= room {
+        Answer {
+            event: 1,
+            start: at,
+            len: left,
+            used: at + left as usize,
+            heads,
+            cells: in_mode(c, 0, 0),
+        }
+    } else if room == 0 {
+        Answer {
+            event: 0,
+            start: at,
+            len: 0,
+            used: at,
+            heads,
+            cells: in_mode(c, 3, left),
+        }
+    } else {
+        Answer {
+            event: 1,
+            start: at,
+            len: room,
+            used: s.len(),
+            heads,
+            cells: in_mode(c, 3, left - room),
+        }
+    }
+}
+
+// A section's bytes, of which some are to come. mode 4: the header section, 5: trailers.
+fn section(s: &[u8], at: usize, left: u64, mode: u64, c: Cells, heads: u64) -> Answer
+    requires { ⌜ (at ≤ length (now s)) × (0 < left) × (left < 2 ^ 62) × Numbers c × (4 ≤ mode) × (mode ≤ 5) ⌝ }
+    ensures { λ r. ⌜ Answers c (now (s .entry)) 0 (fromPayload c (now (s .entry)) at heads mode left) r ⌝ }
+{
+    let room = (s.len() - at) as u64;
+    if left <= room {
+        Answer {
+            event: 3,
+            start: at,
+            len: left,
+            used: at + left as usize,
+            heads,
+            cells: in_mode(c, mode + 2, 0),
+        }
+    } else if room == 0 {
+        Answer {
+            event: 0,
+            start: at,
+            len: 0,
+            used: at,
+            heads,
+            cells: in_mode(c, mode, left),
+        }
+    } else {
+        Answer {
+            event: 2,
+            start: at,
+            len: room,
+            used: s.len(),
+            heads,
+            cells: in_mode(c, mode, left - room),
+        }
+    }
+}
+
+// A kept payload, of which some is to come: the caller keeps its parts and judges it when it is complete. mode 8 to 11.
+fn kept(s: &[u8], at: usize, left: u64, mode: u64, c: Cells, heads: u64) -> Answer
+    requires { ⌜ (at ≤ length (now s)) × (0 < left) × (left < 2 ^ 62) × Numbers c × (8 ≤ mode) × (mode ≤ 11) ⌝ }
+    ensures { λ r. ⌜ Answers c (now (s .entry)) 0 (fromPayload c (now (s .entry)) at heads mode left) r ⌝ }
+{
+    let room = (s.len() - at) as u64;
+    if left <= room {
+        Answer {
+            event: 5,
+            start: at,
+            len: left,
+            used: at + left as usize,
+            heads,
+            cells: in_mode(c, mode, 0),
+        }
+    } else {
+        Answer {
+            event: 6,
+            start: at,
+            len: room,
+            used: s.len(),
+            heads,
+            cells: in_mode(c, mode, left - room),
+        }
+    }
+}
+
+fn more_sum(c: Cells, len: u64) -> Cells
+    requires { ⌜ c .sum + len ≤ 2 ^ 62 ⌝ }
+    ensures { λ r. ⌜ r ≡ moreSum c len ⌝ }
+{
+    Cells {
+        mode: c.mode,
+        acc: c.acc,
+        due: c.due,
+        ftype: c.ftype,
+        phase: c.phase,
+        has: c.has,
+        stated: c.stated,
+        sum: c.sum + len,
+    }
+}
+
+fn head_cells(h: Head, c: Cells) -> Cells
+    ensures { λ r. ⌜ r ≡ headCells h c ⌝ }
+{
+    Cells {
+        mode: h.mode,
+        acc: h.acc,
+        due: h.due,
+        ftype: h.ftype,
+        phase: c.phase,
+        has: c.has,
+        stated: c.stated,
+        sum: c.sum,
+    }
+}
+
+// A header that the piece ends in.
+fn cut_header(s: &[u8], to: usize, c: Cells, heads: u64) -> Answer
+    requires { ⌜ (to ≤ length (now s)) × Numbers c × Unready (now s) to ⌝ }
+    ensures { λ r. ⌜ Answers c (now (s .entry)) 1 (fromCut (now (s .entry)) to heads) r ⌝ }
+{
+    let e = head_on(
+        s,
+        to,
+        Head {
+            mode: 0,
+            acc: 0,
+            due: 0,
+            ftype: 0,
+        },
+    );
+    let h = e.head;
+    Answer {
+        event: 0,
+        start: s.len(),
+        len: 0,
+        used: s.len(),
+        heads,
+        cells: head_cells(h, c),
+    }
+}
+
+// What the readers stopped at.
+fn stopped(s: &[u8], number: u64, to: usize, len: u64, rest: u64, c: Cells, heads: u64) -> Answer
+    requires { ⌜ (to ≤ length (now s)) × (len < 2 ^ 62) × Sane c × Stuck (now s) (c .phase) (c .sum) to len rest number ⌝ }
+    ensures { λ r. ⌜ Answers c (now (s .entry)) 1 (fromStop (now (s .entry)) to heads number len rest) r ⌝ }
+{
+    if number == 1 {
+        content(s, to, len, more_sum(c, len), heads)
+    } else if number == 0 {
+        let room = (s.len() - to) as u64;
+        Answer {
+            event: 0,
+            start: s.len(),
+            len: 0,
+            used: s.len(),
+            heads,
+            cells: in_mode(c, 2, len - room),
+        }
+    } else if number == 9 {
+        if rest == 0 {
+            Answer {
+                event: 0,
+                start: to,
+                len: 0,
+                used: to,
+                heads,
+                cells: in_mode(c, 0, 0),
+            }
+        } else {
+            cut_header(s, to, c, heads)
+        }
+    } else if number < 4 {
+        if len == 0 {
+            Answer {
+                event: 3,
+                start: to,
+                len: 0,
+                used: to,
+                heads,
+                cells: in_mode(c, number + 4, 0),
+            }
+        } else {
+            section(s, to, len, number + 2, c, heads)
+        }
+    } else if number < 8 {
+        if len == 0 {
+            Answer {
+                event: 5,
+                start: to,
+                len: 0,
+                used: to,
+                heads,
+                cells: in_mode(c, number + 4, 0),
+            }
+        } else {
+            kept(s, to, len, number + 4, c, heads)
+        }
+    } else {
+        Answer {
+            event: 4,
+            start: to,
+            len: number,
+            used: to,
+            heads,
+            cells: c,
+        }
+    }
+}
+
+// Where a feed begins: at a payload, or nowhere (number 9), and then the cells are what is left.
+struct Start {
+    at: usize,
+    left: u64,
+    number: u64,
+    heads: u64,
+    cells: Cells,
+}
+
+// On with a header or a skipped payload.
+fn begin(s: &[u8], c: Cells, allow: u64) -> Start
+    requires { ⌜ Sane c × (c .mode < 3) ⌝ }
+    ensures { λ r. ⌜ Started c (now (s .entry)) allow r ⌝ }
+{
+    if c.mode == 2 {
+        return Start {
+            at: 0,
+            left: c.acc,
+            number: 0,
+            heads: 0,
+            cells: c,
+        };
+    }
+    if c.mode == 0 {
+        if c.due == 0 {
+            return Start {
+                at: 0,
+                left: 0,
+                number: 0,
+                heads: 0,
+                cells: c,
+            };
+        }
+    }
+    begun(s, c, allow)
+}
+
+// On with a header that an earlier piece began.
+fn begun(s: &[u8], c: Cells, allow: u64) -> Start
+    requires { ⌜ Sane c × (c .mode < 2) ⌝ }
+    ensures { λ r. ⌜ Started c (now (s .entry)) allow r ⌝ }
+{
+    if allow == 0 {
+        return Start {
+            at: 0,
+            left: 0,
+            number: 9,
+            heads: 0,
+            cells: c,
+        };
+    }
+    let e = head_on(
+        s,
+        0,
+        Head {
+            mode: c.mode,
+            acc: c.acc,
+            due: c.due,
+            ftype: c.ftype,
+        },
+    );
+    let h = e.head;
+    if h.mode == 2 {
+        Start {
+            at: e.next,
+            left: h.acc,
+            number: ruled(c.phase, c.has, c.stated, c.sum, h.ftype, h.acc),
+            heads: 1,
+            cells: c,
+        }
+    } else {
+        Start {
+            at: s.len(),
+            left: 0,
+            number: 9,
+            heads: 0,
+            cells: head_cells(h, c),
+        }
+    }
+}
+
+// By the readers, from where the feed begins.
+fn read(s: &[u8], c: Cells, allow: u64) -> Answer
+    requires { ⌜ Sane c × (c .mode < 3) ⌝ }
+    ensures { λ r. ⌜ Fed c (now (s .entry)) allow r ⌝ }
+{
+    let b = begin(s, c, allow);
+    let cells = b.cells;
+    if b.number == 9 {
+        Answer {
+            event: 0,
+            start: b.at,
+            len: 0,
+            used: b.at,
+            heads: 0,
+            cells,
+        }
+    } else {
+        let mut to = 0;
+        let mut len = 0;
+        let mut rest = 0;
+        let number = payload(
+            s,
+            b.at,
+            b.left,
+            b.number,
+            c.phase,
+            c.has,
+            c.stated,
+            c.sum,
+            allow - b.heads,
+            &mut to,
+            &mut len,
+            &mut rest,
+        );
+        stopped(s, number, to, len, rest, c, allow - rest)
+    }
+}
+
+// One piece of a request stream or of a control stream behind its type, at these cells, with this frame allowance.
+pub fn feed(s: &[u8], c: Cells, allow: u64) -> Answer
+    requires { ⌜ Sane c ⌝ }
+    ensures { λ r. ⌜ Fed c (now (s .entry)) allow r ⌝ }
+{
+    if c.mode < 3 {
+        read(s, c, allow)
+    } else if c.mode == 3 {
+        content(s, 0, c.acc, c, 0)
+    } else if c.mode < 6 {
+        section(s, 0, c.acc, c.mode, c, 0)
+    } else if c.mode < 8 {
+        Answer {
+            event: 0,
+            start: 0,
+            len: 0,
+            used: 0,
+            heads: 0,
+            cells: c,
+        }
+    } else {
+        kept(s, 0, c.acc, c.mode, c, 0)
+    }
+}
