@@ -1,0 +1,6 @@
+pub mod Bytes
+pub mod Table
+pub mod Walk
+pub mod Laws
+pub mod Lines
+pub mod Decimal
