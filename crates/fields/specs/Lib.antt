@@ -4,3 +4,4 @@ pub mod Walk
 pub mod Laws
 pub mod Lines
 pub mod Decimal
+pub mod Refuted
