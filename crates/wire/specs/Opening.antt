@@ -7,7 +7,7 @@ use native.Mathlib.Numerals.{add-one}
 use native.Mathlib.Omega.{arith}
 use lib.ListN.{length, drop, set, getD, length-set, drop-of-length-le}
 use lib.Seq.{sets, drop-cons}
-use Rattle.rules.specs.Text.{hex, hexFrom, nibble}
+use Rattle.rules.specs.Text.{hex, hexFrom, nibble, between}
 use Rattle.rules.specs.Writer.{opening, write-opening}
 use Rattle.varint.specs.Write.{Meets, meets-short, meets-bytes}
 use Rattle.varint.specs.declared.Wrote.the-variants.{Refused, Count}
@@ -36,7 +36,7 @@ abbrev pub ours : List ℕ
 ours = 0x00 ∷ 0x04 ∷ 0x09 ∷ 0x01 ∷ 0x00 ∷ 0x06 ∷ 0x80 ∷ 0x00 ∷ 0x40 ∷ 0x00 ∷ 0x07 ∷ 0x00 ∷ []
 
 are-ours : opening ≡ ours
-unfolding opening hex hexFrom nibble
+unfolding opening hex hexFrom nibble between
 are-ours = refl
 
 pub opening-short : (l : List ℕ) → length l < 12 → Meets (write-opening (length l)) l (Refused 7) l

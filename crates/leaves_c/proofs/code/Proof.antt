@@ -1,0 +1,75 @@
+-- `leaves_c::code` meets its contract: three of the reasons, by their tags, have the one code, and the others the other. Assumes nothing.
+use Prim.Native.Nat.{ℕ}
+use mathlib.Core.Path.{_≡_, refl, _∙_}
+use mathlib.Core.List.{List, [], _∷_, map}
+use mathlib.Core.Bool.{_||_, cond}
+use mathlib.Core.Logic.{⊎-elim}
+use lib.Dec.{eqb}
+use types.Run.{OneOf}
+use denote.Enum.Declared.{tagOf}
+use Rattle.section.proofs.Reason.{the-type}
+use Rattle.rules.specs.Section.{codeOf, size-check, bytes-check, unknown-check, repeated-check, late-check, in-trailers-check, connection-check, te-check, method-check, no-method-check, repeated-length-check, length-in-trailers-check, digits-check, length-above-check, repeated-host-check, connect-check, present-check, scheme-check, path-check, authority-check, empty-check, differ-check, at-check, length-check}
+use Rattle.section.specs.declared.Reason.{Reason}
+use Rattle.section.specs.declared.Reason.the-variants.{TooLarge, BadBytes, UnknownPseudo, RepeatedPseudo, LatePseudo, PseudoInTrailers, ConnectionField, OtherTe, BadMethod, NoMethod, RepeatedLength, LengthInTrailers, NoDigits, LengthAbove, RepeatedHost, Connect, NoSchemeOrPath, OtherScheme, BadPath, NoAuthority, EmptyAuthority, AuthoritiesDiffer, AtInAuthority, LengthPastLimit}
+use Rattle.section.specs.Checks.{reasonOf}
+use Rattle.leaves_c.proofs.code.Statement.{statement}
+use Rattle.leaves_c.proofs.code.Tie as tie
+
+byTag : ℕ → ℕ
+byTag t = cond (eqb t 15 || eqb t 17 || eqb t 23) 0x010b 0x010e
+
+by-tag : (r : Reason) → byTag (tagOf the-type r) ≡ codeOf (reasonOf r)
+unfolding byTag codeOf reasonOf size-check bytes-check unknown-check repeated-check late-check in-trailers-check connection-check te-check method-check no-method-check repeated-length-check length-in-trailers-check digits-check length-above-check repeated-host-check connect-check present-check scheme-check path-check authority-check empty-check differ-check at-check length-check
+by-tag TooLarge = refl
+by-tag BadBytes = refl
+by-tag UnknownPseudo = refl
+by-tag RepeatedPseudo = refl
+by-tag LatePseudo = refl
+by-tag PseudoInTrailers = refl
+by-tag ConnectionField = refl
+by-tag OtherTe = refl
+by-tag BadMethod = refl
+by-tag NoMethod = refl
+by-tag RepeatedLength = refl
+by-tag LengthInTrailers = refl
+by-tag NoDigits = refl
+by-tag LengthAbove = refl
+by-tag RepeatedHost = refl
+by-tag Connect = refl
+by-tag NoSchemeOrPath = refl
+by-tag OtherScheme = refl
+by-tag BadPath = refl
+by-tag NoAuthority = refl
+by-tag EmptyAuthority = refl
+by-tag AuthoritiesDiffer = refl
+by-tag AtInAuthority = refl
+by-tag LengthPastLimit = refl
+
+coded : ℕ → List ℕ → List ℕ
+coded code [] = []
+coded code (k ∷ ks) = code ∷ coded code ks
+
+-- a code that every tag of a list has
+one-of : (code : ℕ) (ks : List ℕ) (t : ℕ) → coded code ks ≡ map byTag ks → OneOf ks t → code ≡ byTag t
+unfolding coded
+one-of code [] t a h = absurd h
+one-of code (k ∷ []) t a h = let b : code ≡ byTag k = cc in rw h b
+one-of code (k ∷ j ∷ ks) t a h =
+    let b : code ≡ byTag k = cc in
+    let rest : coded code (j ∷ ks) ≡ map byTag (j ∷ ks) = cc in
+    ⊎-elim (λ e. rw e b) (λ l. one-of code (j ∷ ks) t rest l) h
+
+returns : tie.Need-returns
+unfolding coded byTag
+returns c = one-of 0x010b (15 ∷ 17 ∷ 23 ∷ []) _ refl (c .match .keys1) ∙ by-tag _
+
+returns-2 : tie.Need-returns-2
+unfolding coded byTag
+returns-2 c =
+    one-of 0x010e (0 ∷ 1 ∷ 2 ∷ 3 ∷ 4 ∷ 5 ∷ 6 ∷ 7 ∷ 8 ∷ 9 ∷ 10 ∷ 11 ∷ 12 ∷ 13 ∷ 14 ∷ 16 ∷ 18 ∷ 19 ∷ 20 ∷ 21 ∷ 22 ∷ []) _
+    refl
+    (c .match .keys2)
+    ∙ by-tag _
+
+pub code-spec : {M : Type 1} → statement M
+code-spec = tie.close (tie.spec returns returns-2)
