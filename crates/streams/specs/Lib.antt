@@ -9,3 +9,4 @@ pub mod Handed
 pub mod Stopped
 pub mod Begun
 pub mod Fed
+pub mod End

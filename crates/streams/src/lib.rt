@@ -12,6 +12,7 @@ ghost use Rattle.streams.specs.Answers.{Sane, Numbers, Answers, fromPayl
 ghost use Rattle.streams.specs.Stopped.{moreSum, fromStop};
 ghost use Rattle.streams.specs.Begun.{headCells, fromCut, Started};
 ghost use Rattle.streams.specs.Fed.{Fed};
+ghost use Rattle.streams.specs.End.{tallyOf, cutOf, Ends};
 ghost use Rattle.streams.specs.Stops.{Lawful, Unready, Stuck, Stop, headerOf, stopOf};
 
 // A header's use is a number: 0 skipped, 1 content, 2 the header section, 3 trailers, 4 SETTINGS, 5 GOAWAY, 6 MAX_PUSH_ID, 7 CANCEL_PUSH;
@@ -692,5 +693,50 @@ pub fn feed(s: &[u8], c: Cells, allow: u64) -> Answer
         }
     } else {
         kept(s, 0, c.acc, c.mode, c, 0)
+    }
+}
+
+// ---- the end
+
+// Between two frames.
+fn tallied(phase: u64, has: u64, stated: u64, sum: u64) -> u64
+    ensures { λ r. ⌜ r ≡ tallyOf phase has stated sum ⌝ }
+{
+    if 2 < phase {
+        return 0x0104;
+    }
+    if phase == 0 {
+        return 0x010d;
+    }
+    if has == 0 {
+        return 0;
+    }
+    if sum == stated { 0 } else { 0x010e }
+}
+
+// Inside a frame.
+fn cut_off(phase: u64) -> u64
+    ensures { λ r. ⌜ r ≡ cutOf phase ⌝ }
+{
+    if 2 < phase { 0x0104 } else { 0x0106 }
+}
+
+// The end of a stream: 0 whole, 4 a section is due, else the code.
+pub fn end(c: Cells) -> u64
+    ensures { λ r. ⌜ Ends c r ⌝ }
+{
+    if c.mode == 6 {
+        return 4;
+    }
+    if c.mode == 7 {
+        return 4;
+    }
+    if 0 < c.mode {
+        return cut_off(c.phase);
+    }
+    if 0 < c.due {
+        cut_off(c.phase)
+    } else {
+        tallied(c.phase, c.has, c.stated, c.sum)
     }
 }

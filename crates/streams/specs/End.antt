@@ -1,0 +1,219 @@
+-- The end of a stream of either kind, in numbers. Assumes nothing.
+use mathlib.Core.Path.{_≡_, refl, sym, ap, _∙_}
+use Prim.Native.Nat.{ℕ, zero, suc, _+_, _-_, _≤_, _<_}
+use native.Mathlib.Omega.{arith}
+use mathlib.Core.List.{List}
+use mathlib.Core.Bool.{true, false}
+use borrow.Author.Tests.{eq-eqb, ne-eqb}
+use Rattle.rules.specs.Reading.{End, complete, lacking, Verdict, whole, fault, waits, ended}
+use Rattle.rules.specs.Message.{Message, opening, body, trailed, unequal, Ended, all-come, lacks, ends, tally}
+use Rattle.rules.specs.Request.{Rules, request, end-of, codeOf}
+use Rattle.rules.specs.Control.{Control, control}
+use Rattle.meaning.specs.Machine.{Prog, fresh, need, State, in-type, in-length, in-payload, due, finish}
+use Rattle.meaning.specs.Hom.{map-state}
+use Rattle.varint.specs.ByByte.{prog}
+use Rattle.streams.specs.declared.Cells.{Cells}
+use Rattle.streams.specs.Both.{Place, of-request, of-control}
+use Rattle.streams.specs.Uses.{statedOf, placeOf, Stands, a-place, any-set}
+use Rattle.streams.specs.Heads.{headState}
+use Rattle.streams.specs.Answers.{stateAt, stateOf, StandsIn}
+
+-- ---- what an end says
+
+-- 0 whole, 4 a section is due, else the code
+unfoldable pub verdictNumber : Verdict → ℕ
+verdictNumber whole = 0
+verdictNumber (fault code place) = code
+verdictNumber (waits place) = 4
+
+unfoldable pub endNumber : End → ℕ
+endNumber complete = 0
+endNumber (lacking code) = code
+
+-- between two frames, and inside one
+unfoldable pub endAt : Place → End
+endAt (of-request m) = end-of (ends m)
+endAt (of-control c) = lacking 0x0104
+
+unfoldable pub cutAt : Place → ℕ
+cutAt (of-request m) = 0x0106
+cutAt (of-control c) = 0x0104
+
+unfoldable pub endOf : State Place → ℕ
+endOf (in-type fresh p) = endNumber (endAt p)
+endOf (in-type (need k v) p) = cutAt p
+endOf (in-length t g p) = cutAt p
+endOf (in-payload u k left p) = cutAt p
+endOf (due t p) = 4
+
+-- THE END of these cells
+abbrev pub Ends : Cells → ℕ → Type 0
+Ends c r = (p : Place) (k : List ℕ) → StandsIn c p → r ≡ endOf (stateOf c p k)
+
+-- ---- it is the rules' own
+
+ended-number : (e : End) (place : ℕ) → endNumber e ≡ verdictNumber (ended e place)
+unfolding endNumber verdictNumber ended
+ended-number complete place = refl
+ended-number (lacking code) place = refl
+
+-- A REQUEST STREAM'S END, and A CONTROL STREAM'S
+pub request-end : (R : Rules) (place : ℕ) (s : State Message) → endOf (map-state of-request s) ≡ verdictNumber (finish (request R) place s)
+unfolding endOf map-state finish endAt cutAt verdictNumber
+request-end R place (in-type fresh m) = ended-number (end-of (ends m)) place
+request-end R place (in-type (need k v) m) = refl
+request-end R place (in-length t g m) = refl
+request-end R place (in-payload u k left m) = refl
+request-end R place (due t m) = refl
+
+pub control-end : (place : ℕ) (s : State Control) → endOf (map-state of-control s) ≡ verdictNumber (finish control place s)
+unfolding endOf map-state finish endAt cutAt verdictNumber endNumber ended
+control-end place (in-type fresh c) = refl
+control-end place (in-type (need k v) c) = refl
+control-end place (in-length t g c) = refl
+control-end place (in-payload u k left c) = refl
+control-end place (due t c) = refl
+
+-- ---- laws: between two frames
+
+abbrev pub tallyOf : (phase has stated sum : ℕ) → ℕ
+tallyOf phase has stated sum = endNumber (endAt (placeOf phase has stated sum))
+
+module _ (h n m : ℕ) where
+  pub tally-control : (phase : ℕ) → 2 < phase → 0x0104 ≡ tallyOf phase h n m
+  unfolding endNumber endAt placeOf
+  tally-control zero l = absurd (omega arith)
+  tally-control (suc zero) l = absurd (omega arith)
+  tally-control (suc (suc zero)) l = absurd (omega arith)
+  tally-control (suc (suc (suc zero))) l = refl
+  tally-control (suc (suc (suc (suc k)))) l = refl
+
+  pub tally-opening : (phase : ℕ) → phase ≡ 0 → 0x010d ≡ tallyOf phase h n m
+  unfolding endNumber endAt placeOf end-of ends codeOf
+  tally-opening phase e = rw e refl
+
+  -- behind a header section it is the tally's
+  tally-behind : (phase : ℕ) → (2 < phase → ⊥) → (phase ≡ 0 → ⊥) → endNumber (end-of (tally (statedOf h n) m)) ≡ tallyOf phase h n m
+  unfolding endAt placeOf ends
+  tally-behind zero l z = absurd (z refl)
+  tally-behind (suc zero) l z = refl
+  tally-behind (suc (suc zero)) l z = refl
+  tally-behind (suc (suc (suc k))) l z = absurd (l (omega arith))
+
+  abbrev Behind : ℕ → Type 0
+  Behind phase = (2 < phase → ⊥) × (phase ≡ 0 → ⊥)
+
+  free : h ≡ 0 → 0 ≡ endNumber (end-of (tally (statedOf h n) m))
+  unfolding endNumber end-of tally statedOf
+  free e = rw e refl
+
+  pub tally-free : (phase : ℕ) → Behind phase → h ≡ 0 → 0 ≡ tallyOf phase h n m
+  tally-free phase b e = free e ∙ tally-behind phase (b .0) (b .1)
+
+stated-some : (h n m : ℕ) → (h ≡ 0 → ⊥) → endNumber (end-of (tally (statedOf (suc 0) n) m)) ≡ endNumber (end-of (tally (statedOf h n) m))
+unfolding statedOf
+stated-some zero n m z = absurd (z refl)
+stated-some (suc h) n m z = refl
+
+equal-all : (n m : ℕ) → m ≡ n → tally (statedOf 1 n) m ≡ all-come
+unfolding tally statedOf
+equal-all n m e = let x = eq-eqb m n e in rw (x, tally) refl
+
+unequal-lacks : (n m : ℕ) → (m ≡ n → ⊥) → tally (statedOf 1 n) m ≡ lacks unequal
+unfolding tally statedOf
+unequal-lacks n m e = let x = ne-eqb m n e in rw (x, tally) refl
+
+equal-tally : (n m : ℕ) → m ≡ n → 0 ≡ endNumber (end-of (tally (statedOf 1 n) m))
+unfolding endNumber end-of
+equal-tally n m e = sym (ap (λ t. endNumber (end-of t)) (equal-all n m e))
+
+unequal-tally : (n m : ℕ) → (m ≡ n → ⊥) → 0x010e ≡ endNumber (end-of (tally (statedOf 1 n) m))
+unfolding endNumber end-of codeOf
+unequal-tally n m e = sym (ap (λ t. endNumber (end-of t)) (unequal-lacks n m e))
+
+module _ (h n m : ℕ) (z : h ≡ 0 → ⊥) (phase : ℕ) (b : Behind h n m phase) where
+  pub tally-equal : m ≡ n → 0 ≡ tallyOf phase h n m
+  tally-equal e = equal-tally n m e ∙ stated-some h n m z ∙ tally-behind h n m phase (b .0) (b .1)
+
+  pub tally-unequal : (m ≡ n → ⊥) → 0x010e ≡ tallyOf phase h n m
+  tally-unequal e = unequal-tally n m e ∙ stated-some h n m z ∙ tally-behind h n m phase (b .0) (b .1)
+
+-- ---- laws: the cells
+
+-- all places that the numbers stand for end alike
+ends-alike : {h n m phase : ℕ} {p : Place} → Stands h n m phase p → endNumber (endAt (placeOf phase h n m)) ≡ endNumber (endAt p)
+unfolding placeOf endAt
+ends-alike a-place = refl
+ends-alike {p = of-control c} (any-set k s) = refl
+ends-alike {p = of-request m} (any-set k s) = absurd s
+
+abbrev pub cutOf : (phase : ℕ) → ℕ
+cutOf phase = cutAt (placeOf phase 0 0 0)
+
+same-cut : (h n m phase : ℕ) → cutOf phase ≡ cutAt (placeOf phase h n m)
+unfolding placeOf cutAt
+same-cut h n m zero = refl
+same-cut h n m (suc zero) = refl
+same-cut h n m (suc (suc zero)) = refl
+same-cut h n m (suc (suc (suc zero))) = refl
+same-cut h n m (suc (suc (suc (suc k)))) = refl
+
+cuts-alike : {h n m phase : ℕ} {p : Place} → Stands h n m phase p → cutOf phase ≡ cutAt p
+unfolding placeOf cutAt
+cuts-alike {h} {n} {m} {phase} a-place = same-cut h n m phase
+cuts-alike {p = of-control c} (any-set k s) = refl
+cuts-alike {p = of-request m} (any-set k s) = absurd s
+
+due-end : (mode a d t : ℕ) (p : Place) (k : List ℕ) → 6 ≤ mode → mode ≤ 7 → 4 ≡ endOf (stateAt mode a d t p k)
+unfolding stateAt endOf
+due-end zero a d t p k l u = absurd (omega arith)
+due-end (suc zero) a d t p k l u = absurd (omega arith)
+due-end (suc (suc zero)) a d t p k l u = absurd (omega arith)
+due-end (suc (suc (suc zero))) a d t p k l u = absurd (omega arith)
+due-end (suc (suc (suc (suc zero)))) a d t p k l u = absurd (omega arith)
+due-end (suc (suc (suc (suc (suc zero))))) a d t p k l u = absurd (omega arith)
+due-end (suc (suc (suc (suc (suc (suc zero)))))) a d t p k l u = refl
+due-end (suc (suc (suc (suc (suc (suc (suc zero))))))) a d t p k l u = refl
+due-end (suc (suc (suc (suc (suc (suc (suc (suc m)))))))) a d t p k l u = absurd (omega arith)
+
+pub end-due : (c : Cells) → 6 ≤ c .mode → c .mode ≤ 7 → Ends c 4
+end-due c l u p k st = due-end (c .mode) (c .acc) (c .due) (c .ftype) p k l u
+
+fresh-end : (mode a d t : ℕ) (p : Place) (k : List ℕ) → mode ≡ 0 → d ≡ 0 → endNumber (endAt p) ≡ endOf (stateAt mode a d t p k)
+unfolding stateAt headState prog endOf
+fresh-end mode a d t p k e f = rw (e, f) refl
+
+pub end-between : (c : Cells) {r : ℕ} → c .mode ≡ 0 → c .due ≡ 0 → r ≡ tallyOf (c .phase) (c .has) (c .stated) (c .sum) → Ends c r
+end-between c e f g p k st = g ∙ ends-alike st ∙ fresh-end (c .mode) (c .acc) (c .due) (c .ftype) p k e f
+
+-- inside a frame
+cut-end : (mode a d t : ℕ) (p : Place) (k : List ℕ) → (mode ≡ 0 → d ≡ 0 → ⊥) → (mode ≡ 6 → ⊥) → (mode ≡ 7 → ⊥) → cutAt p ≡ endOf (stateAt mode a d t p k)
+unfolding stateAt headState prog endOf
+cut-end zero a zero t p k z s v = absurd (z refl refl)
+cut-end zero a (suc d) t p k z s v = refl
+cut-end (suc zero) a d t p k z s v = refl
+cut-end (suc (suc zero)) a d t p k z s v = refl
+cut-end (suc (suc (suc zero))) a d t p k z s v = refl
+cut-end (suc (suc (suc (suc zero)))) a d t p k z s v = refl
+cut-end (suc (suc (suc (suc (suc zero))))) a d t p k z s v = refl
+cut-end (suc (suc (suc (suc (suc (suc zero)))))) a d t p k z s v = absurd (s refl)
+cut-end (suc (suc (suc (suc (suc (suc (suc zero))))))) a d t p k z s v = absurd (v refl)
+cut-end (suc (suc (suc (suc (suc (suc (suc (suc m)))))))) a d t p k z s v = refl
+
+pub cut-control : (phase : ℕ) → 2 < phase → 0x0104 ≡ cutOf phase
+unfolding cutAt placeOf
+cut-control zero l = absurd (omega arith)
+cut-control (suc zero) l = absurd (omega arith)
+cut-control (suc (suc zero)) l = absurd (omega arith)
+cut-control (suc (suc (suc zero))) l = refl
+cut-control (suc (suc (suc (suc k)))) l = refl
+
+pub cut-request : (phase : ℕ) → (2 < phase → ⊥) → 0x0106 ≡ cutOf phase
+unfolding cutAt placeOf
+cut-request zero l = refl
+cut-request (suc zero) l = refl
+cut-request (suc (suc zero)) l = refl
+cut-request (suc (suc (suc k))) l = absurd (l (omega arith))
+
+pub end-inside : (c : Cells) {r : ℕ} → (c .mode ≡ 0 → c .due ≡ 0 → ⊥) → (c .mode ≡ 6 → ⊥) → (c .mode ≡ 7 → ⊥) → r ≡ cutOf (c .phase) → Ends c r
+end-inside c z six seven e p k st = e ∙ cuts-alike st ∙ cut-end (c .mode) (c .acc) (c .due) (c .ftype) p k z six seven
