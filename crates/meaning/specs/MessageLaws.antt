@@ -107,10 +107,6 @@ full-heads stated in-body q e = let z : _≡_ {A = ℕ} 0 1 = cc in omega arith
 full-heads stated in-trail q e = let z : _≡_ {A = ℕ} 0 1 = cc in omega arith
 
 -- a whole message that states n is full
-pub ends-full : {n sum : ℕ} → tally (some n) sum ≡ all-come → sum ≡ n
-unfolding tally
-ends-full {n} {sum} w = equal-tally n sum (eqb sum n) refl w
-
 -- the same over a row of items
 pub data Item : Type 0 where
   heading : (stated : Option ℕ) → Item

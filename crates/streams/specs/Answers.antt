@@ -1,21 +1,18 @@
 -- The numbers of a state and of an answer, and what they say of a feed. Assumes nothing.
-use mathlib.Core.Path.{_≡_, refl, sym, ap, _∙_}
+use mathlib.Core.Path.{_≡_, refl}
 use Prim.Native.Nat.{ℕ, zero, suc, _+_, _-_, _≤_, _<_, _^_}
-use native.Mathlib.Nat.{add-zero, zero-add, sub-self, sub-zero}
-use native.Mathlib.Omega.{arith}
-use mathlib.Core.List.{List, [], _∷_, _++_, append-nil}
+use mathlib.Core.List.{List, [], _++_}
 use mathlib.Core.Bool.{true, false}
 use mathlib.Core.Logic.{_⊎_}
-use lib.ListN.{length, take, drop, length-drop}
-use lib.Seq.{drop-length}
-use Rattle.rules.specs.Reading.{Part, header-section, trailers, Kept, settings, goaway, max-push-id, cancel-push, Use, content, skipped, section, kept}
-use Rattle.meaning.specs.Machine.{State, in-payload, due, Outcome, lives, dies, between}
-use Rattle.meaning.specs.Feed.{Event, quiet, section-bytes, content-bytes, Feeding, halt, feed}
+use lib.ListN.{length, take, drop}
+use Rattle.rules.specs.Reading.{header-section, trailers, Kept, settings, goaway, max-push-id, cancel-push, content, skipped, section, kept}
+use Rattle.meaning.specs.Machine.{State, in-payload, due, lives, dies}
+use Rattle.meaning.specs.Feed.{quiet, section-bytes, content-bytes, Feeding, feed}
 use Rattle.meaning.specs.FeedLaws.{past}
 use Rattle.varint.specs.ByByte.{part, Good}
 use Rattle.streams.specs.declared.Cells.{Cells}
 use Rattle.streams.specs.declared.Answer.{Answer}
-use Rattle.streams.specs.Both.{Place, of-request, of-control, both}
+use Rattle.streams.specs.Both.{Place, both}
 use Rattle.streams.specs.Uses.{placeOf, Stands, a-place, any-set}
 use Rattle.streams.specs.Heads.{headState}
 use Rattle.streams.specs.Parts.{judgedAs}
@@ -68,12 +65,6 @@ StandsIn c p = Stands (c .has) (c .stated) (c .sum) (c .phase) p
 -- ---- an answer
 
 -- event 0 none, 1 content, 2 section bytes, 3 the last of them, 4 a fault with its code in len, 5 a kept payload complete, 6 a part of one
-unfoldable pub eventAt : (event len : ℕ) → Event
-eventAt zero n = quiet
-eventAt (suc zero) n = content-bytes n
-eventAt (suc (suc zero)) n = section-bytes n false
-eventAt (suc (suc (suc e))) n = section-bytes n true
-
 unfoldable pub answerAt : (event start len used heads : ℕ) → Cells → Place → (sofar s : List ℕ) → Feeding Place
 answerAt zero start len used heads c p k s = record { used = used; heads = heads; event = quiet; after = lives (stateOf c p k) }
 answerAt (suc zero) start len used heads c p k s = record { used = used; heads = heads; event = content-bytes len; after = lives (stateOf c p k) }

@@ -1,27 +1,27 @@
 -- Where a feed begins: a payload, or a header from the bytes read of it; and a header that the piece ends in. Assumes nothing.
 use mathlib.Core.Path.{_≡_, refl, sym, ap, _∙_}
 use Prim.Native.Nat.{ℕ, zero, suc, _+_, _-_, _≤_, _<_, _^_, zero-le}
-use native.Mathlib.Nat.{add-zero, zero-add, sub-zero}
+use native.Mathlib.Nat.{add-zero, sub-zero}
 use native.Mathlib.Omega.{arith}
-use mathlib.Core.List.{List, [], _∷_, _++_}
-use mathlib.Core.Logic.{_⊎_, inl, inr}
+use mathlib.Core.List.{List, []}
+use mathlib.Core.Logic.{inl}
 use lib.ListN.{length, drop, drop-of-length-le}
 use Rattle.rules.specs.Integers.{Int, cut, got, integer}
-use Rattle.rules.specs.Reading.{skipped, accept}
-use Rattle.meaning.specs.Machine.{State, in-type, in-length, in-payload, lives, between, over, with-left}
+use Rattle.rules.specs.Reading.{skipped}
+use Rattle.meaning.specs.Machine.{State, in-payload, lives, between, over, with-left}
 use Rattle.meaning.specs.Feed.{quiet, Feeding, halt, onward, left-event, over-event, behind-header, feed}
 use Rattle.meaning.specs.FeedLaws.{past, past-none, past-past, feed-nothing, feed-held, feed-held-length, unfinished-type, unfinished-length}
-use Rattle.varint.specs.ByByte.{part, prog, Good}
+use Rattle.varint.specs.ByByte.{part, prog}
 use Rattle.streams.specs.declared.Cells.{Cells}
 use Rattle.streams.specs.declared.Head.{Head}
 use Rattle.streams.specs.declared.HeadEnd.{HeadEnd}
 use Rattle.streams.specs.declared.Answer.{Answer}
 use Rattle.streams.specs.declared.Start.{Start}
 use Rattle.streams.specs.Both.{Place, rule, both}
-use Rattle.streams.specs.Uses.{Stands, placeOf, numberOf, rulingAt, ruling-back, number-stands}
+use Rattle.streams.specs.Uses.{placeOf, numberOf, rulingAt, ruling-back, number-stands}
 use Rattle.streams.specs.Heads.{headState, goesOn, headGoes, GoodHead, HeadRead}
 use Rattle.streams.specs.Stops.{headerOf, payloadOf, stopOf, not-header, Unready, Lawful, Stop}
-use Rattle.streams.specs.Answers.{stateAt, stateOf, placeIn, StandsIn, answerAt, answerOf, Sane, Numbers, Held, Answers, place-same, answer}
+use Rattle.streams.specs.Answers.{stateAt, stateOf, placeIn, StandsIn, answerAt, Sane, Numbers, Answers, place-same, answer}
 use Rattle.streams.specs.Handed.{behind}
 use Rattle.streams.specs.Stopped.{moreSum, fromStop}
 
@@ -220,9 +220,6 @@ module _ (c : Cells) (s : List ℕ) (allow : ℕ) (sane : Sane c) where
 
   abbrev pub cellsHead : Head
   cellsHead = record { mode = c .mode; acc = c .acc; due = c .due; ftype = c .ftype }
-
-  pub head-good : c .mode < 2 → GoodHead cellsHead
-  head-good m = (omega arith, (λ l. sane .header m), sane .small, sane .type)
 
   -- a header that was begun, as the numbers have it
   begun-goes : (mode a d t n : ℕ) (p : Place) (k : List ℕ) → mode < 2 → feed both (suc n) (stateAt mode a d t p k) s ≡ goesOn n mode a d t p s

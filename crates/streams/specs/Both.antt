@@ -3,8 +3,7 @@
 use mathlib.Core.Path.{_≡_, refl}
 use Prim.Native.Nat.{ℕ}
 use mathlib.Core.List.{List}
-use Rattle.rules.specs.Block.{Section}
-use Rattle.rules.specs.Reading.{Part, Kept, Ruling, Next, go, complete, Grammar}
+use Rattle.rules.specs.Reading.{Kept, Ruling, Next, go, complete, Grammar}
 use Rattle.rules.specs.Message.{Message, opening}
 use Rattle.rules.specs.Request.{Rules, request, rule as request-rule}
 use Rattle.rules.specs.Control.{Control, control, rule as control-rule, judged as control-judged}

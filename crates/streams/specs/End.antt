@@ -1,15 +1,14 @@
 -- The end of a stream of either kind, in numbers. Assumes nothing.
 use mathlib.Core.Path.{_≡_, refl, sym, ap, _∙_}
-use Prim.Native.Nat.{ℕ, zero, suc, _+_, _-_, _≤_, _<_}
+use Prim.Native.Nat.{ℕ, zero, suc, _≤_, _<_}
 use native.Mathlib.Omega.{arith}
 use mathlib.Core.List.{List}
-use mathlib.Core.Bool.{true, false}
 use borrow.Author.Tests.{eq-eqb, ne-eqb}
 use Rattle.rules.specs.Reading.{End, complete, lacking, Verdict, whole, fault, waits, ended}
-use Rattle.rules.specs.Message.{Message, opening, body, trailed, unequal, Ended, all-come, lacks, ends, tally}
+use Rattle.rules.specs.Message.{Message, opening, unequal, all-come, lacks, ends, tally}
 use Rattle.rules.specs.Request.{Rules, request, end-of, codeOf}
 use Rattle.rules.specs.Control.{Control, control}
-use Rattle.meaning.specs.Machine.{Prog, fresh, need, State, in-type, in-length, in-payload, due, finish}
+use Rattle.meaning.specs.Machine.{fresh, need, State, in-type, in-length, in-payload, due, finish}
 use Rattle.meaning.specs.Hom.{map-state}
 use Rattle.varint.specs.ByByte.{prog}
 use Rattle.streams.specs.declared.Cells.{Cells}

@@ -1,10 +1,9 @@
 -- One feed, from its parts: a law for each way it goes. Assumes nothing.
 use mathlib.Core.Path.{_≡_, refl, sym, ap, _∙_}
-use Prim.Native.Nat.{ℕ, zero, suc, _+_, _-_, _≤_, _<_, _^_, zero-le}
+use Prim.Native.Nat.{ℕ, zero, suc, _+_, _-_, _≤_, _<_, zero-le}
 use native.Mathlib.Omega.{arith}
-use mathlib.Core.List.{List, []}
-use mathlib.Core.Logic.{_⊎_, inl}
-use lib.ListN.{length, drop}
+use mathlib.Core.List.{List}
+use mathlib.Core.Logic.{inl}
 use Rattle.rules.specs.Reading.{header-section, trailers}
 use Rattle.meaning.specs.Machine.{lives, due}
 use Rattle.meaning.specs.Feed.{quiet, Feeding, halt, feed}
@@ -14,7 +13,7 @@ use Rattle.streams.specs.declared.Answer.{Answer}
 use Rattle.streams.specs.declared.Start.{Start}
 use Rattle.streams.specs.Both.{Place, both}
 use Rattle.streams.specs.Stops.{stopOf, Stop}
-use Rattle.streams.specs.Answers.{stateAt, stateOf, placeIn, StandsIn, answerAt, answerOf, Sane, Held, Answers, fromPayload, place-same, answer}
+use Rattle.streams.specs.Answers.{stateAt, stateOf, answerAt, Sane, Held, Answers, fromPayload, place-same, answer}
 use Rattle.streams.specs.Stopped.{fromStop}
 use Rattle.streams.specs.Begun.{Started}
 

@@ -1,24 +1,23 @@
 -- What the code answers of a payload that is handed on: a law for each answer. Assumes nothing.
-use mathlib.Core.Path.{_≡_, refl, sym, ap, _∙_}
+use mathlib.Core.Path.{_≡_, refl, ap, _∙_}
 use Prim.Native.Nat.{ℕ, zero, suc, _+_, _-_, _≤_, _<_, _^_}
 use native.Mathlib.Nat.{add-zero}
 use native.Mathlib.Omega.{arith}
-use mathlib.Core.List.{List, [], _∷_, _++_}
+use mathlib.Core.List.{List, [], _++_}
 use mathlib.Core.Bool.{true, false}
-use mathlib.Core.Logic.{_⊎_, inl, inr}
+use mathlib.Core.Logic.{inl}
 use lib.Seq.{take-all}
 use lib.ListN.{length, take, drop, length-drop, drop-of-length-le}
-use Rattle.rules.specs.Reading.{Part, header-section, trailers, content, section, kept}
-use Rattle.meaning.specs.Machine.{State, in-payload, due, Outcome, lives, between}
-use Rattle.meaning.specs.Feed.{Event, quiet, section-bytes, content-bytes, Feeding, halt, feed}
+use Rattle.rules.specs.Reading.{Part, header-section, trailers, section, kept}
+use Rattle.meaning.specs.Machine.{State, in-payload, due, Outcome, lives}
+use Rattle.meaning.specs.Feed.{Event, section-bytes, halt, feed}
 use Rattle.meaning.specs.FeedLaws.{past, past-past, feed-nothing, kept-short}
-use Rattle.varint.specs.ByByte.{part, prog, Good, fresh-good}
+use Rattle.varint.specs.ByByte.{part, prog, fresh-good}
 use Rattle.streams.specs.declared.Cells.{Cells}
-use Rattle.streams.specs.declared.Answer.{Answer}
 use Rattle.streams.specs.Both.{Place, both}
 use Rattle.streams.specs.Heads.{headState}
 use Rattle.streams.specs.Parts.{judgedAs, kept-judged, content-whole, content-short, section-whole, section-short}
-use Rattle.streams.specs.Answers.{keptAt, stateAt, stateOf, placeIn, StandsIn, answerAt, answerOf, Sane, Numbers, Answers, fromPayload, inMode, answer}
+use Rattle.streams.specs.Answers.{keptAt, stateAt, placeIn, answerAt, Sane, Numbers, Answers, fromPayload, inMode, answer}
 
 -- cells that go on
 pub sane-in : (c : Cells) (mode acc : ℕ) → Numbers c → mode ≤ 11 → acc < 2 ^ 62 → (mode < 2 → acc ≡ 0) → (2 ≤ mode → (mode ≡ 6 → ⊥) → (mode ≡ 7 → ⊥) → 0 < acc) → Sane (inMode c mode acc)

@@ -3,17 +3,16 @@ use mathlib.Core.Path.{_≡_, refl, sym, ap, _∙_}
 use Prim.Native.Nat.{ℕ, zero, suc, _+_, _-_, _≤_, _<_, _^_}
 use native.Mathlib.Numerals.{add-one}
 use native.Mathlib.Omega.{arith}
-use mathlib.Core.List.{List, [], _∷_}
+use mathlib.Core.List.{List, _∷_}
 use lib.ListN.{length, drop, getD}
 use lib.Seq.{drop-cons}
-use Rattle.rules.specs.Reading.{Grammar}
-use Rattle.meaning.specs.Machine.{Prog, fresh, need, Fed, going, value, fed, State, in-type, in-length, typed}
+use Rattle.meaning.specs.Machine.{going, value, fed, State, in-type, in-length, typed}
 use Rattle.meaning.specs.Feed.{Feeding, behind-header, feed}
 use Rattle.meaning.specs.FeedLaws.{past, past-none, past-past, type-byte, length-byte, last-byte}
 use Rattle.varint.specs.declared.Part.{Part}
 use Rattle.varint.specs.declared.Step.{Step}
 use Rattle.varint.specs.declared.Step.the-variants.{More, Done}
-use Rattle.varint.specs.ByByte.{part, fresh-part, prog, progOf, readAs, stepOf, step-reads, Good, fresh-good, small, Stepped}
+use Rattle.varint.specs.ByByte.{part, prog, readAs, step-reads, Good, fresh-good, small, Stepped}
 use Rattle.streams.specs.declared.Head.{Head}
 use Rattle.streams.specs.declared.HeadEnd.{HeadEnd}
 use Rattle.streams.specs.Both.{Place, rule, both}

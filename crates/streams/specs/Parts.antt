@@ -1,16 +1,15 @@
 -- A payload that is handed on or kept, to its end or the piece's: what a feed says of it. Assumes nothing.
-use mathlib.Core.Path.{_≡_, refl, sym, ap, _∙_}
+use mathlib.Core.Path.{_≡_, refl, ap, _∙_}
 use Prim.Native.Nat.{ℕ, zero, suc, _+_, _-_, _≤_, _<_, min}
 use native.Mathlib.Omega.{arith}
 use mathlib.Core.List.{List, [], _∷_, _++_}
-use mathlib.Core.Bool.{Bool, true, false}
-use lib.Dec.{eqb, eqb·suc-zero}
+use mathlib.Core.Bool.{true, false}
+use lib.Dec.{eqb·suc-zero}
 use lib.ListN.{length, take, drop}
-use lib.Seq.{take-length}
-use Rattle.rules.specs.Reading.{Part, Kept, Use, content, skipped, section, kept, Next, stop, go, Grammar}
-use Rattle.meaning.specs.Machine.{State, in-payload, due, Outcome, lives, dies, between, answered, over, with-left}
-use Rattle.meaning.specs.Feed.{Event, quiet, section-bytes, content-bytes, taken, Feeding, halt, onward, judged-event, over-event, left-event, named, taking, feed}
-use Rattle.meaning.specs.FeedLaws.{past, content-feed, section-feed, kept-whole, kept-short}
+use Rattle.rules.specs.Reading.{Part, Kept, Use, content, section, kept, Next, stop, go, Grammar}
+use Rattle.meaning.specs.Machine.{State, in-payload, due, Outcome, lives, between, answered, over, with-left}
+use Rattle.meaning.specs.Feed.{Event, section-bytes, content-bytes, Feeding, halt, onward, judged-event, over-event, left-event, named, taking, feed}
+use Rattle.meaning.specs.FeedLaws.{past, content-feed, section-feed, kept-whole}
 
 module _ (G : Grammar) (n : ℕ) (p : G .P) where
   abbrev says : (used : ℕ) → Event → Outcome (G .P) → Feeding (G .P)

@@ -1,12 +1,12 @@
 -- The numbers that the code gives headers are those of the rules: a law for each answer. Assumes nothing.
-use mathlib.Core.Path.{_≡_, refl, sym, ap, _∙_}
+use mathlib.Core.Path.{_≡_, refl, ap, _∙_}
 use Prim.Native.Nat.{ℕ, zero, suc, _+_, _≤_, _<_}
 use native.Mathlib.Omega.{arith}
 use mathlib.Core.Bool.{Bool, true, false, _||_}
 use mathlib.Core.Option.{none, some}
 use lib.Dec.{ltb, eqb}
 use borrow.Author.Tests.{lt-ltb, le-ltb, ne-eqb}
-use Rattle.rules.specs.Reading.{Kept, settings, goaway, max-push-id, cancel-push, refuse, accept, Ruling}
+use Rattle.rules.specs.Reading.{Kept, settings, refuse, accept, Ruling}
 use Rattle.rules.specs.Message.{content-limit, Message, opening, body, trailed}
 use Rattle.rules.specs.Request.{headers-limit, rule as request-rule}
 use Rattle.rules.specs.Control.{Control, unset, set, no-settings, settings-limit, one-integer, ruleFor, rule as control-rule}
@@ -14,8 +14,8 @@ use Rattle.rules.specs.Legal.{Unknown}
 use Rattle.meaning.specs.Hom.{map-ruling}
 use Rattle.meaning.specs.MessageLaws.{Fits, carry-goes}
 use Rattle.meaning.specs.RequestLaws.{rule-unknown, rule-data, rule-header, rule-trailers, rule-forbidden, rule-thirteen, rule-early-data, rule-late-data, rule-past-stated, rule-past-limit, rule-long-header, rule-long-trailers, rule-third}
-use Rattle.meaning.specs.ControlLaws.{first-is-settings, control-forbidden, control-unknown, typeOf, integerKind, control-integer, integer-fits, integer-empty, integer-long, first-fits, first-long}
-use Rattle.streams.specs.Both.{Place, of-request, of-control, rule}
+use Rattle.meaning.specs.ControlLaws.{first-is-settings, control-forbidden, control-unknown, typeOf, integerKind, control-integer, first-fits, first-long}
+use Rattle.streams.specs.Both.{of-request, of-control, rule}
 use Rattle.streams.specs.Uses.{statedOf, placeOf, keptNumber, useNumber, numberOf}
 
 -- a ruling of the request rules, or of the control rules, by its number

@@ -3,24 +3,22 @@ use mathlib.Core.Path.{_≡_, refl, sym, ap, _∙_}
 use Prim.Native.Nat.{ℕ, zero, suc, _+_, _-_, _≤_, _<_, _^_}
 use native.Mathlib.Nat.{add-zero}
 use native.Mathlib.Omega.{arith}
-use mathlib.Core.List.{List, [], _∷_, _++_}
-use mathlib.Core.Bool.{true, false}
+use mathlib.Core.List.{List, []}
 use mathlib.Core.Logic.{_⊎_, inl, inr, ⊎-elim}
-use lib.ListN.{length, take, drop, length-drop, drop-of-length-le}
-use Rattle.rules.specs.Reading.{Part, header-section, trailers, Kept, settings, goaway, max-push-id, cancel-push, Use, content, skipped, section, kept, Ruling, refuse, accept}
-use Rattle.rules.specs.Message.{body}
-use Rattle.meaning.specs.Machine.{State, in-payload, due, Outcome, lives, dies, between, with-left, over}
-use Rattle.meaning.specs.Feed.{Event, quiet, section-bytes, Feeding, halt, onward, left-event, over-event, behind-header, feed}
-use Rattle.meaning.specs.FeedLaws.{past, past-past, feed-held, skip-short}
-use Rattle.varint.specs.ByByte.{prog, fresh-good}
+use lib.ListN.{length, drop, length-drop}
+use Rattle.rules.specs.Reading.{Part, header-section, trailers, Kept, settings, goaway, max-push-id, cancel-push, Use, content, skipped, section, kept, refuse, accept}
+use Rattle.meaning.specs.Machine.{State, in-payload, due, with-left, over}
+use Rattle.meaning.specs.Feed.{Feeding, halt, onward, left-event, over-event, behind-header, feed}
+use Rattle.meaning.specs.FeedLaws.{past, feed-held, skip-short}
+use Rattle.varint.specs.ByByte.{prog}
 use Rattle.streams.specs.declared.Cells.{Cells}
 use Rattle.streams.specs.declared.Answer.{Answer}
-use Rattle.streams.specs.Both.{Place, of-request, both}
-use Rattle.streams.specs.Uses.{placeOf, statedOf, Stands, a-place, any-set, withData, rulingAt}
+use Rattle.streams.specs.Both.{Place, both}
+use Rattle.streams.specs.Uses.{placeOf, Stands, a-place, any-set, withData, rulingAt}
 use Rattle.streams.specs.Heads.{headState}
 use Rattle.streams.specs.Parts.{judgedAs, over-judged}
 use Rattle.streams.specs.Stops.{headerOf, payloadOf, stopOf, not-header}
-use Rattle.streams.specs.Answers.{keptAt, stateAt, stateOf, placeAt, placeIn, StandsIn, answerAt, answerOf, Sane, Numbers, Held, Answers, fromPayload, place-same, inMode, answer}
+use Rattle.streams.specs.Answers.{keptAt, stateAt, placeAt, placeIn, answerAt, Sane, Numbers, Answers, fromPayload, place-same, inMode, answer}
 use Rattle.streams.specs.Handed.{sane-in, behind}
 
 -- from a stop on: so many bytes and headers are behind it

@@ -1,24 +1,23 @@
 -- Where the two readers stop, and that a feed goes on from there as from where they began. Assumes nothing.
 use mathlib.Core.Path.{_≡_, refl, sym, ap, _∙_}
 use Prim.Native.Nat.{ℕ, zero, suc, _+_, _-_, _≤_, _<_, _^_}
-use native.Mathlib.Nat.{add-zero, sub-zero, sub-self}
+use native.Mathlib.Nat.{add-zero, sub-self}
 use native.Mathlib.Omega.{arith}
-use mathlib.Core.List.{List, [], _∷_}
-use mathlib.Core.Bool.{Bool, true, false}
-use lib.Dec.{leb, eqb}
+use mathlib.Core.List.{List, []}
+use mathlib.Core.Bool.{true, false}
+use lib.Dec.{eqb}
 use lib.ListN.{length, drop, length-drop}
 use lib.Seq.{drop-drop}
 use borrow.Author.Tests.{leb-true, leb-false, eqb-true, eqb-false, ne-eqb}
 use Rattle.rules.specs.Integers.{got, integer}
-use Rattle.rules.specs.Reading.{content, skipped, accept, Ruling}
 use Rattle.rules.specs.Message.{opening, body, trailed}
-use Rattle.meaning.specs.Machine.{State, in-payload, lives, between, over, with-left}
-use Rattle.meaning.specs.Feed.{quiet, Feeding, onward, over-event, left-event, behind-header, feed}
+use Rattle.meaning.specs.Machine.{between, over, with-left}
+use Rattle.meaning.specs.Feed.{Feeding, onward, over-event, left-event, behind-header, feed}
 use Rattle.meaning.specs.FeedLaws.{past, past-none, past-past, header-whole, skip-whole}
 use Rattle.meaning.specs.IntegerLaws.{integer-length, integer-rest}
 use Rattle.varint.specs.Whole.{wholeAt, endOf, wholeIs, Ended, Valued, read-value}
 use Rattle.streams.specs.Both.{Place, of-request, of-control, rule, both}
-use Rattle.streams.specs.Uses.{placeOf, Stands, a-place, any-set, withData, numberOf, rulingAt, ruling-back, number-stands, passesOf}
+use Rattle.streams.specs.Uses.{placeOf, Stands, withData, numberOf, rulingAt, ruling-back, number-stands, passesOf}
 
 -- what is to come behind a header of this use and length
 abbrev pub Coming : Type 0

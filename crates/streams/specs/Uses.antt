@@ -1,17 +1,14 @@
 -- Places and rulings in numbers, as the code holds them. Assumes nothing.
-use mathlib.Core.Path.{_≡_, refl, sym, ap, _∙_}
-use Prim.Native.Nat.{ℕ, zero, suc, _+_, _-_, _≤_, _<_, _^_}
-use native.Mathlib.Nat.{add-zero}
+use mathlib.Core.Path.{_≡_, refl, sym, ap}
+use Prim.Native.Nat.{ℕ, zero, suc, _+_, _≤_, _^_}
 use native.Mathlib.Omega.{arith}
 use mathlib.Core.Bool.{Bool, true, false, _||_}
 use mathlib.Core.Option.{Option, none, some}
 use lib.Dec.{ltb, leb, eqb, lit≤}
-use borrow.Author.Tests.{lt-ltb, le-ltb, eq-eqb, ne-eqb}
 use Rattle.rules.specs.Text.{lookup}
-use Rattle.rules.specs.Reading.{Part, header-section, trailers, Kept, settings, goaway, max-push-id, cancel-push, Use, content, skipped, section, kept, Ruling, refuse, accept}
+use Rattle.rules.specs.Reading.{header-section, trailers, Kept, settings, goaway, max-push-id, cancel-push, Use, content, skipped, section, kept, Ruling, refuse, accept}
 use Rattle.rules.specs.Message.{content-limit, Message, opening, body, trailed, Step, goes, carries}
-use Rattle.rules.specs.Request.{headers-limit, rule as request-rule}
-use Rattle.rules.specs.Control.{Settings, Control, unset, set, no-settings, Kind, forbidden, one-integer, unknown, column, ruleFor, rule as control-rule}
+use Rattle.rules.specs.Control.{Control, unset, set, no-settings, Kind, forbidden, one-integer, unknown, column, ruleFor, rule as control-rule}
 use Rattle.meaning.specs.Hom.{map-ruling}
 use Rattle.meaning.specs.RequestLaws.{RuleView, r-refused, r-skipped, r-content, r-header, r-trailers, rule-view}
 use Rattle.meaning.specs.MessageLaws.{Fits, CarryView, c-refused, c-goes, carry-view}
@@ -123,10 +120,6 @@ ruling-back (of-request m) t len = request-back t len m (rule-view m t len)
 ruling-back (of-control c) t len = control-back c len (control-view c t len)
 
 -- no ruling has the number 9
-small-or-code : {P : Type 0} → Ruling P → Type 0
-small-or-code (refuse code) = 0x0103 ≤ code
-small-or-code (accept u p) = Unit {0}
-
 use-small : (u : Use) → useNumber u ≤ 7
 unfolding useNumber keptNumber
 use-small content = lit≤ tt

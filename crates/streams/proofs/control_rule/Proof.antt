@@ -1,4 +1,4 @@
-use mathlib.Core.Path.{_≡_, refl, _∙_}
+use mathlib.Core.Path.{refl, _∙_}
 use Rattle.rules.specs.Reading.{goaway, max-push-id, cancel-push}
 use Rattle.meaning.specs.ControlLaws.{typeOf, integerKind}
 use Rattle.streams.specs.Uses.{keptNumber}

@@ -1,6 +1,5 @@
 use Prim.Native.Nat.{_-_}
 use native.Mathlib.Omega.{arith}
-use denote.Ref.{now}
 use lib.ListN.{length}
 use Rattle.streams.specs.Heads.{OnWay, way-begins, way-on, way-whole, way-ends}
 use Rattle.streams.proofs.head_on.Statement.{statement}

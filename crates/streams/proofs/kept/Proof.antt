@@ -1,4 +1,3 @@
-use native.Mathlib.Omega.{arith}
 use denote.Ref.{now}
 use Rattle.streams.specs.Handed.{kept-over, kept-on}
 use borrow.Author.Needs.{needs}

@@ -1,4 +1,4 @@
-use mathlib.Core.Path.{_≡_, _∙_}
+use mathlib.Core.Path.{_∙_}
 use Rattle.streams.specs.Ruled.{is-data, not-data, third, too-long, a-section, low, thirteen, other}
 use borrow.Author.Needs.{needs}
 use Rattle.streams.proofs.request_rule.Statement.{statement}
