@@ -1,7 +1,6 @@
 -- What the promises ask at inputs where a wrong program shows: each of the public tests is an equation with the function on the left, and a program
 -- that does what the comment says answers otherwise there. Assumes nothing.
 use mathlib.Core.Path.{_≡_, refl}
-use Prim.Native.Nat.{ℕ}
 use mathlib.Core.Bool.{Bool, true, false}
 use mathlib.Core.List.{List, [], _∷_, map}
 use Rattle.rules.specs.Text.{any, all, same, between, isOneOf, ascii}

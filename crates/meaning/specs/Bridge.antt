@@ -1,10 +1,10 @@
 -- The reading a byte at a time is the reading of the whole: the two definitions agree on every stream, for every grammar. Assumes nothing.
 use mathlib.Core.Path.{_≡_, refl, sym, ap, _∙_}
-use Prim.Native.Nat.{ℕ, zero, suc, _+_, _-_, _*_, _%_, _≤_, _<_}
+use Prim.Native.Nat.{ℕ, zero, suc, _+_, _*_, _%_, _≤_, _<_}
 use native.Mathlib.Omega.{arith}
 use mathlib.Core.List.{List, [], _∷_, _++_, append-nil, append-assoc}
 use mathlib.Core.Bool.{Bool, true, false}
-use lib.Dec.{ltb, ltb→lt, nltb→le, T}
+use lib.Dec.{ltb, ltb→lt, nltb→le}
 use lib.ListN.{length, take, drop, length-drop}
 use Rattle.rules.specs.Integers.{Int, cut, got, more, extra, integer}
 use Rattle.rules.specs.Frames.{Frames, frame, in-payload as in-frame, framesUpTo, framesFrom}

@@ -5,7 +5,7 @@ use native.Mathlib.Omega.{arith}
 use mathlib.Core.List.{List, [], _∷_}
 use mathlib.Core.Bool.{Bool, true, false, _||_}
 use mathlib.Core.Option.{Option, some}
-use lib.Dec.{ltb, eqb, nltb→le, lit≤, T}
+use lib.Dec.{ltb, eqb, nltb→le, lit≤}
 use borrow.Author.Tests.{lt-ltb, le-ltb, ne-eqb}
 use lib.ListN.{length}
 use Rattle.rules.specs.Text.{isOneOf, lookup}

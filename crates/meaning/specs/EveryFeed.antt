@@ -8,8 +8,8 @@ use mathlib.Core.Bool.{Bool, true, false}
 use lib.Dec.{eqb·suc-zero}
 use lib.ListN.{length}
 use Rattle.rules.specs.Reading.{Part, Kept, Use, content, skipped, section, kept, Ruling, refuse, accept, Next, stop, go, Grammar}
-use Rattle.meaning.specs.Machine.{Prog, Fed, going, value, fed, State, in-type, in-length, in-payload, due, Outcome, lives, dies, between, answered, typed, over, with-left}
-use Rattle.meaning.specs.Feed.{Event, quiet, section-bytes, content-bytes, taken, Feeding, halt, also, onward, judged-event, over-event, left-event, behind-header, named, taking, feed}
+use Rattle.meaning.specs.Machine.{Fed, going, value, fed, State, in-type, in-length, in-payload, due, lives, dies, between, answered, typed, over, with-left}
+use Rattle.meaning.specs.Feed.{quiet, section-bytes, content-bytes, taken, Feeding, halt, also, onward, judged-event, over-event, left-event, behind-header, named, taking, feed}
 
 -- ---- one induction
 

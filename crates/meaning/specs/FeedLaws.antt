@@ -1,14 +1,14 @@
 -- How a feed goes (Feed) by whole headers and whole payloads, as an engine reads them. For every grammar. Assumes nothing.
 use mathlib.Core.Path.{_≡_, refl, sym, ap, _∙_}
-use Prim.Native.Nat.{ℕ, zero, suc, _+_, _-_, _*_, _%_, _≤_, _<_, min}
-use native.Mathlib.Nat.{zero-add, add-zero}
+use Prim.Native.Nat.{ℕ, zero, suc, _+_, _-_, _*_, _%_, _≤_, min}
+use native.Mathlib.Nat.{zero-add}
 use native.Mathlib.Omega.{arith}
 use mathlib.Core.List.{List, [], _∷_, _++_, append-assoc, append-nil}
 use lib.ListN.{length, take, drop}
-use Rattle.rules.specs.Integers.{Int, cut, got, more, extra, integer}
-use Rattle.rules.specs.Reading.{Part, Kept, Use, content, skipped, section, kept, Ruling, Grammar}
-use Rattle.meaning.specs.Machine.{Prog, fresh, need, Fed, going, value, after, fed, State, in-type, in-length, in-payload, due, Outcome, lives, dies, between, typed, over, with-left}
-use Rattle.meaning.specs.Feed.{Event, quiet, Feeding, halt, also, onward, left-event, behind-header, taking, feed}
+use Rattle.rules.specs.Integers.{cut, got, more, extra, integer}
+use Rattle.rules.specs.Reading.{Part, Kept, content, skipped, section, kept, Grammar}
+use Rattle.meaning.specs.Machine.{Prog, fresh, going, value, after, fed, State, in-type, in-length, in-payload, due, lives, between, typed, over, with-left}
+use Rattle.meaning.specs.Feed.{quiet, Feeding, halt, also, onward, left-event, behind-header, taking, feed}
 use Rattle.meaning.specs.IntegerLaws.{more-length, integer-length}
 
 -- so many bytes and headers more, before what follows

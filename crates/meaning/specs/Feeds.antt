@@ -3,15 +3,13 @@
 use mathlib.Core.Path.{_≡_, refl, sym, ap, _∙_}
 use Prim.Native.Nat.{ℕ, zero, suc, _+_, _-_, _≤_, min, zero-le}
 use native.Mathlib.Nat.{suc-sub-suc, sub-zero, sub-self, add-zero, zero-add}
-use native.Mathlib.Numerals.{one-add}
 use native.Mathlib.Omega.{arith}
 use mathlib.Core.List.{List, [], _∷_, _++_, append-assoc, append-nil}
-use mathlib.Core.Bool.{Bool}
 use lib.ListN.{length, take, length-append}
 use lib.Seq.{length-take-le}
 use Rattle.rules.specs.Block.{Section}
 use Rattle.rules.specs.Reading.{Part, Kept, Use, content, skipped, section, kept, Ruling, refuse, accept, Next, stop, go, Grammar, Verdict, Saying, header, refused, section-byte, content-byte, frame-kept, told, read}
-use Rattle.meaning.specs.Machine.{Prog, Fed, going, value, fed, State, in-type, in-length, in-payload, due, Outcome, lives, dies, between, answered, typed, keep, over, with-left, ruled, sized, step, given, judged-says, over-says, left-says, rule-says, size-says, says, reads, resumed, supplied, settled, next, tells, finished, begins, run, began, lists}
+use Rattle.meaning.specs.Machine.{Prog, Fed, going, value, fed, State, in-type, in-length, in-payload, due, Outcome, lives, dies, between, answered, typed, keep, with-left, ruled, sized, step, given, judged-says, over-says, left-says, rule-says, size-says, says, reads, resumed, supplied, settled, next, tells, finished, begins, run, began, lists}
 use Rattle.meaning.specs.Feed.{Event, quiet, section-bytes, content-bytes, taken, Feeding, halt, also, onward, judged-event, over-event, left-event, behind-header, named, taking, feed, shows}
 use Rattle.meaning.specs.Bridge.{told-cons, told-nil}
 use Rattle.meaning.specs.Cut.{run-append, lists-append, read-is}

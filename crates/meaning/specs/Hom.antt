@@ -1,11 +1,11 @@
 -- Grammars that go alike: where one is carried into another with its rules, so are its feeds. So one engine reads request and control streams.
 -- Assumes nothing.
-use mathlib.Core.Path.{_≡_, refl, sym, ap, _∙_}
+use mathlib.Core.Path.{_≡_, refl, ap, _∙_}
 use Prim.Native.Nat.{ℕ, zero, suc, _+_, _-_, min}
 use mathlib.Core.List.{List, [], _∷_, _++_}
 use lib.ListN.{length}
-use Rattle.rules.specs.Reading.{Part, Kept, Use, content, skipped, section, kept, Ruling, refuse, accept, Next, stop, go, Grammar}
-use Rattle.meaning.specs.Machine.{Prog, Fed, going, value, fed, State, in-type, in-length, in-payload, due, Outcome, lives, dies, between, answered, typed, over, with-left}
+use Rattle.rules.specs.Reading.{Kept, Use, content, skipped, section, kept, Ruling, refuse, accept, Next, stop, go, Grammar}
+use Rattle.meaning.specs.Machine.{Fed, going, value, fed, State, in-type, in-length, in-payload, due, Outcome, lives, dies, answered, typed, over, with-left}
 use Rattle.meaning.specs.Feed.{Event, quiet, section-bytes, content-bytes, taken, Feeding, halt, also, onward, judged-event, over-event, left-event, behind-header, named, taking, feed}
 
 module _ {P Q : Type 0} (f : P → Q) where

@@ -1,18 +1,16 @@
 -- An instance of each theorem, so that none is empty. Assumes nothing.
 use mathlib.Core.Path.{_≡_, refl}
-use Prim.Native.Nat.{ℕ, _+_, _≤_, _<_}
+use Prim.Native.Nat.{ℕ, _+_, _≤_}
 use mathlib.Core.List.{List, [], _∷_, _++_}
-use mathlib.Core.Option.{Option, none, some}
+use mathlib.Core.Option.{none, some}
 use lib.Dec.{lit<}
 use lib.ListN.{length}
-use Rattle.rules.specs.Text.{hex}
 use Rattle.rules.specs.Block.{Section}
 use Rattle.rules.specs.Integers.{got, integer}
 use Rattle.rules.specs.Frames.{frame, framesFrom}
-use Rattle.rules.specs.Reading.{Reading, whole, fault, waits, read, contents}
+use Rattle.rules.specs.Reading.{whole, fault, read, contents}
 use Rattle.rules.specs.Message.{Message}
 use Rattle.rules.specs.Request.{Rules, all-sound, request}
-use Rattle.rules.specs.Control.{control}
 use Rattle.rules.specs.OneWay.{oneWay}
 use Rattle.rules.specs.Legal.{Legal}
 use Rattle.rules.specs.Worked.{answer}
@@ -21,8 +19,8 @@ use Rattle.meaning.specs.FrameLaws.{head, frame-back}
 use Rattle.meaning.specs.Machine.{lives, between, given, answered, typed, keep, over, with-left, after, fed, supplied, settled, finished, finish, joined, pieces, fresh-run}
 use Rattle.meaning.specs.Cut.{any-cutting}
 use Rattle.meaning.specs.Feed.{feed, halt, also, onward, over-event, left-event, behind-header, named, taking, shows}
-use Rattle.meaning.specs.Feeds.{Call, feed-call, give-call, takes, calls, verdict-of, CallsRead, calls-read}
-use Rattle.meaning.specs.First.{FirstFault, first-fault, early-inside, Inside, due-by}
+use Rattle.meaning.specs.Feeds.{Call, feed-call, give-call, takes, calls, verdict-of, calls-read}
+use Rattle.meaning.specs.First.{FirstFault, first-fault, early-inside}
 use Rattle.meaning.specs.Whole.{whole-iff-legal}
 use Rattle.meaning.specs.Longer.{Longer, longer, half-is-never-whole, whole-content}
 use Rattle.meaning.specs.OneWayFeed as O

@@ -7,10 +7,10 @@ use native.Mathlib.Omega.{arith}
 use mathlib.Core.List.{List, [], _∷_, _++_}
 use mathlib.Core.Bool.{Bool, true, false}
 use mathlib.Core.Option.{Option, none, some}
-use lib.Dec.{leb, leb→le, nleb→lt, T, lit<, lit≤}
+use lib.Dec.{leb, leb→le, nleb→lt, T, lit≤}
 use lib.ListN.{length, drop}
 use lib.Arith.{digits-div, digits-mod}
-use Rattle.rules.specs.Integers.{Int, cut, got, more, extra, integer, Row, row, rows, low, inRow, inFirst, written}
+use Rattle.rules.specs.Integers.{got, more, extra, integer, Row, row, rows, low, inRow, inFirst, written}
 
 -- ---- reading
 

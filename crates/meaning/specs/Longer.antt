@@ -1,6 +1,6 @@
 -- DEMAND 3: what a longer request stream can add to one that is whole and states a Content-Length. Assumes nothing.
 use mathlib.Core.Path.{_≡_, refl, sym, ap, _∙_}
-use Prim.Native.Nat.{ℕ, zero, suc, _+_, _≤_, _<_}
+use Prim.Native.Nat.{ℕ, _+_, _≤_, _<_}
 use native.Mathlib.Omega.{arith}
 use mathlib.Core.List.{List, [], _∷_, _++_, map, append-assoc, append-nil}
 use mathlib.Core.Bool.{Bool, true, false, not, _&&_}
@@ -9,8 +9,8 @@ use lib.Dec.{eqb}
 use lib.ListN.{length, length-append}
 use Rattle.rules.specs.Block.{Section}
 use Rattle.rules.specs.Frames.{Header, Frames, Frames.none as no-more, in-header, in-payload, frame, framesFrom}
-use Rattle.rules.specs.Reading.{header-section, trailers, content, skipped, section, accept, whole, Saying, section-byte, content-byte, Reading, put, told, left-by, completed, judge, readFrom, read, contents, headerBytes}
-use Rattle.rules.specs.Message.{Message, opening, body, trailed, heads, trails}
+use Rattle.rules.specs.Reading.{header-section, trailers, content, section, accept, whole, Saying, section-byte, content-byte, Reading, put, told, left-by, completed, judge, readFrom, read, contents, headerBytes}
+use Rattle.rules.specs.Message.{opening, body, trailed, heads, trails}
 use Rattle.rules.specs.Request.{Rules, Header.good as good-header, Trailer.good as good-trailer, rule, given, headed-by, trailed-by, next-of, request, headers-limit}
 use Rattle.rules.specs.Legal.{Unknown, AddsUp, Unknowns, Rest, Legal}
 use Rattle.meaning.specs.TextLaws.{is-false}

@@ -2,22 +2,22 @@
 -- only where it may. Assumes nothing.
 use mathlib.Core.Path.{_≡_, refl, sym, ap, _∙_, subst}
 use Prim.Native.Nat.{ℕ, zero, suc, _+_, _-_, _*_, _%_, _≤_, zero-le}
-use native.Mathlib.Nat.{sub-self, add-zero, zero-add}
+use native.Mathlib.Nat.{sub-self, add-zero}
 use native.Mathlib.Omega.{arith}
 use mathlib.Core.List.{List, [], _∷_, _++_, append-assoc, append-nil}
-use lib.ListN.{length, take, drop, length-append}
+use lib.ListN.{length, take, length-append}
 use lib.Seq.{length-take-le, take-length}
 use Rattle.rules.specs.Block.{Section}
 use Rattle.rules.specs.Integers.{Int, cut, got, more, extra, integer}
-use Rattle.rules.specs.Reading.{Part, Kept, skipped as skipped-frame, kept, Use, content, section, Ruling, Next, stop, go, Saying, Verdict, whole, fault, waits, Reading, readFrom}
+use Rattle.rules.specs.Reading.{Part, skipped as skipped-frame, kept, Use, content, section, Ruling, Next, stop, go, Saying, whole, fault, waits, Reading}
 use Rattle.rules.specs.Control.{Control, unset, control}
-use Rattle.rules.specs.OneWay.{Qpack, Kind, a-control, a-qpack, skipped, Typed, refuse, is, typeRule, OneWay, untyped, refused, of-control as is-control, of-qpack, passed-over, typed, behind-type, oneWay}
+use Rattle.rules.specs.OneWay.{Qpack, a-control, a-qpack, skipped, Typed, refuse, is, typeRule, OneWay, untyped, refused, of-control as is-control, of-qpack, passed-over, typed, behind-type, oneWay}
 use Rattle.meaning.specs.IntegerLaws.{integer-length, integer-append}
 use Rattle.meaning.specs.Machine.{Prog, fresh, need, Fed, going, value, after, fed, State, in-type, in-length, in-payload, due, Outcome, between, Run, reads, stuck, supplied, settled, finished, began, run, lists, fresh-run, answered, typed as machine-typed, keep, over, with-left, ruled, sized, step, next}
 use Rattle.meaning.specs.ControlLaws.{ControlView, v-refused, v-skipped, v-kept, control-view}
 use Rattle.meaning.specs.Cut.{run-append, lists-append, read-from-is}
 use Rattle.meaning.specs.Feed as F
-use Rattle.meaning.specs.Feeds.{Within, shows-also, within-also, unheaded, unheaded-append, headersIn, headersIn-append, Runs, feed-runs}
+use Rattle.meaning.specs.Feeds.{Within, shows-also, within-also, unheaded, unheaded-append, headersIn, headersIn-append, feed-runs}
 use Rattle.meaning.specs.EveryFeed.{Stops, feed-stops, ReadsOn, feed-moves, feed-allows}
 use Rattle.meaning.specs.OneWayFeed.{OneState, in-stream-type, in-control, in-qpack, in-skipped, OneOutcome, lives, dies, OneEvent, of-frames, qpack-bytes, OneFeeding, controlled, of-control, halt, also, qpack-feed, kind-feed, typed-feed, type-feed, feed, shows, Call, feed-call, Done, nothing-done, done-then, called, calls}
 

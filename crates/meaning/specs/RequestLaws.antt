@@ -2,11 +2,10 @@
 use mathlib.Core.Path.{_≡_, refl}
 use Prim.Native.Nat.{ℕ, zero, suc, _+_, _≤_, _<_, zero-le}
 use native.Mathlib.Omega.{arith}
-use mathlib.Core.List.{List, [], _∷_}
 use mathlib.Core.Bool.{Bool, true, false}
 use mathlib.Core.Option.{Option, none, some}
 use borrow.Author.Tests.{lt-ltb}
-use lib.Dec.{ltb, ltb→lt, nltb→le, lit≤, T}
+use lib.Dec.{ltb, ltb→lt, nltb→le, lit≤}
 use Rattle.rules.specs.Text.{lookup}
 use Rattle.rules.specs.Reading.{header-section, trailers, content, skipped, section, Ruling, refuse, accept}
 use Rattle.rules.specs.Message.{content-limit, Message, opening, body, trailed, Reason, out-of-place, past-stated, past-limit, no-section, unequal, Step, goes, refuses, sum-to, carries}

@@ -6,7 +6,7 @@ use mathlib.Core.List.{List, [], _∷_, _++_, map}
 use lib.ListN.{length}
 use Rattle.rules.specs.Block.{Section}
 use Rattle.rules.specs.Reading.{Kept, Use, Ruling, refuse, accept, content, skipped, section, kept, Next, stop, go, Grammar, Verdict, whole, fault, waits, Saying, header, refused, section-byte, content-byte, frame-kept, Reading, put, readFrom, read, told, ended, End, complete, lacking}
-use Rattle.meaning.specs.Machine.{fresh, need, Fed, going, value, fed, State, in-type, in-length, in-payload, due, Outcome, lives, dies, typed, keep, over, with-left, ruled, sized, answered, step, judged-says, over-says, left-says, rule-says, size-says, says, finish, Run, reads, stuck, resumed, supplied, settled, next, tells, finished, begins, reading, fresh-run}
+use Rattle.meaning.specs.Machine.{fresh, need, Fed, going, value, fed, State, in-type, in-length, in-payload, due, Outcome, lives, dies, keep, step, judged-says, over-says, left-says, rule-says, size-says, says, finish, Run, reads, stuck, resumed, supplied, settled, next, tells, finished, begins, reading, fresh-run}
 use Rattle.meaning.specs.Bridge.{by-bytes-from, by-bytes}
 
 -- a saying, k bytes further on

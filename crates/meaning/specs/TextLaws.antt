@@ -3,7 +3,7 @@ use mathlib.Core.Path.{_≡_, refl}
 use Prim.Native.Nat.{ℕ}
 use mathlib.Core.List.{List, [], _∷_}
 use mathlib.Core.Bool.{Bool, true, false}
-use lib.Dec.{eqb, eqb→eq, eqb-refl, T}
+use lib.Dec.{eqb, eqb→eq, eqb-refl}
 use Rattle.rules.specs.Text.{lookup}
 
 pub differs : (t x : ℕ) → eqb t x ≡ false → t ≡ x → ⊥

@@ -1,18 +1,18 @@
 -- What the writer writes (rules, Writer) reads back as those same frames, before any type is judged. Assumes nothing.
-use mathlib.Core.Path.{_≡_, refl, sym, ap, _∙_}
+use mathlib.Core.Path.{_≡_, refl, ap, _∙_}
 use Prim.Native.Nat.{ℕ, _+_, _≤_}
 use native.Mathlib.Omega.{arith}
 use mathlib.Core.List.{List, [], _∷_, _++_, append-assoc, append-nil}
 use mathlib.Core.Bool.{Bool, true, false}
 use mathlib.Core.Option.{Option, none, some}
-use lib.Dec.{ltb, nltb→le, T}
+use lib.Dec.{ltb, nltb→le}
 use lib.ListN.{length, length-append}
 use Rattle.rules.specs.Integers.{got, integer, written}
 use Rattle.rules.specs.Frames.{frame, framesFrom}
 use Rattle.rules.specs.Reading.{header, frame-kept, settings, kept, fault}
 use Rattle.rules.specs.Control.{told-settings, tells}
 use Rattle.rules.specs.OneWay.{of-control, oneWay}
-use Rattle.rules.specs.Writer.{Write, wrote, refused, into, both, write-integer, header-bytes, write-header, integer-frame, write-integer-frame, opening, write-opening, badGoaway, write-goaway}
+use Rattle.rules.specs.Writer.{Write, wrote, refused, into, both, write-integer, header-bytes, write-header, integer-frame, write-integer-frame, opening, badGoaway, write-goaway}
 use Rattle.rules.specs.Worked.{answer}
 use Rattle.meaning.specs.IntegerLaws.{written-reads}
 use Rattle.meaning.specs.FrameLaws.{head, frame-back}

@@ -9,7 +9,7 @@ use Prim.Native.String.{String}
 use lib.ListN.{length, replicate}
 use Rattle.rules.specs.Text.{ascii, nibble, hexFrom, hex}
 use Rattle.rules.specs.Integers.{cut, got}
-use Rattle.rules.specs.Block.{Line, Section, Lines, Flaw, readable, unreadable, other-kind, short-length, long-name, cut-record}
+use Rattle.rules.specs.Block.{Line, Section, Flaw, readable, unreadable, other-kind, short-length, long-name, cut-record}
 use Rattle.rules.specs.Classes.{isDigit, isCapital, isSmall, isMark, isToken, isName, isValue, isBlank}
 use Rattle.rules.specs.Section.{too-large, bad-bytes}
 use Rattle.rules.specs.Reading.{Kept, settings as a-settings, goaway, max-push-id, cancel-push, Use, content, skipped, section, kept, header-section as as-header-section, trailers as as-trailers, refuse, accept, Next, stop, go}

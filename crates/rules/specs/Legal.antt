@@ -3,7 +3,7 @@
 -- All frames are complete. Assumes nothing.
 use mathlib.Core.Path.{_≡_}
 use Prim.Native.Nat.{ℕ, _+_, _≤_, _<_}
-use mathlib.Core.List.{List, [], _∷_}
+use mathlib.Core.List.{List, _∷_}
 use mathlib.Core.Option.{Option, none, some}
 use Rattle.rules.specs.Block.{Section}
 use Rattle.rules.specs.Frames.{Header, Frames, Frames.none as no-more, frame}

@@ -3,7 +3,7 @@ use Prim.Native.Nat.{ℕ}
 use mathlib.Core.Path.{_≡_, refl, ap, _∙_}
 use mathlib.Core.List.{List}
 use mathlib.Core.Option.{Option, none, some}
-use Rattle.rules.specs.Block.{Section, Lines, unreadable, readable, lines}
+use Rattle.rules.specs.Block.{Section, unreadable, readable, lines}
 use Rattle.rules.specs.Section as rules
 use Rattle.rules.specs.Section.{Judgement, refused, sound, Head, header-section, codeOf}
 use Rattle.rules.specs.Request.{Header, Trailer, header-by, trailer-by, document}
