@@ -1,7 +1,6 @@
 // The leaves for a tester in another language (tests/leaves): each answer as numbers, and no logic of its own.
 use ids::StreamId;
 use section::HeaderAnswer;
-use section::Reason;
 use section::Stated;
 use section::TrailerAnswer;
 use settings::Judged;
@@ -16,8 +15,6 @@ ghost use Rattle.rules.specs.Control.{settings-of};
 ghost use Rattle.rules.specs.Writer.{write-integer, write-header, write-integer-frame, write-opening, write-goaway};
 ghost use Rattle.settings.specs.Answers.{sizeIs};
 ghost use Rattle.rules.specs.Block.{lines};
-ghost use Rattle.rules.specs.Section.{codeOf};
-ghost use Rattle.section.specs.Checks.{reasonOf};
 ghost use Rattle.section.specs.Answer.{readStated, tellHeader, tellTrailers, toldNumber};
 ghost use Rattle.wire.specs.Goaway.{sentOf};
 ghost use Rattle.leaves_c.specs.Numbers.{stated, valueOr0, settingsNumber, settingsOut, readNumber, readOut, headerOut, wroteNumber, wroteOut, given, Written};
@@ -83,16 +80,6 @@ pub extern "C" fn eist_read(bytes: &[u8], at: usize, out: &mut [u64; 2]) -> u64
 
 // ---- sections
 
-// The code of a refusal.
-fn code(reason: Reason) -> u64
-    ensures { λ r. ⌜ r ≡ codeOf (reasonOf reason) ⌝ }
-{
-    match reason {
-        Reason::Connect | Reason::OtherScheme | Reason::LengthPastLimit => 0x010b,
-        _ => 0x010e,
-    }
-}
-
 // Whether a Content-Length is stated: 1 or 0.
 fn is_stated(length: Stated) -> u64
     ensures { λ r. ⌜ r ≡ stated (readStated length) ⌝ }
@@ -121,7 +108,7 @@ pub extern "C" fn eist_header_section(block: &[u8], out: &mut [u64; 4]) -> u64
 {
     match section::header_section(block) {
         HeaderAnswer::Unreadable => 6,
-        HeaderAnswer::Refused(reason) => code(reason),
+        HeaderAnswer::Refused(reason) => section::code(reason),
         HeaderAnswer::Sound {
             method,
             end,
@@ -143,7 +130,7 @@ pub extern "C" fn eist_trailers(block: &[u8]) -> u64
 {
     match section::trailers(block) {
         TrailerAnswer::Unreadable => 6,
-        TrailerAnswer::Refused(reason) => code(reason),
+        TrailerAnswer::Refused(reason) => section::code(reason),
         TrailerAnswer::Sound => 0,
     }
 }

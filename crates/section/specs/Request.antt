@@ -1,11 +1,15 @@
 -- What a request stream makes of an answer: what the rules make of the block's lines. Assumes nothing.
-use Prim.Native.Nat.{ℕ}
+use Prim.Native.Nat.{ℕ, _≤_, _^_}
 use mathlib.Core.Path.{_≡_, refl, ap, _∙_}
 use mathlib.Core.List.{List}
 use mathlib.Core.Option.{Option, none, some}
+use mathlib.Core.Bool.{false}
+use native.Mathlib.Omega.{arith}
+use lib.Dec.{ltb}
+use borrow.Author.Tests.{ltb-false}
 use Rattle.rules.specs.Block.{Section, unreadable, readable, lines}
 use Rattle.rules.specs.Section as rules
-use Rattle.rules.specs.Section.{Judgement, refused, sound, Head, header-section, codeOf}
+use Rattle.rules.specs.Section.{Judgement, refused, sound, Head, header-section, codeOf, holds, length-limit, decimal, statedIn, firstBroken, header-checks, unless, valueOf, length-check}
 use Rattle.rules.specs.Request.{Header, Trailer, header-by, trailer-by, document}
 use Rattle.rules.specs.Request as request
 use Rattle.section.specs.declared.HeaderAnswer.{HeaderAnswer}
@@ -13,7 +17,10 @@ use Rattle.section.specs.declared.HeaderAnswer.the-variants as header
 use Rattle.section.specs.declared.TrailerAnswer.{TrailerAnswer}
 use Rattle.section.specs.declared.TrailerAnswer.the-variants as trailer
 use Rattle.section.specs.Checks.{reasonOf}
-use Rattle.section.specs.Answer.{Told, judged, Headed, at-method, placed-in, tellHeader, tellTrailers, readStated, readHeader, readTrailers}
+use Rattle.section.specs.Answer.{Told, judged, Headed, at-method, placed-in, tellHeader, tellTrailers, readStated, readHeader, readTrailers, says}
+use Rattle.section.specs.declared.Text.the-variants as text
+use Rattle.section.specs.Tests.{textOf}
+use Rattle.section.specs.Judging.{length-passed}
 use Rattle.section.specs.Answer as answer
 
 -- none where the block is unreadable
@@ -80,3 +87,20 @@ module _ (block : List ℕ) (a : TrailerAnswer) (met : readTrailers a ≡ tellTr
   pub trailer-unreadable : {f : _} → lines block ≡ unreadable f → asTrailer a ≡ none
   unfolding tellTrailers by-told′
   trailer-unreadable e = as-read′ a ∙ ap by-told′ (met ∙ ap tellTrailers e)
+
+-- ---- a length that is stated is within the limit
+
+within : (o : Option (List ℕ)) → holds (λ v. ltb length-limit (decimal v)) o ≡ false → (n : ℕ) → statedIn o ≡ some n → n ≤ 2 ^ 62
+unfolding holds length-limit statedIn
+within none e n f = let z : _≡_ {A = ℕ} 0 1 = cc in absurd (omega arith)
+within (some v) e n f = let g : decimal v ≡ n = cc in let h = ltb-false length-limit (decimal v) e in omega (arith, g, h)
+
+judged-within : (s : Section) (r : Option rules.Reason) → firstBroken header-checks s ≡ r → (n : ℕ)
+    → header-by (unless r (says s)) ≡ request.Header.good (some n) → n ≤ 2 ^ 62
+unfolding header-by unless length-check
+judged-within s none q n e = within (valueOf (textOf text.ContentLength) s) (length-passed s q) n (cc)
+judged-within s (some x) q n e = let z : _≡_ {A = ℕ} 0 1 = cc in absurd (omega arith)
+
+pub stated-within : (s : Section) (stated : Option ℕ) → document .header s ≡ request.Header.good stated → (n : ℕ) → stated ≡ some n → n ≤ 2 ^ 62
+unfolding document header-section
+stated-within s stated e n f = judged-within s (firstBroken header-checks s) refl n (e ∙ ap request.Header.good f)

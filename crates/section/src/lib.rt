@@ -11,11 +11,11 @@ ghost use Prim.Native.Nat.{ℕ};
 ghost use lib.Dec.{ltb};
 ghost use Rattle.rules.specs.Text.{any, same};
 ghost use Rattle.rules.specs.Block.{lines};
-ghost use Rattle.rules.specs.Section.{pseudo-fields, connection-fields, lineWith, lineSize, size, size-limit, holds, valueOf, has, repeated, firstBroken, length-check, header-checks, statedIn, sound};
+ghost use Rattle.rules.specs.Section.{pseudo-fields, connection-fields, lineWith, lineSize, size, size-limit, holds, valueOf, has, repeated, firstBroken, length-check, header-checks, statedIn, sound, codeOf};
 ghost use Rattle.fields.specs.Walk.{held, sectionFrom};
 ghost use Rattle.section.specs.Tests.{textOf, isOneName, valueTest, bare, lineTest};
 ghost use Rattle.section.specs.Answer.{judged, readStated, readHeader, tellHeader, headOf, readTrailers, tellTrailers};
-ghost use Rattle.section.specs.Checks.{checkOf, stepAt, reasonsOf, checksOf, readVerdict};
+ghost use Rattle.section.specs.Checks.{checkOf, reasonOf, stepAt, reasonsOf, checksOf, readVerdict};
 ghost use Rattle.section.specs.Finding.{Finds, after};
 
 // ---- texts that names and values are compared with
@@ -332,6 +332,16 @@ pub enum Reason {
     AuthoritiesDiffer,
     AtInAuthority,
     LengthPastLimit,
+}
+
+// The code of a refusal.
+pub fn code(reason: Reason) -> u64
+    ensures { λ r. ⌜ r ≡ codeOf (reasonOf reason) ⌝ }
+{
+    match reason {
+        Reason::Connect | Reason::OtherScheme | Reason::LengthPastLimit => 0x010b,
+        _ => 0x010e,
+    }
 }
 
 fn repeated_pseudo(block: &[u8]) -> bool

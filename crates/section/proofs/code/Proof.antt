@@ -1,4 +1,4 @@
--- `leaves_c::code` meets its contract: three of the reasons, by their tags, have the one code, and the others the other. Assumes nothing.
+-- `section::code` meets its contract: three of the reasons, by their tags, have the one code, and the others the other. Assumes nothing.
 use Prim.Native.Nat.{ℕ}
 use mathlib.Core.Path.{_≡_, refl, _∙_}
 use mathlib.Core.List.{List, [], _∷_, map}
@@ -7,13 +7,13 @@ use mathlib.Core.Logic.{⊎-elim}
 use lib.Dec.{eqb}
 use types.Run.{OneOf}
 use denote.Enum.Declared.{tagOf}
 use Rattle.section.proofs.Reason.{the-type}
 use Rattle.rules.specs.Section.{codeOf, size-check, bytes-check, unknown-check, repeated-check, late-check, in-trailers-check, connection-check, te-check, method-check, no-method-check, repeated-length-check, length-in-trailers-check, digits-check, length-above-check, repeated-host-check, connect-check, present-check, scheme-check, path-check, authority-check, empty-check, differ-check, at-check, length-check}
 use Rattle.section.specs.declared.Reason.{Reason}
 use Rattle.section.specs.declared.Reason.the-variants.{TooLarge, BadBytes, UnknownPseudo, RepeatedPseudo, LatePseudo, PseudoInTrailers, ConnectionField, OtherTe, BadMethod, NoMethod, RepeatedLength, LengthInTrailers, NoDigits, LengthAbove, RepeatedHost, Connect, NoSchemeOrPath, OtherScheme, BadPath, NoAuthority, EmptyAuthority, AuthoritiesDiffer, AtInAuthority, LengthPastLimit}
 use Rattle.section.specs.Checks.{reasonOf}
-use Rattle.leaves_c.proofs.code.Statement.{statement}
-use Rattle.leaves_c.proofs.code.Tie as tie
+use Rattle.section.proofs.code.Statement.{statement}
+use Rattle.section.proofs.code.Tie as tie
 
 byTag : ℕ → ℕ
 byTag t = cond (eqb t 15 || eqb t 17 || eqb t 23) 0x010b 0x010e
