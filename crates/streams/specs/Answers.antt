@@ -102,7 +102,7 @@ Held (suc n) k = k ≡ []
 pub record Answers (c : Cells) (s : List ℕ) (fresh : ℕ) (want : (rest : ℕ) → Place → (sofar : List ℕ) → Feeding Place) (r : Answer) : Type 0 where
   pub is : (n : ℕ) (p : Place) (k : List ℕ) → Held fresh k → StandsIn c p → want n p k ≡ answerOf r p k s
   pub within : r .used ≤ length s
-  pub part : r .start + r .len ≤ r .used ⊎ r .event ≡ 4
+  pub part : r .start + r .len ≡ r .used ⊎ r .event ≡ 4
   pub sane : (r .event ≡ 5 → ⊥) → Sane (r .cells)
   pub phase : r .cells .phase ≡ c .phase
 
