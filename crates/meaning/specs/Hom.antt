@@ -30,6 +30,24 @@ module _ {P Q : Type 0} (f : P → Q) where
   unfoldable pub map-feeding : Feeding P → Feeding Q
   map-feeding r = record { used = r .used; heads = r .heads; event = r .event; after = map-outcome (r .after) }
 
+-- what is carried by f and back by g is as it was
+module _ {P Q : Type 0} (f : P → Q) (g : Q → P) (back : (p : P) → g (f p) ≡ p) where
+  pub state-back : (s : State P) → map-state g (map-state f s) ≡ s
+  unfolding map-state
+  state-back (in-type h p) = ap (in-type h) (back p)
+  state-back (in-length t h p) = ap (in-length t h) (back p)
+  state-back (in-payload u k left p) = ap (in-payload u k left) (back p)
+  state-back (due t p) = ap (due t) (back p)
+
+  outcome-back : (o : Outcome P) → map-outcome g (map-outcome f o) ≡ o
+  unfolding map-outcome
+  outcome-back (lives s) = ap lives (state-back s)
+  outcome-back (dies code) = refl
+
+  pub feeding-back : (r : Feeding P) → map-feeding g (map-feeding f r) ≡ r
+  unfolding map-feeding
+  feeding-back r = ap (λ o. record { used = r .used; heads = r .heads; event = r .event; after = o }) (outcome-back (r .after))
+
 -- G carried into H by f
 pub record Carries (G H : Grammar) (f : G .P → H .P) : Type 0 where
   pub rule : (p : G .P) (t len : ℕ) → H .rule (f p) t len ≡ map-ruling f (G .rule p t len)

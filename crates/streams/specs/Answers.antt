@@ -34,7 +34,7 @@ keptAt (suc (suc (suc (suc (suc (suc zero)))))) = cancel-push
 keptAt (suc (suc (suc (suc (suc (suc (suc zero))))))) = cancel-push
 
 -- a place is p; what was kept of a kept payload is sofar
-unfoldable pub stateAt : (mode acc due ftype : ℕ) → Place → (sofar : List ℕ) → State Place
+unfoldable pub stateAt : {P : Type 0} → (mode acc due ftype : ℕ) → P → (sofar : List ℕ) → State P
 stateAt zero a d t p k = headState 0 a d t p
 stateAt (suc zero) a d t p k = headState 1 a d t p
 stateAt (suc (suc zero)) a d t p k = in-payload skipped [] (a - 1) p
@@ -45,7 +45,7 @@ stateAt (suc (suc (suc (suc (suc (suc zero)))))) a d t p k = due header-section 
 stateAt (suc (suc (suc (suc (suc (suc (suc zero))))))) a d t p k = due trailers p
 stateAt (suc (suc (suc (suc (suc (suc (suc (suc m)))))))) a d t p k = in-payload (kept (keptAt (suc (suc (suc (suc (suc (suc (suc (suc m)))))))))) k (a - 1) p
 
-abbrev pub stateOf : Cells → Place → (sofar : List ℕ) → State Place
+abbrev pub stateOf : {P : Type 0} → Cells → P → (sofar : List ℕ) → State P
 stateOf c p k = stateAt (c .mode) (c .acc) (c .due) (c .ftype) p k
 
 -- the place of a request by its numbers; a control stream's is kept elsewhere

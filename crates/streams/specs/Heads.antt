@@ -18,7 +18,7 @@ use Rattle.streams.specs.declared.HeadEnd.{HeadEnd}
 use Rattle.streams.specs.Both.{Place, rule, both}
 
 -- the state that a header's numbers stand for, as long as it is not whole
-unfoldable pub headState : (mode acc due ftype : ℕ) → Place → State Place
+unfoldable pub headState : {P : Type 0} → (mode acc due ftype : ℕ) → P → State P
 headState zero a d t p = in-type (prog d a) p
 headState (suc k) a d t p = in-length t (prog d a) p
 

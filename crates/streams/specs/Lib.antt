@@ -10,3 +10,4 @@ pub mod Stopped
 pub mod Begun
 pub mod Fed
 pub mod End
+pub mod Apart
