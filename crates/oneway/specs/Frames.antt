@@ -1,0 +1,213 @@
+-- The frames of a control stream behind its type, from a place of the piece on. Assumes nothing.
+use mathlib.Core.Path.{_≡_, refl, sym, ap, _∙_}
+use Prim.Native.Nat.{ℕ, zero, suc, _+_, _-_, _≤_, _<_}
+use native.Mathlib.Omega.{arith}
+use mathlib.Core.List.{List, [], _++_}
+use mathlib.Core.Logic.{_⊎_, inl, inr}
+use lib.ListN.{length, take, drop, length-drop}
+use lib.Seq.{drop-drop, take-all}
+use Rattle.rules.specs.Reading.{Kept, Next, stop, go}
+use Rattle.rules.specs.Control.{Control, unset, set, control, judged}
+use Rattle.meaning.specs.Machine.{Outcome, answered}
+use Rattle.meaning.specs.Feed.{judged-event, Feeding, halt}
+use Rattle.meaning.specs.Feed as F
+use Rattle.meaning.specs.FeedLaws.{past}
+use Rattle.meaning.specs.Hom.{map-next, map-outcome, map-feeding, map-state}
+use Rattle.meaning.specs.OneWayFeed.{OneFeeding, controlled, of-control}
+use Rattle.varint.specs.ByByte.{fresh-good}
+use Rattle.streams.specs.declared.Cells.{Cells}
+use Rattle.streams.specs.declared.Answer.{Answer}
+use Rattle.streams.specs.Both.{Place, both}
+use Rattle.streams.specs.Both as place
+use Rattle.streams.specs.Uses.{placeOf, Stands, a-place, any-set}
+use Rattle.streams.specs.Parts.{judgedAs}
+use Rattle.streams.specs.Answers.{keptAt, stateAt, stateOf, placeAt, placeIn, StandsIn, answerAt, answerOf, Sane, Held}
+use Rattle.streams.specs.Fed.{Fed}
+use Rattle.streams.specs.Apart.{controls, state-carried, control-fed}
+use Rattle.oneway.specs.declared.OneWay.{OneWay}
+use Rattle.oneway.specs.declared.OneAnswer.{OneAnswer}
+use Rattle.oneway.specs.Stands.{oneStateAt, oneState, oneAnswerAt, OneSoundAt, Says}
+use Rattle.oneway.specs.Typed.{onePast}
+
+abbrev pub controlAt : Cells → OneWay
+controlAt c = record { kind = 3; cells = c }
+
+-- what was read of a type; between two frames, before SETTINGS (phase 3) or behind them (4)
+abbrev pub cellsOf : (acc due phase : ℕ) → Cells
+cellsOf acc due phase = record { mode = 0; acc = acc; due = due; ftype = 0; phase = phase; has = 0; stated = 0; sum = 0 }
+
+abbrev pub frameCells : (phase : ℕ) → Cells
+frameCells phase = cellsOf 0 0 phase
+
+-- what such cells may stand for, and the definition's feed of the frames from `at` on
+abbrev pub framesStand : Cells → Control → List ℕ → Type 0
+framesStand c p k = StandsIn c (place.of-control p) × Held (8 - c .mode) k
+
+abbrev pub framesFrom : (s : List ℕ) (at : ℕ) (c : Cells) (allow : ℕ) → Control → List ℕ → OneFeeding
+framesFrom s at c allow p k = onePast at (of-control (F.feed control allow (stateOf c p k) (drop at s)))
+
+abbrev pub Controlled : (s : List ℕ) (at : ℕ) (c : Cells) (allow : ℕ) → OneAnswer → Type 0
+Controlled s at c allow r = Says s (framesStand c) (framesFrom s at c allow) r
+
+pub frame-sane : (phase : ℕ) → 3 ≤ phase → Sane (frameCells phase) × (3 ≤ phase)
+frame-sane phase h = (
+  record {
+    modes = omega arith;
+    header = λ l. fresh-good;
+    small = omega arith;
+    type = omega arith;
+    some = λ x y z. absurd (omega arith);
+    sums = omega arith;
+    stateds = omega arith;
+  },
+  h,
+)
+
+-- ---- a control stream's place is not among the cells' numbers
+
+set-place : (h n m ph : ℕ) (p : Control) → placeOf ph h n m ≡ place.of-control p → (h′ n′ m′ : ℕ) → placeAt ph h′ n′ m′ (place.of-control p) ≡ place.of-control p
+unfolding placeOf placeAt
+set-place h n m zero p e h′ n′ m′ = let z : _≡_ {A = ℕ} 0 1 = cc in absurd (omega arith)
+set-place h n m (suc zero) p e h′ n′ m′ = let z : _≡_ {A = ℕ} 0 1 = cc in absurd (omega arith)
+set-place h n m (suc (suc zero)) p e h′ n′ m′ = let z : _≡_ {A = ℕ} 0 1 = cc in absurd (omega arith)
+set-place h n m (suc (suc (suc zero))) p e h′ n′ m′ = e
+set-place h n m (suc (suc (suc (suc k)))) p e h′ n′ m′ = refl
+
+stands-place : (h n m : ℕ) {ph : ℕ} {q : Place} → Stands h n m ph q → (p : Control) → q ≡ place.of-control p → (h′ n′ m′ : ℕ) → placeAt ph h′ n′ m′ (place.of-control p) ≡ place.of-control p
+unfolding placeAt
+stands-place h n m (a-place {phase = ph}) p e h′ n′ m′ = set-place h n m ph p e h′ n′ m′
+stands-place h n m (any-set k i) p e h′ n′ m′ = refl
+
+-- ---- what an answer says, a control stream's and from its place in the piece
+
+judged-carried : (k : Kept) (all : List ℕ) (n : Next Control)
+    → map-feeding controls (halt (judged-event k all (map-next place.of-control n)) (answered (map-next place.of-control n))) ≡ halt (judged-event k all n) (answered n)
+unfolding map-feeding halt judged-event answered map-next map-outcome map-state controls
+judged-carried k all (stop code) = refl
+judged-carried k all (go p) = refl
+
+judged-control : (p : Control) (k : Kept) (all : List ℕ) → map-feeding controls (judgedAs both 0 (place.of-control p) k all) ≡ judgedAs control 0 p k all
+unfolding judgedAs place.judged
+judged-control p k all = judged-carried k all (judged k p all)
+
+past-carried : (u h : ℕ) (f : Feeding Place) → map-feeding controls (past u h f) ≡ past u h (map-feeding controls f)
+unfolding map-feeding past
+past-carried u h f = refl
+
+past-from : (at u h : ℕ) (f : Feeding Control) → onePast at (of-control (past u h f)) ≡ of-control (past (at + u) h f)
+unfolding onePast of-control past
+past-from at u h f = let a : at + (u + f .used) ≡ (at + u) + f .used = omega arith in rw a
+
+module _ (at : ℕ) (s : List ℕ) (p : Control) (k : List ℕ) (start len used heads : ℕ) (c : Cells) where
+  -- what `streams` says of the rest of the piece
+  abbrev rest-says : (event : ℕ) → OneFeeding
+  rest-says event = onePast at (of-control (map-feeding controls (answerAt event start len used heads c (place.of-control p) k (drop at s))))
+
+  the-part : take len (drop start (drop at s)) ≡ take len (drop (at + start) s)
+  the-part = ap (take len) (drop-drop start at s)
+
+  carried : (j : List ℕ) → map-state controls (stateOf c (place.of-control p) j) ≡ stateOf c p j
+  unfolding controls
+  carried j = state-carried controls (c .mode) (c .acc) (c .due) (c .ftype) (place.of-control p) j
+
+  event-low : (event f : ℕ) → event < 4 → rest-says event ≡ oneAnswerAt event (at + start) len (at + used) heads f (controlAt c) p k s
+  unfolding onePast of-control map-feeding map-outcome controlled answerAt oneAnswerAt oneStateAt
+  event-low zero f h = let x = carried k in rw x refl
+  event-low (suc zero) f h = let x = carried k in rw x refl
+  event-low (suc (suc zero)) f h = let x = carried k in rw x refl
+  event-low (suc (suc (suc zero))) f h = let x = carried k in rw x refl
+  event-low (suc (suc (suc (suc n)))) f h = absurd (omega arith)
+
+  event-fault : (from f : ℕ) (w : OneWay) → rest-says 4 ≡ oneAnswerAt 4 from len (at + used) heads f w p k s
+  unfolding onePast of-control map-feeding map-outcome controlled answerAt oneAnswerAt
+  event-fault from f w = refl
+
+  event-complete : (w : OneWay) → rest-says 5 ≡ oneAnswerAt 5 (at + start) len (at + used) heads (c .mode) w p k s
+  unfolding answerAt oneAnswerAt
+  event-complete w =
+      ap (λ x. onePast at (of-control x)) (past-carried used heads _ ∙ ap (past used heads) (judged-control p (keptAt (c .mode)) _)) ∙ past-from at used heads _
+      ∙ ap (λ x. of-control (past (at + used) heads (judgedAs control 0 p (keptAt (c .mode)) (k ++ x)))) the-part
+
+  event-part : (event f : ℕ) → 6 ≤ event → rest-says event ≡ oneAnswerAt 6 (at + start) len (at + used) heads f (controlAt c) p k s
+  unfolding onePast of-control map-feeding map-outcome controlled answerAt oneAnswerAt oneStateAt
+  event-part zero f h = absurd (omega arith)
+  event-part (suc zero) f h = absurd (omega arith)
+  event-part (suc (suc zero)) f h = absurd (omega arith)
+  event-part (suc (suc (suc zero))) f h = absurd (omega arith)
+  event-part (suc (suc (suc (suc zero)))) f h = absurd (omega arith)
+  event-part (suc (suc (suc (suc (suc zero))))) f h = absurd (omega arith)
+  event-part (suc (suc (suc (suc (suc (suc n)))))) f h = let y = the-part in rw y (let x = carried (k ++ take len (drop (at + start) s)) in rw x refl)
+
+-- ---- the ways of a feed
+
+-- the rest of the piece, as the code lends it
+pub rest-fed : (s : List ℕ) (at : ℕ) (c : Cells) (allow : ℕ) (a : Answer) → Fed c (take (length s - at) (drop at s)) allow a → Fed c (drop at s) allow a
+rest-fed s at c allow a f = let e : take (length s - at) (drop at s) ≡ drop at s = take-all (length s - at) (drop at s) (let l = length-drop at s in omega arith) in rw e at f
+
+module _ (s : List ℕ) (at : ℕ) (c : Cells) (allow : ℕ) (a : Answer) (w : at ≤ length s) (sane : Sane c) (phase : 3 ≤ c .phase) (fed : Fed c (drop at s) allow a) where
+  abbrev Controls : OneAnswer → Type 0
+  Controls r = Controlled s at c allow r
+
+  is-control : (p : Control) (k : List ℕ) → framesStand c p k → framesFrom s at c allow p k ≡ rest-says at s p k (a .start) (a .len) (a .used) (a .heads) (a .cells) (a .event)
+  is-control p k st =
+      let q = stands-place (c .has) (c .stated) (c .sum) (st .0) p refl (a .cells .has) (a .cells .stated) (a .cells .sum) in
+      let e : placeIn (a .cells) (place.of-control p) ≡ place.of-control p = ap (λ ph. placeAt ph (a .cells .has) (a .cells .stated) (a .cells .sum) (place.of-control p)) (fed .phase) ∙ q in
+      ap (λ x. onePast at (of-control x)) (control-fed c (drop at s) allow a fed k (st .1) p (st .0)
+      ∙ ap (λ x. map-feeding controls (answerAt (a .event) (a .start) (a .len) (a .used) (a .heads) (a .cells) x k (drop at s))) e)
+
+  by-event : (event : ℕ) → a .event ≡ event → (p : Control) (k : List ℕ) → framesStand c p k → framesFrom s at c allow p k ≡ rest-says at s p k (a .start) (a .len) (a .used) (a .heads) (a .cells) event
+  by-event event e p k st = is-control p k st ∙ ap (rest-says at s p k (a .start) (a .len) (a .used) (a .heads) (a .cells)) e
+
+  pub used-fits : at + a .used ≤ length s
+  used-fits = let l = length-drop at s in let u = fed .within in omega arith
+
+  -- the part ends where the feed does
+  ends-here : (x y z : ℕ) → x + y ≡ z ⊎ a .event ≡ 4 → (a .event ≡ 4 → ⊥) → (at + x) + y ≡ at + z
+  ends-here x y z (inl e) n = omega arith
+  ends-here x y z (inr e) n = absurd (n e)
+
+  part-ends : (a .event ≡ 4 → ⊥) → (at + a .start) + a .len ≡ at + a .used
+  part-ends n = ends-here (a .start) (a .len) (a .used) (fed .part) n
+
+  pub start-fits : (a .event ≡ 4 → ⊥) → at + a .start ≤ length s
+  start-fits n = let x = part-ends n in let y = used-fits in omega arith
+
+  left-sane : (a .event ≡ 5 → ⊥) → Sane (a .cells) × (3 ≤ a .cells .phase)
+  left-sane n = (fed .sane n, (let e = fed .phase in omega arith))
+
+  pub control-fault : a .event ≡ 4 → Controls (record { event = 4; start = at + a .used; len = a .len; used = at + a .used; heads = a .heads; payload = 0; stream = controlAt c })
+  unfolding OneSoundAt
+  control-fault e = record {
+    is = λ p k st. by-event 4 e p k st ∙ event-fault at s p k (a .start) (a .len) (a .used) (a .heads) (a .cells) (at + a .used) 0 (controlAt c);
+    within = used-fits;
+    part = inr refl;
+    sound = (sane, phase);
+  }
+
+  pub control-complete : {d : Cells} → a .event ≡ 5 → d ≡ frameCells 4
+      → Controls (record { event = 5; start = at + a .start; len = a .len; used = at + a .used; heads = a .heads; payload = a .cells .mode; stream = controlAt d })
+  unfolding OneSoundAt
+  control-complete e g = rw g (record {
+    is = λ p k st. by-event 5 e p k st ∙ event-complete at s p k (a .start) (a .len) (a .used) (a .heads) (a .cells) (controlAt (frameCells 4));
+    within = used-fits;
+    part = inl (part-ends (λ x. omega arith));
+    sound = frame-sane 4 (omega arith);
+  })
+
+  pub control-part : 6 ≤ a .event → Controls (record { event = 6; start = at + a .start; len = a .len; used = at + a .used; heads = a .heads; payload = 0; stream = controlAt (a .cells) })
+  unfolding OneSoundAt
+  control-part h = record {
+    is = λ p k st. is-control p k st ∙ event-part at s p k (a .start) (a .len) (a .used) (a .heads) (a .cells) (a .event) 0 h;
+    within = used-fits;
+    part = inl (part-ends (λ x. omega arith));
+    sound = left-sane (λ x. omega arith);
+  }
+
+  pub control-low : a .event < 4 → Controls (record { event = a .event; start = at + a .start; len = a .len; used = at + a .used; heads = a .heads; payload = 0; stream = controlAt (a .cells) })
+  unfolding OneSoundAt
+  control-low h = record {
+    is = λ p k st. is-control p k st ∙ event-low at s p k (a .start) (a .len) (a .used) (a .heads) (a .cells) (a .event) 0 h;
+    within = used-fits;
+    part = inl (part-ends (λ x. omega arith));
+    sound = left-sane (λ x. omega arith);
+  }

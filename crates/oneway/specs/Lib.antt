@@ -1,0 +1,5 @@
+pub mod Types
+pub mod Stands
+pub mod Typed
+pub mod Frames
+pub mod Fed

@@ -1,0 +1,95 @@
+-- The numbers of a one-way stream and of an answer, and what they say of a feed. Assumes nothing.
+use mathlib.Core.Path.{_≡_, refl}
+use Prim.Native.Nat.{ℕ, zero, suc, _+_, _-_, _≤_}
+use mathlib.Core.List.{List, [], _++_}
+use mathlib.Core.Bool.{true, false}
+use mathlib.Core.Logic.{_⊎_}
+use lib.ListN.{length, take, drop}
+use Rattle.rules.specs.Control.{Control, unset, control}
+use Rattle.rules.specs.OneWay.{Qpack, encoder, decoder}
+use Rattle.meaning.specs.Feed.{Event, quiet, section-bytes, content-bytes}
+use Rattle.meaning.specs.FeedLaws.{past}
+use Rattle.meaning.specs.OneWayFeed.{OneState, in-stream-type, in-control, in-qpack, in-skipped, OneOutcome, lives, dies, OneEvent, of-frames, qpack-bytes, OneFeeding, of-control, feed}
+use Rattle.varint.specs.ByByte.{part, prog, Good}
+use Rattle.streams.specs.declared.Cells.{Cells}
+use Rattle.streams.specs.Both as both
+use Rattle.streams.specs.Parts.{judgedAs}
+use Rattle.streams.specs.Answers.{keptAt, stateOf, StandsIn, Sane, Held}
+use Rattle.oneway.specs.declared.Seen.{Seen}
+use Rattle.oneway.specs.declared.OneWay.{OneWay}
+use Rattle.oneway.specs.declared.OneAnswer.{OneAnswer}
+use Rattle.oneway.specs.Types.{seenOf}
+
+-- ---- a state
+
+-- kind 2: its type is not whole, 3: control, 4 and 5: QPACK, any other: skipped. A control stream stands at p, and has kept sofar of a payload.
+unfoldable pub oneStateAt : (kind : ℕ) → Cells → Control → (sofar : List ℕ) → OneState
+oneStateAt zero c p k = in-skipped
+oneStateAt (suc zero) c p k = in-skipped
+oneStateAt (suc (suc zero)) c p k = in-stream-type (prog (c .due) (c .acc))
+oneStateAt (suc (suc (suc zero))) c p k = in-control (stateOf c p k)
+oneStateAt (suc (suc (suc (suc zero)))) c p k = in-qpack encoder
+oneStateAt (suc (suc (suc (suc (suc zero))))) c p k = in-qpack decoder
+oneStateAt (suc (suc (suc (suc (suc (suc n)))))) c p k = in-skipped
+
+abbrev pub oneState : OneWay → Control → (sofar : List ℕ) → OneState
+oneState w p k = oneStateAt (w .kind) (w .cells) p k
+
+-- what a stream of this kind may stand at, with what is kept so far
+unfoldable pub OneStands : (kind : ℕ) → Cells → Control → (sofar : List ℕ) → Type 0
+OneStands zero c p k = Unit {0}
+OneStands (suc zero) c p k = Unit {0}
+OneStands (suc (suc zero)) c p k = (p ≡ unset) × (k ≡ [])
+OneStands (suc (suc (suc zero))) c p k = StandsIn c (both.of-control p) × Held (8 - c .mode) k
+OneStands (suc (suc (suc (suc n)))) c p k = Unit {0}
+
+-- ---- an answer
+
+unfoldable pub qpackOf : (kind : ℕ) → Qpack
+qpackOf zero = decoder
+qpackOf (suc zero) = decoder
+qpackOf (suc (suc zero)) = decoder
+qpackOf (suc (suc (suc zero))) = decoder
+qpackOf (suc (suc (suc (suc zero)))) = encoder
+qpackOf (suc (suc (suc (suc (suc n))))) = decoder
+
+-- event 0 none, 4 a fault with its code in len, 5 a kept payload complete, 6 a part of one, 7 QPACK stream bytes; 1 to 3 as a request stream
+-- has them (no rule of the control stream leads to them)
+unfoldable pub oneAnswerAt : (event start len used heads payload : ℕ) → OneWay → Control → (sofar s : List ℕ) → OneFeeding
+oneAnswerAt zero start len used heads f w p k s = record { used = used; heads = heads; event = of-frames quiet; after = lives (oneState w p k) }
+oneAnswerAt (suc zero) start len used heads f w p k s = record { used = used; heads = heads; event = of-frames (content-bytes len); after = lives (oneState w p k) }
+oneAnswerAt (suc (suc zero)) start len used heads f w p k s = record { used = used; heads = heads; event = of-frames (section-bytes len false); after = lives (oneState w p k) }
+oneAnswerAt (suc (suc (suc zero))) start len used heads f w p k s = record { used = used; heads = heads; event = of-frames (section-bytes len true); after = lives (oneState w p k) }
+oneAnswerAt (suc (suc (suc (suc zero)))) start len used heads f w p k s = record { used = used; heads = heads; event = of-frames quiet; after = dies len }
+oneAnswerAt (suc (suc (suc (suc (suc zero))))) start len used heads f w p k s =
+    of-control (past used heads (judgedAs control 0 p (keptAt f) (k ++ take len (drop start s))))
+oneAnswerAt (suc (suc (suc (suc (suc (suc zero)))))) start len used heads f w p k s =
+    record { used = used; heads = heads; event = of-frames quiet; after = lives (oneState w p (k ++ take len (drop start s))) }
+oneAnswerAt (suc (suc (suc (suc (suc (suc (suc n))))))) start len used heads f w p k s =
+    record { used = used; heads = heads; event = qpack-bytes (qpackOf (w .kind)) len; after = lives (oneState w p k) }
+
+abbrev pub oneAnswerOf : OneAnswer → Control → (sofar s : List ℕ) → OneFeeding
+oneAnswerOf r p k s = oneAnswerAt (r .event) (r .start) (r .len) (r .used) (r .heads) (r .payload) (r .stream) p k s
+
+-- ---- numbers that the code can go on with
+
+unfoldable pub OneSoundAt : (kind : ℕ) → Cells → Type 0
+OneSoundAt zero c = ⊥
+OneSoundAt (suc zero) c = ⊥
+OneSoundAt (suc (suc zero)) c = Good (part (c .acc) (c .due))
+OneSoundAt (suc (suc (suc zero))) c = Sane c × (3 ≤ c .phase)
+OneSoundAt (suc (suc (suc (suc n)))) c = Unit {0}
+
+abbrev pub OneSound : OneWay → Type 0
+OneSound w = OneSoundAt (w .kind) (w .cells)
+
+-- what an answer must be, given what was wanted of it
+pub record Says (s : List ℕ) (stands : Control → List ℕ → Type 0) (want : Control → (sofar : List ℕ) → OneFeeding) (r : OneAnswer) : Type 0 where
+  pub is : (p : Control) (k : List ℕ) → stands p k → want p k ≡ oneAnswerOf r p k s
+  pub within : r .used ≤ length s
+  pub part : r .start + r .len ≡ r .used ⊎ r .event ≡ 4
+  pub sound : OneSound (r .stream)
+
+-- WHAT A FEED OF A ONE-WAY STREAM ANSWERS: the definition's feed, from every state that the numbers stand for
+abbrev pub OneFed : OneWay → Seen → (s : List ℕ) (allow : ℕ) → OneAnswer → Type 0
+OneFed w seen s allow r = Says s (OneStands (w .kind) (w .cells)) (λ p k. feed (seenOf seen) allow (oneState w p k) s) r
