@@ -1,5 +1,5 @@
 -- The answer to a complete payload is the rules' own: what a control stream keeps then, and what it tells the host. Assumes nothing.
-use mathlib.Core.Path.{_≡_, refl, sym, ap, _∙_}
+use mathlib.Core.Path.{_≡_, refl, sym, subst}
 use Prim.Native.Nat.{ℕ, zero, suc}
 use mathlib.Core.List.{List}
 use mathlib.Core.Bool.{Bool, true, false}
@@ -65,11 +65,90 @@ settings-say k (go s) = let q = limits-back (s .section-size) (s .table-capacity
 
 -- ---- one integer
 
--- a test on an ID that has come, as the rules have it
-goaway-say : (l s c b : ℕ) (m : PushId) (pushes has earlier : ℕ) (id : ℕ) (bad : Bool) → ltb earlier id ≡ bad →
-    let k : Kept = record { set = 1; limited = l; size = s; capacity = c; blocked = b; goaways = has; goaway = push-id earlier; pushes = pushes; push = m } in
-    Says k (told-goaway id) (unless has bad (goawayTaken k (push-id id)) (refusal 0x0108 k)) (after-goaway (limitsIs k) (someIf has earlier) (someIf pushes (m .0)) id)
-unfolding Says unless after-goaway above someIf controlAt toldAt
-goaway-say l s c b m pushes zero earlier id bad e = (refl, refl, refl)
-goaway-say l s c b m pushes (suc has) earlier id true e = rw (e, after-goaway, above, someIf) refl
-goaway-say l s c b m pushes (suc has) earlier id false e = rw (e, after-goaway, above, someIf) (refl, refl, refl)
+module _ (k : Kept) where
+  abbrev goaway-kept : Option ℕ
+  goaway-kept = someIf (k .goaways) (k .goaway .0)
+
+  abbrev max-push-kept : Option ℕ
+  max-push-kept = someIf (k .pushes) (k .push .0)
+
+module _ (k : Kept) (id : ℕ) where
+  goaway-say : (has : ℕ) (bad : Bool) → ltb (k .goaway .0) id ≡ bad
+      → Says k (told-goaway id) (unless has bad (goawayTaken k (push-id id)) (refusal 0x0108 k)) (after-goaway (limitsIs k) (someIf has (k .goaway .0)) (max-push-kept k) id)
+  unfolding Says unless after-goaway above someIf controlAt toldAt
+  goaway-say zero bad e = (refl, refl, refl)
+  goaway-say (suc has) true e = rw (e, after-goaway, above, someIf) refl
+  goaway-say (suc has) false e = rw (e, after-goaway, above, someIf) (refl, refl, refl)
+
+  max-push-say : (has : ℕ) (bad : Bool) → ltb id (k .push .0) ≡ bad
+      → Says k (told-max-push-id id) (unless has bad (maxPushTaken k (push-id id)) (refusal 0x0108 k)) (after-max-push (limitsIs k) (goaway-kept k) (someIf has (k .push .0)) id)
+  unfolding Says unless after-max-push below someIf controlAt toldAt
+  max-push-say zero bad e = (refl, refl, refl)
+  max-push-say (suc has) true e = rw (e, after-max-push, below, someIf) refl
+  max-push-say (suc has) false e = rw (e, after-max-push, below, someIf) (refl, refl, refl)
+
+  -- what such a payload tells
+  unfoldable id-told : Payload → Told
+  id-told settings = told-nothing
+  id-told goaway = told-goaway id
+  id-told max-push-id = told-max-push-id id
+  id-told cancel-push = told-nothing
+
+  cancel-say : (told : Told) → Says k told (refusal 0x0108 k) (after-integer cancel-push (limitsIs k) (goaway-kept k) (max-push-kept k) (some id))
+  unfolding Says after-integer
+  cancel-say told = refl
+
+  id-say : (which : ℕ) → Says k (id-told (keptAt which)) (idOf which k (push-id id)) (after-integer (keptAt which) (limitsIs k) (goaway-kept k) (max-push-kept k) (some id))
+  unfolding id-told keptAt idOf
+  id-say zero = cancel-say told-nothing
+  id-say (suc zero) = cancel-say told-nothing
+  id-say (suc (suc zero)) = cancel-say told-nothing
+  id-say (suc (suc (suc zero))) = cancel-say told-nothing
+  id-say (suc (suc (suc (suc zero)))) = cancel-say told-nothing
+  id-say (suc (suc (suc (suc (suc zero))))) = cancel-say told-nothing
+  id-say (suc (suc (suc (suc (suc (suc zero)))))) = cancel-say told-nothing
+  id-say (suc (suc (suc (suc (suc (suc (suc zero))))))) = cancel-say told-nothing
+  id-say (suc (suc (suc (suc (suc (suc (suc (suc zero)))))))) = unfold Says after-integer in refl
+  id-say (suc (suc (suc (suc (suc (suc (suc (suc (suc zero))))))))) = unfold goawayOf after-integer in goaway-say (k .goaways) (ltb (k .goaway .0) id) refl
+  id-say (suc (suc (suc (suc (suc (suc (suc (suc (suc (suc zero)))))))))) = unfold maxPushOf after-integer in max-push-say (k .pushes) (ltb id (k .push .0)) refl
+  id-say (suc (suc (suc (suc (suc (suc (suc (suc (suc (suc (suc n))))))))))) = cancel-say told-nothing
+
+unfoldable told-in : (k : Kept) → Payload → Option ℕ → Told
+told-in k f none = told-nothing
+told-in k f (some id) = id-told k id f
+
+integer-say : (k : Kept) (which : ℕ) (o : Option ℕ)
+    → Says k (told-in k (keptAt which) o) (integerOf which k o) (after-integer (keptAt which) (limitsIs k) (goaway-kept k) (max-push-kept k) o)
+unfolding told-in integerOf
+integer-say k which none = unfold Says after-integer in refl
+integer-say k which (some id) = id-say k id which
+
+-- ---- THE ANSWER IS THE RULES' OWN
+
+module _ (k : Kept) (payload : List ℕ) where
+  -- of SETTINGS, before which nothing else is kept
+  pub settings-judged : (which : ℕ) → k .set ≡ 0 → Says k (tells settings payload) (judgedOf which k payload) (judged (keptAt which) (controlOf k) payload)
+  unfolding tells payloadOf judged controlAt
+  settings-judged which e =
+      subst (λ s. Says k (tells settings payload) (payloadOf s which k payload) (judged (keptAt which) (controlAt s k) payload)) (sym e) (settings-say k (settings-of payload))
+
+  same-told : (f : Payload) (o : Option ℕ) → (f ≡ settings → ⊥) → only (integer 0 payload) ≡ o → told-in k f o ≡ tells f payload
+  unfolding told-in id-told tells id-in
+  same-told settings o n e = absurd (n refl)
+  same-told goaway none n e = rw e refl
+  same-told goaway (some id) n e = rw e refl
+  same-told max-push-id none n e = rw e refl
+  same-told max-push-id (some id) n e = rw e refl
+  same-told cancel-push none n e = refl
+  same-told cancel-push (some id) n e = refl
+
+  integer-at : (n which : ℕ) → Says k (told-in k (keptAt which) (only (integer 0 payload))) (payloadOf (suc n) which k payload) (judged (keptAt which) (controlAt (suc n) k) payload)
+  unfolding payloadOf judged controlAt
+  integer-at n which = integer-say k which (only (integer 0 payload))
+
+  -- of GOAWAY, MAX_PUSH_ID and CANCEL_PUSH, behind SETTINGS
+  pub integer-judged : (which n : ℕ) → k .set ≡ suc n → (keptAt which ≡ settings → ⊥) → Says k (tells (keptAt which) payload) (judgedOf which k payload) (judged (keptAt which) (controlOf k) payload)
+  integer-judged which n e s =
+      let t = same-told (keptAt which) (only (integer 0 payload)) s refl in
+      let at = subst (λ x. Says k x (payloadOf (suc n) which k payload) (judged (keptAt which) (controlAt (suc n) k) payload)) t (integer-at n which) in
+      subst (λ s. Says k (tells (keptAt which) payload) (payloadOf s which k payload) (judged (keptAt which) (controlAt s k) payload)) (sym e) at
