@@ -3,3 +3,4 @@ pub mod Stands
 pub mod Typed
 pub mod Frames
 pub mod Fed
+pub mod Closed

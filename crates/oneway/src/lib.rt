@@ -13,6 +13,7 @@ ghost use Rattle.oneway.specs.Typed.{TypeRead};
 ghost use Rattle.streams.specs.Answers.{Sane};
 ghost use Rattle.oneway.specs.Frames.{cellsOf, Controlled};
 ghost use Rattle.oneway.specs.Fed.{untyped, quietAt, Bare};
+ghost use Rattle.oneway.specs.Closed.{Closes};
 
 // The stream types that came before and may come once: 0 control, 2 QPACK encoder, 3 QPACK decoder. 0: it has not come.
 pub struct Seen {
@@ -274,5 +275,18 @@ pub fn feed(s: &[u8], w: OneWay, seen: Seen, allow: u64) -> OneAnswer
         control(s, 0, c, allow)
     } else {
         bare(s, 0, w)
+    }
+}
+
+// A one-way stream ended or reset: 0 freed, else the code.
+pub fn close(w: OneWay) -> u64
+    ensures { λ r. ⌜ Closes w r ⌝ }
+{
+    if w.kind < 3 {
+        0
+    } else if 5 < w.kind {
+        0
+    } else {
+        0x0104
     }
 }
