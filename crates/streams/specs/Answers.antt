@@ -1,17 +1,19 @@
 -- The numbers of a state and of an answer, and what they say of a feed. Assumes nothing.
 use mathlib.Core.Path.{_≡_, refl}
 use Prim.Native.Nat.{ℕ, zero, suc, _+_, _-_, _≤_, _<_, _^_}
+use native.Mathlib.Omega.{arith}
 use mathlib.Core.List.{List, [], _++_}
 use mathlib.Core.Bool.{true, false}
 use mathlib.Core.Logic.{_⊎_}
 use lib.ListN.{length, take, drop}
 use Rattle.rules.specs.Reading.{header-section, trailers, Kept, settings, goaway, max-push-id, cancel-push, content, skipped, section, kept}
-use Rattle.meaning.specs.Machine.{State, in-payload, due, lives, dies}
-use Rattle.meaning.specs.Feed.{quiet, section-bytes, content-bytes, Feeding, feed}
+use Rattle.meaning.specs.Machine.{State, in-type, in-length, in-payload, due, lives, dies, over}
+use Rattle.meaning.specs.Feed.{quiet, section-bytes, content-bytes, Feeding, halt, over-event, feed}
 use Rattle.meaning.specs.FeedLaws.{past}
 use Rattle.varint.specs.ByByte.{part, Good}
 use Rattle.streams.specs.declared.Cells.{Cells}
 use Rattle.streams.specs.declared.Answer.{Answer}
+use Rattle.streams.specs.declared.Telling.{Telling}
 use Rattle.streams.specs.Both.{Place, both}
 use Rattle.streams.specs.Uses.{placeOf, Stands, a-place, any-set}
 use Rattle.streams.specs.Heads.{headState}
@@ -106,11 +108,42 @@ pub record Answers (c : Cells) (s : List ℕ) (fresh : ℕ) (want : (rest : ℕ)
   pub sane : (r .event ≡ 5 → ⊥) → Sane (r .cells)
   pub phase : r .cells .phase ≡ c .phase
 
+-- ---- a payload that is handed on or kept, by its mode
+
+abbrev pub HandedMode : (mode : ℕ) → Type 0
+HandedMode mode = (3 ≤ mode) × (mode ≤ 11) × (mode ≡ 6 → ⊥) × (mode ≡ 7 → ⊥)
+
+abbrev pub tell : (last part behind : ℕ) → Telling
+tell last part behind = record { last = last; part = part; behind = behind }
+
+-- how its parts are told
+pub data Tells : (mode : ℕ) → Telling → Type 0 where
+  tells-content : Tells 3 (tell 1 1 0)
+  tells-header : Tells 4 (tell 3 2 6)
+  tells-trailers : Tells 5 (tell 3 2 7)
+  tells-kept : (m : ℕ) → m ≤ 3 → Tells (suc (suc (suc (suc (suc (suc (suc (suc m)))))))) (tell 5 6 (suc (suc (suc (suc (suc (suc (suc (suc m)))))))))
+
+-- one of no bytes is over
+unfoldable pub emptied : State Place → Feeding Place
+emptied (in-type g p) = halt quiet (lives (in-type g p))
+emptied (in-length t g p) = halt quiet (lives (in-length t g p))
+emptied (in-payload u k l p) = halt (over-event both u k p) (over both u k p)
+emptied (due t p) = halt quiet (lives (due t p))
+
+unfoldable pub coming : (left : ℕ) → State Place → (State Place → Feeding Place) → Feeding Place
+coming zero st f = emptied st
+coming (suc l) st f = f st
+
 -- from a payload on: so many bytes and headers are behind it
 abbrev pub fromPayload : (c : Cells) (s : List ℕ) (at heads mode left : ℕ) → (rest : ℕ) → Place → (sofar : List ℕ) → Feeding Place
-fromPayload c s at heads mode left n p k = past at heads (feed both n (stateAt mode left 0 0 (placeIn c p) k) (drop at s))
+fromPayload c s at heads mode left n p k = past at heads (coming left (stateAt mode left 0 0 (placeIn c p) k) (λ st. feed both n st (drop at s)))
 
 -- ---- laws
+
+pub some-coming : (left : ℕ) → 0 < left → (st : State Place) (f : State Place → Feeding Place) → coming left st f ≡ f st
+unfolding coming
+some-coming zero h st f = absurd (omega arith)
+some-coming (suc l) h st f = refl
 
 set-phase : (h n m k : ℕ) (p : Place) → placeAt (suc (suc (suc (suc k)))) h n m p ≡ p
 unfolding placeAt

@@ -13,7 +13,7 @@ use Rattle.streams.specs.declared.Answer.{Answer}
 use Rattle.streams.specs.declared.Start.{Start}
 use Rattle.streams.specs.Both.{Place, both}
 use Rattle.streams.specs.Stops.{stopOf, Stop}
-use Rattle.streams.specs.Answers.{stateAt, stateOf, answerAt, Sane, Held, Answers, fromPayload, place-same, answer}
+use Rattle.streams.specs.Answers.{stateAt, stateOf, answerAt, Sane, Held, Answers, fromPayload, some-coming, place-same, answer}
 use Rattle.streams.specs.Stopped.{fromStop}
 use Rattle.streams.specs.Begun.{Started}
 
@@ -40,12 +40,12 @@ state-free (suc (suc (suc (suc (suc (suc (suc (suc m)))))))) a d t p k h = refl
 
 module _ (c : Cells) (s : List ℕ) (allow : ℕ) where
   -- a payload that goes on
-  pub fed-payload : (mode : ℕ) {r : Answer} → c .mode ≡ mode → 2 ≤ mode → Answers c s 0 (fromPayload c s 0 0 mode (c .acc)) r → Fed c s allow r
-  fed-payload mode e m a = record {
+  pub fed-payload : {r : Answer} → Sane c → 2 ≤ c .mode → (c .mode ≡ 6 → ⊥) → (c .mode ≡ 7 → ⊥) → Answers c s 0 (fromPayload c s 0 0 (c .mode) (c .acc)) r → Fed c s allow r
+  fed-payload sane m n6 n7 a = record {
     is = λ n p k hk st. (
-        ap (λ m. feed both allow (stateAt m (c .acc) (c .due) (c .ftype) p k) s) e
-        ∙ ap (λ x. feed both allow x s) (state-free mode (c .acc) (c .due) (c .ftype) p k m)
-        ∙ ap (λ q. feed both allow (stateAt mode (c .acc) 0 0 q k) s) (sym (place-same c p st)) ∙ sym (past-none _) ∙ a .is allow p k tt st);
+        ap (λ x. feed both allow x s) (state-free (c .mode) (c .acc) (c .due) (c .ftype) p k m)
+        ∙ ap (λ q. feed both allow (stateAt (c .mode) (c .acc) 0 0 q k) s) (sym (place-same c p st)) ∙ sym (some-coming (c .acc) (sane .some m n6 n7) _ (λ x. feed both allow x s))
+        ∙ sym (past-none _) ∙ a .is allow p k tt st);
     within = a .within;
     part = a .part;
     sane = a .sane;

@@ -1,23 +1,25 @@
--- What the code answers of a payload that is handed on: a law for each answer. Assumes nothing.
+-- What the code answers of a payload that is handed on or kept: a law for each answer. Assumes nothing.
 use mathlib.Core.Path.{_≡_, refl, ap, _∙_}
 use Prim.Native.Nat.{ℕ, zero, suc, _+_, _-_, _≤_, _<_, _^_}
 use native.Mathlib.Nat.{add-zero}
 use native.Mathlib.Omega.{arith}
-use mathlib.Core.List.{List, [], _++_}
+use mathlib.Core.List.{List, [], _++_, append-nil}
 use mathlib.Core.Bool.{true, false}
 use mathlib.Core.Logic.{inl}
+use lib.Dec.{eqb, eqb·suc-zero}
 use lib.Seq.{take-all}
 use lib.ListN.{length, take, drop, length-drop, drop-of-length-le}
-use Rattle.rules.specs.Reading.{Part, header-section, trailers, section, kept}
-use Rattle.meaning.specs.Machine.{State, in-payload, due, Outcome, lives}
-use Rattle.meaning.specs.Feed.{Event, section-bytes, halt, feed}
+use Rattle.rules.specs.Reading.{Part, header-section, trailers, Kept, Use, content, section, kept}
+use Rattle.meaning.specs.Machine.{State, in-payload, due, Outcome, lives, between, over}
+use Rattle.meaning.specs.Feed.{Event, quiet, section-bytes, content-bytes, Feeding, halt, over-event, named, feed}
 use Rattle.meaning.specs.FeedLaws.{past, past-past, feed-nothing, kept-short}
 use Rattle.varint.specs.ByByte.{part, prog, fresh-good}
 use Rattle.streams.specs.declared.Cells.{Cells}
+use Rattle.streams.specs.declared.Telling.{Telling}
 use Rattle.streams.specs.Both.{Place, both}
 use Rattle.streams.specs.Heads.{headState}
-use Rattle.streams.specs.Parts.{judgedAs, kept-judged, content-whole, content-short, section-whole, section-short}
-use Rattle.streams.specs.Answers.{keptAt, stateAt, placeIn, answerAt, Sane, Numbers, Answers, fromPayload, inMode, answer}
+use Rattle.streams.specs.Parts.{Shown, content-shown, section-shown, judgedAs, kept-judged, part-whole, part-short}
+use Rattle.streams.specs.Answers.{keptAt, stateAt, placeIn, answerAt, Sane, Numbers, HandedMode, tell, Tells, tells-content, tells-header, tells-trailers, tells-kept, emptied, coming, Answers, fromPayload, some-coming, inMode, answer}
 
 -- cells that go on
 pub sane-in : (c : Cells) (mode acc : ℕ) → Numbers c → mode ≤ 11 → acc < 2 ^ 62 → (mode < 2 → acc ≡ 0) → (2 ≤ mode → (mode ≡ 6 → ⊥) → (mode ≡ 7 → ⊥) → 0 < acc) → Sane (inMode c mode acc)
@@ -36,153 +38,131 @@ pub behind : (at heads used : ℕ) (e : Event) (o : Outcome Place) → past at h
 unfolding past
 behind at heads used e o = let z = add-zero heads in rw z refl
 
-module _ (c : Cells) (s : List ℕ) (at left heads : ℕ) (w : at ≤ length s) (lo : 0 < left) (hi : left < 2 ^ 62) (g : Numbers c) (fresh : ℕ) where
-  less : suc (left - 1) ≡ left
-  less = omega arith
-
+module _ (c : Cells) (s : List ℕ) (at heads : ℕ) (w : at ≤ length s) (g : Numbers c) (fresh : ℕ) where
   -- the piece ends where the payload begins or goes on
-  pub none-here : (mode : ℕ) {r : Cells} → mode ≤ 11 → 2 ≤ mode → length s - at ≤ 0 → r ≡ inMode c mode left → Answers c s fresh (fromPayload c s at heads mode left) (answer 0 at 0 at heads r)
+  pub none-here : (left mode : ℕ) {r : Cells} → 0 < left → left < 2 ^ 62 → HandedMode mode → length s - at ≡ 0 → r ≡ inMode c mode left → Answers c s fresh (fromPayload c s at heads mode left) (answer 0 at 0 at heads r)
   unfolding answerAt halt past
-  none-here mode m m2 e q =
+  none-here left mode lo hi m e q =
       let d : drop at s ≡ [] = drop-of-length-le s {i = at} (omega arith) in
       let u = add-zero at in
       let h = add-zero heads in
       rw q (record {
-        is = λ n p k hk st. rw (d, feed-nothing both n (stateAt mode left 0 0 (placeIn c p) k), u, h) refl;
+        is = λ n p k hk st. ap (past at heads) (some-coming left lo _ _) ∙ rw (d, feed-nothing both n (stateAt mode left 0 0 (placeIn c p) k), u, h) refl;
         within = w;
         part = inl (omega arith);
-        sane = λ x. sane-in c mode left g m hi (λ l. absurd (omega arith)) (λ a b f. lo);
+        sane = λ x. sane-in c mode left g (m .1) hi (λ l. absurd (omega arith)) (λ a b f. lo);
         phase = refl;
       })
 
-  pub content-over : {r : Cells} → left ≤ length s - at → r ≡ inMode c 0 0 → Answers c s fresh (fromPayload c s at heads 3 left) (answer 1 at left (at + left) heads r)
+  -- ---- all of it is there
+
+  content-over : (left : ℕ) → 0 < left → left ≤ length s - at → (n : ℕ) (p : Place) → past at heads (coming left (in-payload content [] (left - 1) p) (λ st. feed both n st (drop at s)))
+      ≡ record { used = at + left; heads = heads; event = content-bytes left; after = lives (between p) }
+  unfolding named over
+  content-over left lo h n p =
+      let d = length-drop at s in
+      let e : suc (left - 1) ≡ left = omega arith in
+      ap (past at heads) (some-coming left lo _ _ ∙ part-whole both n p content-shown (left - 1) (drop at s) (omega arith)) ∙ behind at heads (suc (left - 1)) _ _ ∙ rw e refl
+
+  section-over : (t : Part) (left : ℕ) → left ≤ length s - at → (n : ℕ) (p : Place) → past at heads (coming left (in-payload (section t) [] (left - 1) p) (λ st. feed both n st (drop at s)))
+      ≡ record { used = at + left; heads = heads; event = section-bytes left true; after = lives (due t p) }
+  unfolding coming emptied over-event over named halt past
+  section-over t zero h n p = behind at heads 0 _ _
+  section-over t (suc l) h n p =
+      let d = length-drop at s in
+      let z : suc l - 1 ≡ l = omega arith in
+      rw z (ap (past at heads) (part-whole both n p (section-shown t) l (drop at s) (omega arith)) ∙ behind at heads (suc l) _ _)
+
+  kept-over : (f : Kept) (left : ℕ) → left ≤ length s - at → (n : ℕ) (p : Place) (k : List ℕ) → past at heads (coming left (in-payload (kept f) k (left - 1) p) (λ st. feed both n st (drop at s)))
+      ≡ past (at + left) heads (judgedAs both 0 p f (k ++ take left (drop at s)))
+  unfolding coming emptied over-event over judgedAs
+  kept-over f zero h n p k =
+      let a = append-nil k in
+      let u = add-zero at in
+      rw (a, u) refl
+  kept-over f (suc l) h n p k =
+      let d = length-drop at s in
+      let z : suc l - 1 ≡ l = omega arith in
+      let y = add-zero heads in
+      rw z (ap (past at heads) (kept-judged both n p f l k (drop at s) (omega arith)) ∙ past-past at heads (suc l) 0 _ ∙ rw y refl)
+
+  over-is : {mode : ℕ} {t : Telling} → Tells mode t → (left : ℕ) → (mode ≡ 3 → 0 < left) → left ≤ length s - at → (n : ℕ) (p : Place) (k : List ℕ)
+      → fromPayload c s at heads mode left n p k ≡ answerAt (t .last) at left (at + left) heads (inMode c (t .behind) 0) (placeIn c p) k s
   unfolding answerAt stateAt headState prog
-  content-over l q =
-      let d = length-drop at s in
-      rw q (record {
-        is = λ n p k hk st. ap (past at heads) (content-whole both n (placeIn c p) (left - 1) (drop at s) (omega arith)) ∙ behind at heads (suc (left - 1)) _ _ ∙ rw less refl;
-        within = omega arith;
-        part = inl (omega arith);
-        sane = λ x. sane-in c 0 0 g (omega arith) (omega arith) (λ l. refl) (λ a b f. absurd (omega arith));
-        phase = refl;
-      })
+  over-is tells-content left lo h n p k = content-over left (lo refl) h n (placeIn c p)
+  over-is tells-header left lo h n p k = section-over header-section left h n (placeIn c p)
+  over-is tells-trailers left lo h n p k = section-over trailers left h n (placeIn c p)
+  over-is (tells-kept m h3) left lo h n p k = kept-over (keptAt (suc (suc (suc (suc (suc (suc (suc (suc m))))))))) left h n (placeIn c p) k
 
-  pub content-on : {r : Cells} → length s - at < left → (length s - at ≡ 0 → ⊥) → r ≡ inMode c 3 (left - (length s - at))
-      → Answers c s fresh (fromPayload c s at heads 3 left) (answer 1 at (length s - at) (length s) heads r)
-  unfolding answerAt stateAt
-  content-on l n0 q =
-      let d = length-drop at s in
-      let e : at + (length s - at) ≡ length s = omega arith in
-      let f : (left - 1) - (length s - at) ≡ (left - (length s - at)) - 1 = omega arith in
-      rw q (record {
-        is = λ n p k hk st. ap (past at heads) (content-short both n (placeIn c p) (left - 1) (drop at s) (omega arith) (omega arith)) ∙ behind at heads (length (drop at s)) _ _ ∙ rw (d, e, f) refl;
-        within = omega arith;
-        part = inl (omega arith);
-        sane = λ x. sane-in c 3 (left - (length s - at)) g (omega arith) (omega arith) (λ l. absurd (omega arith)) (λ a b f. omega arith);
-        phase = refl;
-      })
+  over-sane : {mode : ℕ} {t : Telling} → Tells mode t → (t .last ≡ 5 → ⊥) → Sane (inMode c (t .behind) 0)
+  over-sane tells-content x = sane-in c 0 0 g (omega arith) (omega arith) (λ l. refl) (λ a b f. absurd (omega arith))
+  over-sane tells-header x = sane-in c 6 0 g (omega arith) (omega arith) (λ l. refl) (λ a b f. absurd (b refl))
+  over-sane tells-trailers x = sane-in c 7 0 g (omega arith) (omega arith) (λ l. refl) (λ a b f. absurd (f refl))
+  over-sane (tells-kept m h) x = absurd (x refl)
 
-  -- a section, header section or trailers
-  two : (P : ℕ → Type 0) → P 4 → P 5 → (mode : ℕ) → 4 ≤ mode → mode ≤ 5 → P mode
-  two P a b mode h k = pick (mode - 4) (omega arith) (omega arith)
-    where
-      pick : (x : ℕ) → mode ≡ 4 + x → x ≤ 1 → P mode
-      pick zero e i = let z : mode ≡ 4 = omega arith in rw z a
-      pick (suc zero) e i = let z : mode ≡ 5 = omega arith in rw z b
-      pick (suc (suc x)) e i = absurd (omega arith)
+  pub handed-over : (left mode : ℕ) (t : Telling) {r : Cells} → Tells mode t → (mode ≡ 3 → 0 < left) → left ≤ length s - at → r ≡ inMode c (t .behind) 0
+      → Answers c s fresh (fromPayload c s at heads mode left) (answer (t .last) at left (at + left) heads r)
+  handed-over left mode t h lo l q = rw q (record {
+    is = λ n p k hk st. over-is h left lo l n p k;
+    within = omega arith;
+    part = inl (omega arith);
+    sane = over-sane h;
+    phase = refl;
+  })
 
-  pub section-over : (mode : ℕ) {r : Cells} → 4 ≤ mode → mode ≤ 5 → left ≤ length s - at → r ≡ inMode c (mode + 2) 0
-      → Answers c s fresh (fromPayload c s at heads mode left) (answer 3 at left (at + left) heads r)
-  unfolding answerAt stateAt
-  section-over mode {r} m4 m5 l q =
-      let d = length-drop at s in
-      let whole : (t : Part) (n : ℕ) (p : Place) → past at heads (feed both n (in-payload (section t) [] (left - 1) p) (drop at s)) ≡ record { used = at + left; heads = heads; event = section-bytes left true; after = lives (due t p) }
-      = λ t n p. ap (past at heads) (section-whole both n p t (left - 1) (drop at s) (omega arith)) ∙ behind at heads (suc (left - 1)) _ _ ∙ rw less refl in
-      rw q (two (λ m. Answers c s fresh (fromPayload c s at heads m left) (answer 3 at left (at + left) heads (inMode c (m + 2) 0)))
-      (record {
-        is = λ n p k hk st. whole header-section n (placeIn c p);
-        within = omega arith;
-        part = inl (omega arith);
-        sane = λ x. sane-in c 6 0 g (omega arith) (omega arith) (λ l. refl) (λ a b f. absurd (b refl));
-        phase = refl;
-      })
-      (record {
-        is = λ n p k hk st. whole trailers n (placeIn c p);
-        within = omega arith;
-        part = inl (omega arith);
-        sane = λ x. sane-in c 7 0 g (omega arith) (omega arith) (λ l. refl) (λ a b f. absurd (f refl));
-        phase = refl;
-      })
-      mode m4 m5)
+  -- ---- some of it is there
 
-  pub section-on : (mode : ℕ) {r : Cells} → 4 ≤ mode → mode ≤ 5 → length s - at < left → (length s - at ≡ 0 → ⊥) → r ≡ inMode c mode (left - (length s - at))
-      → Answers c s fresh (fromPayload c s at heads mode left) (answer 2 at (length s - at) (length s) heads r)
-  unfolding answerAt stateAt
-  section-on mode {r} m4 m5 l n0 q =
-      let d = length-drop at s in
-      let e : at + (length s - at) ≡ length s = omega arith in
-      let f : (left - 1) - (length s - at) ≡ (left - (length s - at)) - 1 = omega arith in
-      let short : (t : Part) (n : ℕ) (p : Place) → past at heads (feed both n (in-payload (section t) [] (left - 1) p) (drop at s))
-      ≡ record { used = length s; heads = heads; event = section-bytes (length s - at) false; after = lives (in-payload (section t) [] ((left - (length s - at)) - 1) p) }
-      = λ t n p. ap (past at heads) (section-short both n p t (left - 1) (drop at s) (omega arith) (omega arith)) ∙ behind at heads (length (drop at s)) _ _ ∙ rw (d, e, f) refl in
-      rw q (two (λ m. Answers c s fresh (fromPayload c s at heads m left) (answer 2 at (length s - at) (length s) heads (inMode c m (left - (length s - at)))))
-      (record {
-        is = λ n p k hk st. short header-section n (placeIn c p);
-        within = omega arith;
-        part = inl (omega arith);
-        sane = λ x. sane-in c 4 (left - (length s - at)) g (omega arith) (omega arith) (λ l. absurd (omega arith)) (λ a b f. omega arith);
-        phase = refl;
-      })
-      (record {
-        is = λ n p k hk st. short trailers n (placeIn c p);
-        within = omega arith;
-        part = inl (omega arith);
-        sane = λ x. sane-in c 5 (left - (length s - at)) g (omega arith) (omega arith) (λ l. absurd (omega arith)) (λ a b f. omega arith);
-        phase = refl;
-      })
-      mode m4 m5)
+  module _ (left : ℕ) (l : length s - at < left) (n0 : length s - at ≡ 0 → ⊥) where
+    shown-on : {u : Use} → Shown u → (n : ℕ) (p : Place) → past at heads (coming left (in-payload u [] (left - 1) p) (λ st. feed both n st (drop at s)))
+        ≡ record { used = length s; heads = heads; event = named both u (length s - at) (suc ((left - (length s - at)) - 1)); after = lives (in-payload u [] ((left - (length s - at)) - 1) p) }
+    shown-on h n p =
+        let d = length-drop at s in
+        let e : at + (length s - at) ≡ length s = omega arith in
+        let f : (left - 1) - (length s - at) ≡ (left - (length s - at)) - 1 = omega arith in
+        ap (past at heads) (some-coming left (omega arith) _ _ ∙ part-short both n p h (left - 1) (drop at s) (omega arith) (omega arith)) ∙ behind at heads (length (drop at s)) _ _ ∙ rw (d, e, f) refl
 
-  -- a kept payload, to its end: judged then
-  kept-mode : (mode : ℕ) → 8 ≤ mode → (a : ℕ) (p : Place) (k : List ℕ) → stateAt mode a 0 0 p k ≡ in-payload (kept (keptAt mode)) k (a - 1) p
-  unfolding stateAt
-  kept-mode zero h a p k = absurd (omega arith)
-  kept-mode (suc zero) h a p k = absurd (omega arith)
-  kept-mode (suc (suc zero)) h a p k = absurd (omega arith)
-  kept-mode (suc (suc (suc zero))) h a p k = absurd (omega arith)
-  kept-mode (suc (suc (suc (suc zero)))) h a p k = absurd (omega arith)
-  kept-mode (suc (suc (suc (suc (suc zero))))) h a p k = absurd (omega arith)
-  kept-mode (suc (suc (suc (suc (suc (suc zero)))))) h a p k = absurd (omega arith)
-  kept-mode (suc (suc (suc (suc (suc (suc (suc zero))))))) h a p k = absurd (omega arith)
-  kept-mode (suc (suc (suc (suc (suc (suc (suc (suc m)))))))) h a p k = refl
+    kept-on : (x : Kept) (n : ℕ) (p : Place) (k : List ℕ) → past at heads (coming left (in-payload (kept x) k (left - 1) p) (λ st. feed both n st (drop at s)))
+        ≡ record { used = length s; heads = heads; event = quiet; after = lives (in-payload (kept x) (k ++ take (length s - at) (drop at s)) ((left - (length s - at)) - 1) p) }
+    kept-on x n p k =
+        let d = length-drop at s in
+        let e : at + (length s - at) ≡ length s = omega arith in
+        let f : (left - 1) - (length s - at) ≡ (left - (length s - at)) - 1 = omega arith in
+        let tk : take (length s - at) (drop at s) ≡ drop at s = take-all (length s - at) (drop at s) (omega arith) in
+        rw tk (ap (past at heads) (some-coming left (omega arith) _ _ ∙ kept-short both n p x (left - 1) k (drop at s) (omega arith)) ∙ behind at heads (length (drop at s)) _ _ ∙ rw (d, e, f) refl)
 
-  pub kept-over : (mode : ℕ) {r : Cells} → 8 ≤ mode → left ≤ length s - at → r ≡ inMode c mode 0
-      → Answers c s fresh (fromPayload c s at heads mode left) (answer 5 at left (at + left) heads r)
-  unfolding answerAt judgedAs
-  kept-over mode m l q =
-      let d = length-drop at s in
-      let z = add-zero heads in
-      rw q (record {
-        is = λ n p k hk st. (let e = kept-mode mode m left (placeIn c p) k in
-            rw e (ap (past at heads) (kept-judged both n (placeIn c p) (keptAt mode) (left - 1) k (drop at s) (omega arith)) ∙ past-past at heads (suc (left - 1)) 0 _ ∙ rw (less, z) refl));
-        within = omega arith;
-        part = inl (omega arith);
-        sane = λ x. absurd (x refl);
-        phase = refl;
-      })
+    not-last : (m : ℕ) → section-bytes (length s - at) (eqb (suc m) 0) ≡ section-bytes (length s - at) false
+    not-last m = ap (section-bytes (length s - at)) (eqb·suc-zero m)
 
-  pub kept-on : (mode : ℕ) {r : Cells} → 8 ≤ mode → mode ≤ 11 → length s - at < left → r ≡ inMode c mode (left - (length s - at))
-      → Answers c s fresh (fromPayload c s at heads mode left) (answer 6 at (length s - at) (length s) heads r)
-  unfolding answerAt
-  kept-on mode m m11 l q =
-      let d = length-drop at s in
-      let e : at + (length s - at) ≡ length s = omega arith in
-      let f : (left - 1) - (length s - at) ≡ (left - (length s - at)) - 1 = omega arith in
-      let tk : take (length s - at) (drop at s) ≡ drop at s = take-all (length s - at) (drop at s) (omega arith) in
-      rw q (record {
-        is = λ n p k hk st. (let x = kept-mode mode m left (placeIn c p) k in let y = kept-mode mode m (left - (length s - at)) (placeIn c p) (k ++ drop at s) in
-            rw (x, tk, y) (ap (past at heads) (kept-short both n (placeIn c p) (keptAt mode) (left - 1) k (drop at s) (omega arith)) ∙ behind at heads (length (drop at s)) _ _ ∙ rw (d, e, f) refl));
-        within = omega arith;
-        part = inl (omega arith);
-        sane = λ x. sane-in c mode (left - (length s - at)) g m11 (omega arith) (λ l. absurd (omega arith)) (λ a b f. omega arith);
-        phase = refl;
-      })
+    on-is : {mode : ℕ} {t : Telling} → Tells mode t → (n : ℕ) (p : Place) (k : List ℕ)
+        → fromPayload c s at heads mode left n p k ≡ answerAt (t .part) at (length s - at) (length s) heads (inMode c mode (left - (length s - at))) (placeIn c p) k s
+    unfolding answerAt stateAt named
+    on-is tells-content n p k = shown-on content-shown n (placeIn c p)
+    on-is tells-header n p k = let e = not-last ((left - (length s - at)) - 1) in shown-on (section-shown header-section) n (placeIn c p) ∙ rw e refl
+    on-is tells-trailers n p k = let e = not-last ((left - (length s - at)) - 1) in shown-on (section-shown trailers) n (placeIn c p) ∙ rw e refl
+    on-is (tells-kept m h3) n p k = kept-on (keptAt (suc (suc (suc (suc (suc (suc (suc (suc m))))))))) n (placeIn c p) k
+
+    pub handed-on : (mode : ℕ) (t : Telling) {r : Cells} → left < 2 ^ 62 → HandedMode mode → Tells mode t → r ≡ inMode c mode (left - (length s - at))
+        → Answers c s fresh (fromPayload c s at heads mode left) (answer (t .part) at (length s - at) (length s) heads r)
+    handed-on mode t hi m h q = rw q (record {
+      is = λ n p k hk st. on-is h n p k;
+      within = omega arith;
+      part = inl (omega arith);
+      sane = λ x. sane-in c mode (left - (length s - at)) g (m .1) (omega arith) (λ l. absurd (omega arith)) (λ a b f. omega arith);
+      phase = refl;
+    })
+
+-- ---- how parts are told
+
+pub told-content : (mode : ℕ) → mode ≡ 3 → Tells mode (tell 1 1 0)
+told-content mode e = rw e tells-content
+
+pub told-section : (mode : ℕ) → HandedMode mode → (mode ≡ 3 → ⊥) → mode < 6 → Tells mode (tell 3 2 (mode + 2))
+told-section mode h n l = pick (mode - 4) (omega arith) (omega arith)
+  where
+    pick : (x : ℕ) → mode ≡ 4 + x → x ≤ 1 → Tells mode (tell 3 2 (mode + 2))
+    pick zero e i = let z : mode ≡ 4 = omega arith in rw z tells-header
+    pick (suc zero) e i = let z : mode ≡ 5 = omega arith in rw z tells-trailers
+    pick (suc (suc x)) e i = absurd (omega arith)
+
+pub told-kept : (mode : ℕ) → HandedMode mode → 6 ≤ mode → Tells mode (tell 5 6 mode)
+told-kept mode h l = let z : mode ≡ suc (suc (suc (suc (suc (suc (suc (suc (mode - 8)))))))) = omega (arith, h .2, h .3) in rw z (tells-kept (mode - 8) (omega arith))

@@ -4,11 +4,11 @@ use Prim.Native.Nat.{ℕ, zero, suc, _+_, _-_, _≤_, _<_, _^_}
 use native.Mathlib.Nat.{add-zero}
 use native.Mathlib.Omega.{arith}
 use mathlib.Core.List.{List, []}
-use mathlib.Core.Logic.{_⊎_, inl, inr, ⊎-elim}
+use mathlib.Core.Logic.{inl, inr}
 use lib.ListN.{length, drop, length-drop}
-use Rattle.rules.specs.Reading.{Part, header-section, trailers, Kept, settings, goaway, max-push-id, cancel-push, Use, content, skipped, section, kept, refuse, accept}
-use Rattle.meaning.specs.Machine.{State, in-payload, due, with-left, over}
-use Rattle.meaning.specs.Feed.{Feeding, halt, onward, left-event, over-event, behind-header, feed}
+use Rattle.rules.specs.Reading.{header-section, trailers, settings, goaway, max-push-id, cancel-push, Use, content, skipped, section, kept, refuse, accept}
+use Rattle.meaning.specs.Machine.{State, in-payload, with-left}
+use Rattle.meaning.specs.Feed.{Feeding, halt, onward, left-event, behind-header, feed}
 use Rattle.meaning.specs.FeedLaws.{past, feed-held, skip-short}
 use Rattle.varint.specs.ByByte.{prog}
 use Rattle.streams.specs.declared.Cells.{Cells}
@@ -16,9 +16,9 @@ use Rattle.streams.specs.declared.Answer.{Answer}
 use Rattle.streams.specs.Both.{Place, both}
 use Rattle.streams.specs.Uses.{placeOf, Stands, a-place, any-set, withData, rulingAt}
 use Rattle.streams.specs.Heads.{headState}
-use Rattle.streams.specs.Parts.{judgedAs, over-judged}
+use Rattle.streams.specs.Parts.{Stopping, section-stops, kept-stops, over-stops}
 use Rattle.streams.specs.Stops.{headerOf, payloadOf, stopOf, not-header}
-use Rattle.streams.specs.Answers.{keptAt, stateAt, placeAt, placeIn, answerAt, Sane, Numbers, Answers, fromPayload, place-same, inMode, answer}
+use Rattle.streams.specs.Answers.{keptAt, stateAt, placeAt, placeIn, answerAt, Sane, Numbers, emptied, coming, Answers, fromPayload, some-coming, place-same, inMode, answer}
 use Rattle.streams.specs.Handed.{sane-in, behind}
 
 -- from a stop on: so many bytes and headers are behind it
@@ -37,6 +37,11 @@ data-place h n m len q (any-set k i) e = absurd (omega arith)
 free-place : (h n m ph : ℕ) (p q : Place) → ph ≡ 1 → placeAt ph h n m p ≡ placeAt ph h n m q
 unfolding placeAt
 free-place h n m ph p q e = rw e refl
+
+behind-accept : {u : Use} (len : ℕ) (q : Place) (f : State Place → Feeding Place) → (len ≡ 0 → Stopping u) → behind-header both len (accept u q) f ≡ coming len (in-payload u [] (len - 1) q) f
+unfolding behind-header coming emptied left-event with-left onward
+behind-accept zero q f h = over-stops both 0 q (h refl) [] f
+behind-accept (suc l) q f h = let z : suc l - 1 ≡ l = omega arith in rw z refl
 
 module _ (c : Cells) (s : List ℕ) (to heads len rest : ℕ) (w : to ≤ length s) (g : Numbers c) (sane : Sane c) where
   -- ---- a fault
@@ -83,10 +88,11 @@ module _ (c : Cells) (s : List ℕ) (to heads len rest : ℕ) (w : to ≤ length
 
   -- ---- a payload of some bytes
 
-  -- what is behind a header of this ruling, where its payload is not empty
-  some-payload : (number l : ℕ) (u : Use) (p q : Place) → len ≡ suc l → rulingAt p number len ≡ accept u q → payloadOf s number len rest to p ≡ feed both rest (in-payload u [] l q) (drop to s)
-  unfolding payloadOf behind-header left-event with-left onward
-  some-payload number l u p q e r = rw r (rw e refl)
+  -- what is behind a header of this ruling
+  behind-ruling : (number : ℕ) (u : Use) (p q : Place) → rulingAt p number len ≡ accept u q → (len ≡ 0 → Stopping u)
+      → payloadOf s number len rest to p ≡ coming len (in-payload u [] (len - 1) q) (λ st. feed both rest st (drop to s))
+  unfolding payloadOf
+  behind-ruling number u p q r h = rw r (behind-accept len q (λ st. feed both rest st (drop to s)) h)
 
   -- ---- a skipped payload that the piece ends in
 
@@ -99,7 +105,7 @@ module _ (c : Cells) (s : List ℕ) (to heads len rest : ℕ) (w : to ≤ length
       let b : (len - 1) - (length s - to) ≡ (len - (length s - to)) - 1 = omega arith in
       rw (q, e) (record {
         is = λ n p k hk st. (let x = place-same c p st in
-            rw x (ap (past to heads) (not-header s 0 len rest to p (λ z. omega arith) ∙ some-payload 0 (len - 1) skipped p p (omega arith) (unfold rulingAt in refl) ∙ skip-short both rest p (len - 1) (drop to s) (omega arith))
+            rw x (ap (past to heads) (not-header s 0 len rest to p (λ z. omega arith) ∙ behind-ruling 0 skipped p p (unfold rulingAt in refl) (λ z. absurd (omega arith)) ∙ some-coming len (omega arith) _ _ ∙ skip-short both rest p (len - 1) (drop to s) (omega arith))
             ∙ behind to heads (length (drop to s)) _ _ ∙ rw (d, f, b) refl));
         within = omega arith;
         part = inl (omega arith);
@@ -118,8 +124,8 @@ module _ (c : Cells) (s : List ℕ) (to heads len rest : ℕ) (w : to ≤ length
       record {
         is = λ n p k hk st.
             ap (past to heads) (ap (λ x. stopOf s x len rest to p) e ∙ not-header s 1 len rest to p (λ z. omega arith)
-            ∙ some-payload 1 (len - 1) content p (withData len p) (omega arith) (unfold rulingAt in refl))
-            ∙ ap (λ x. past to heads (feed both rest (in-payload content [] (len - 1) x) (drop to s))) (data-place (c .has) (c .stated) (c .sum) len p′ st ph)
+            ∙ behind-ruling 1 content p (withData len p) (unfold rulingAt in refl) (λ z. absurd (omega arith)))
+            ∙ ap (λ x. past to heads (coming len (in-payload content [] (len - 1) x) (λ y. feed both rest y (drop to s)))) (data-place (c .has) (c .stated) (c .sum) len p′ st ph)
             ∙ a .is rest p′ k tt a-place
             ∙ ap (λ x. answerAt (r .event) (r .start) (r .len) (r .used) (r .heads) (r .cells) x k s) (free-place (r .cells .has) (r .cells .stated) (r .cells .sum) (r .cells .phase) p′ p (a .phase ∙ ph));
         within = a .within;
@@ -128,91 +134,38 @@ module _ (c : Cells) (s : List ℕ) (to heads len rest : ℕ) (w : to ≤ length
         phase = a .phase;
       }
 
-  -- ---- a section or a kept payload, of some bytes
+  -- ---- a section or a kept payload
 
   handed : (number mode : ℕ) (u : Use) {r : Answer} → ((p : Place) → rulingAt p number len ≡ accept u p) → ((p : Place) → stateAt mode len 0 0 p [] ≡ in-payload u [] (len - 1) p)
-      → (number ≡ 9 → ⊥) → 0 < len → Answers c s 0 (fromPayload c s to heads mode len) r → Answers c s 1 (fromStop s to heads number len rest) r
-  handed number mode u ru sa n9 lo a = record {
+      → (number ≡ 9 → ⊥) → Stopping u → Answers c s 0 (fromPayload c s to heads mode len) r → Answers c s 1 (fromStop s to heads number len rest) r
+  handed number mode u ru sa n9 o a = record {
     is = λ n p k hk st.
         (let x = place-same c p st in
-        ap (past to heads) (not-header s number len rest to p n9 ∙ some-payload number (len - 1) u p p (omega arith) (ru p))
-        ∙ ap (λ y. past to heads (feed both rest y (drop to s))) (sym (sa p)) ∙ ap (λ y. past to heads (feed both rest (stateAt mode len 0 0 y []) (drop to s))) (sym x)
-        ∙ ap (λ y. past to heads (feed both rest (stateAt mode len 0 0 (placeIn c p) y) (drop to s))) (sym hk) ∙ a .is rest p k tt st);
+        ap (past to heads) (not-header s number len rest to p n9 ∙ behind-ruling number u p p (ru p) (λ z. o) ∙ ap (λ y. coming len y (λ g. feed both rest g (drop to s))) (sym (sa p)))
+        ∙ ap (λ y. past to heads (coming len (stateAt mode len 0 0 y []) (λ g. feed both rest g (drop to s)))) (sym x)
+        ∙ ap (λ y. past to heads (coming len (stateAt mode len 0 0 (placeIn c p) y) (λ g. feed both rest g (drop to s)))) (sym hk) ∙ a .is rest p k tt st);
     within = a .within;
     part = a .part;
     sane = a .sane;
     phase = a .phase;
   }
 
-  pub stop-section : (number : ℕ) {r : Answer} → 2 ≤ number → number < 4 → 0 < len → Answers c s 0 (fromPayload c s to heads (number + 2) len) r → Answers c s 1 (fromStop s to heads number len rest) r
+  pub stop-section : (number : ℕ) {r : Answer} → 2 ≤ number → number < 4 → Answers c s 0 (fromPayload c s to heads (number + 2) len) r → Answers c s 1 (fromStop s to heads number len rest) r
   unfolding rulingAt stateAt
-  stop-section zero h l lo a = absurd (omega arith)
-  stop-section (suc zero) h l lo a = absurd (omega arith)
-  stop-section (suc (suc zero)) h l lo a = handed 2 4 (section header-section) (λ p. refl) (λ p. refl) (λ z. omega arith) lo a
-  stop-section (suc (suc (suc zero))) h l lo a = handed 3 5 (section trailers) (λ p. refl) (λ p. refl) (λ z. omega arith) lo a
-  stop-section (suc (suc (suc (suc k)))) h l lo a = absurd (omega arith)
+  stop-section zero h l a = absurd (omega arith)
+  stop-section (suc zero) h l a = absurd (omega arith)
+  stop-section (suc (suc zero)) h l a = handed 2 4 (section header-section) (λ p. refl) (λ p. refl) (λ z. omega arith) (section-stops header-section) a
+  stop-section (suc (suc (suc zero))) h l a = handed 3 5 (section trailers) (λ p. refl) (λ p. refl) (λ z. omega arith) (section-stops trailers) a
+  stop-section (suc (suc (suc (suc k)))) h l a = absurd (omega arith)
 
-  pub stop-kept : (number : ℕ) {r : Answer} → 4 ≤ number → number < 8 → 0 < len → Answers c s 0 (fromPayload c s to heads (number + 4) len) r → Answers c s 1 (fromStop s to heads number len rest) r
+  pub stop-kept : (number : ℕ) {r : Answer} → 4 ≤ number → number < 8 → Answers c s 0 (fromPayload c s to heads (number + 4) len) r → Answers c s 1 (fromStop s to heads number len rest) r
   unfolding rulingAt stateAt keptAt
-  stop-kept zero h l lo a = absurd (omega arith)
-  stop-kept (suc zero) h l lo a = absurd (omega arith)
-  stop-kept (suc (suc zero)) h l lo a = absurd (omega arith)
-  stop-kept (suc (suc (suc zero))) h l lo a = absurd (omega arith)
-  stop-kept (suc (suc (suc (suc zero)))) h l lo a = handed 4 8 (kept settings) (λ p. refl) (λ p. refl) (λ z. omega arith) lo a
-  stop-kept (suc (suc (suc (suc (suc zero))))) h l lo a = handed 5 9 (kept goaway) (λ p. refl) (λ p. refl) (λ z. omega arith) lo a
-  stop-kept (suc (suc (suc (suc (suc (suc zero)))))) h l lo a = handed 6 10 (kept max-push-id) (λ p. refl) (λ p. refl) (λ z. omega arith) lo a
-  stop-kept (suc (suc (suc (suc (suc (suc (suc zero))))))) h l lo a = handed 7 11 (kept cancel-push) (λ p. refl) (λ p. refl) (λ z. omega arith) lo a
-  stop-kept (suc (suc (suc (suc (suc (suc (suc (suc k)))))))) h l lo a = absurd (omega arith)
-
-  -- ---- and of none
-
-  empty-section : (number mode : ℕ) (t : Part) {r : Cells} → ((p : Place) → rulingAt p number len ≡ accept (section t) p) → ((p : Place) (k : List ℕ) → stateAt mode 0 0 0 p k ≡ due t p)
-      → (number ≡ 9 → ⊥) → len ≡ 0 → mode ≤ 11 → 2 ≤ mode → mode ≡ 6 ⊎ mode ≡ 7 → r ≡ inMode c mode 0 → Answers c s 1 (fromStop s to heads number len rest) (answer 3 to 0 to heads r)
-  unfolding answerAt payloadOf behind-header left-event over-event with-left over onward halt past
-  empty-section number mode t ru sa n9 z m m2 due-mode q =
-      let u = add-zero to in
-      let v = add-zero heads in
-      rw q (record {
-        is = λ n p k hk st. (let x = place-same c p st in let y = sa p k in let e = ru p in
-            ap (past to heads) (not-header s number len rest to p n9 ∙ ap (λ g. behind-header both len g (λ b. feed both rest b (drop to s))) e ∙ ap (λ g. behind-header both g (accept (section t) p) (λ b. feed both rest b (drop to s))) z)
-            ∙ rw (x, y, u, v) refl);
-        within = w;
-        part = inl (omega arith);
-        sane = λ x. sane-in c mode 0 g m (omega arith) (λ l. refl) (λ a b f. absurd (⊎-elim b f due-mode));
-        phase = refl;
-      })
-
-  pub stop-empty-section : (number : ℕ) {r : Cells} → 2 ≤ number → number < 4 → len ≡ 0 → r ≡ inMode c (number + 4) 0 → Answers c s 1 (fromStop s to heads number len rest) (answer 3 to 0 to heads r)
-  unfolding rulingAt stateAt
-  stop-empty-section zero h l z q = absurd (omega arith)
-  stop-empty-section (suc zero) h l z q = absurd (omega arith)
-  stop-empty-section (suc (suc zero)) h l z q = empty-section 2 6 header-section (λ p. refl) (λ p k. refl) (λ z. omega arith) z (omega arith) (omega arith) (inl refl) q
-  stop-empty-section (suc (suc (suc zero))) h l z q = empty-section 3 7 trailers (λ p. refl) (λ p k. refl) (λ z. omega arith) z (omega arith) (omega arith) (inr refl) q
-  stop-empty-section (suc (suc (suc (suc k)))) h l z q = absurd (omega arith)
-
-  empty-kept : (number mode : ℕ) (f : Kept) {r : Cells} → ((p : Place) → rulingAt p number len ≡ accept (kept f) p) → keptAt mode ≡ f → (number ≡ 9 → ⊥) → len ≡ 0 → r ≡ inMode c mode 0
-      → Answers c s 1 (fromStop s to heads number len rest) (answer 5 to 0 to heads r)
-  unfolding answerAt payloadOf behind-header judgedAs
-  empty-kept number mode f ru ka n9 z q =
-      rw q (record {
-        is = λ n p k hk st. (let x = place-same c p st in let e = ru p in
-            ap (past to heads) (not-header s number len rest to p n9 ∙ ap (λ g. behind-header both len g (λ b. feed both rest b (drop to s))) e ∙ ap (λ g. behind-header both g (accept (kept f) p) (λ b. feed both rest b (drop to s))) z
-            ∙ over-judged both rest p f [] (λ b. feed both rest b (drop to s)))
-            ∙ rw (x, ka, hk) refl);
-        within = w;
-        part = inl (omega arith);
-        sane = λ x. absurd (x refl);
-        phase = refl;
-      })
-
-  pub stop-empty-kept : (number : ℕ) {r : Cells} → 4 ≤ number → number < 8 → len ≡ 0 → r ≡ inMode c (number + 4) 0 → Answers c s 1 (fromStop s to heads number len rest) (answer 5 to 0 to heads r)
-  unfolding rulingAt keptAt
-  stop-empty-kept zero h l z q = absurd (omega arith)
-  stop-empty-kept (suc zero) h l z q = absurd (omega arith)
-  stop-empty-kept (suc (suc zero)) h l z q = absurd (omega arith)
-  stop-empty-kept (suc (suc (suc zero))) h l z q = absurd (omega arith)
-  stop-empty-kept (suc (suc (suc (suc zero)))) h l z q = empty-kept 4 8 settings (λ p. refl) refl (λ z. omega arith) z q
-  stop-empty-kept (suc (suc (suc (suc (suc zero))))) h l z q = empty-kept 5 9 goaway (λ p. refl) refl (λ z. omega arith) z q
-  stop-empty-kept (suc (suc (suc (suc (suc (suc zero)))))) h l z q = empty-kept 6 10 max-push-id (λ p. refl) refl (λ z. omega arith) z q
-  stop-empty-kept (suc (suc (suc (suc (suc (suc (suc zero))))))) h l z q = empty-kept 7 11 cancel-push (λ p. refl) refl (λ z. omega arith) z q
-  stop-empty-kept (suc (suc (suc (suc (suc (suc (suc (suc k)))))))) h l z q = absurd (omega arith)
+  stop-kept zero h l a = absurd (omega arith)
+  stop-kept (suc zero) h l a = absurd (omega arith)
+  stop-kept (suc (suc zero)) h l a = absurd (omega arith)
+  stop-kept (suc (suc (suc zero))) h l a = absurd (omega arith)
+  stop-kept (suc (suc (suc (suc zero)))) h l a = handed 4 8 (kept settings) (λ p. refl) (λ p. refl) (λ z. omega arith) (kept-stops settings) a
+  stop-kept (suc (suc (suc (suc (suc zero))))) h l a = handed 5 9 (kept goaway) (λ p. refl) (λ p. refl) (λ z. omega arith) (kept-stops goaway) a
+  stop-kept (suc (suc (suc (suc (suc (suc zero)))))) h l a = handed 6 10 (kept max-push-id) (λ p. refl) (λ p. refl) (λ z. omega arith) (kept-stops max-push-id) a
+  stop-kept (suc (suc (suc (suc (suc (suc (suc zero))))))) h l a = handed 7 11 (kept cancel-push) (λ p. refl) (λ p. refl) (λ z. omega arith) (kept-stops cancel-push) a
+  stop-kept (suc (suc (suc (suc (suc (suc (suc (suc k)))))))) h l a = absurd (omega arith)

@@ -8,7 +8,7 @@ ghost use Rattle.streams.specs.Both.{rule};
 ghost use Rattle.streams.specs.Uses.{placeOf, numberOf, passesOf};
 ghost use Rattle.streams.specs.Ruled.{oneOf};
 ghost use Rattle.streams.specs.Heads.{GoodHead, HeadStepped, HeadRead};
-ghost use Rattle.streams.specs.Answers.{Sane, Numbers, Answers, fromPayload, inMode};
+ghost use Rattle.streams.specs.Answers.{Sane, Numbers, HandedMode, Tells, Answers, fromPayload, inMode};
 ghost use Rattle.streams.specs.Stopped.{moreSum, fromStop};
 ghost use Rattle.streams.specs.Begun.{headCells, fromCut, Started};
 ghost use Rattle.streams.specs.Fed.{Fed};
@@ -328,56 +328,53 @@ fn in_mode(c: Cells, mode: u64, acc: u64) -> Cells
     }
 }
 
-// Content, of which some is to come.
-fn content(s: &[u8], at: usize, left: u64, c: Cells, heads: u64) -> Answer
-    requires { ⌜ (at ≤ length (now s)) × (0 < left) × (left < 2 ^ 62) × Numbers c ⌝ }
-    ensures { λ r. ⌜ Answers c (now (s .entry)) 0 (fromPayload c (now (s .entry)) at heads 3 left) r ⌝ }
+// How the parts of a payload are told: the event of the last one, of one before it, and the mode behind the payload.
+struct Telling {
+    last: u64,
+    part: u64,
+    behind: u64,
+}
+
+fn told(mode: u64) -> Telling
+    requires { ⌜ HandedMode mode ⌝ }
+    ensures { λ r. ⌜ Tells mode r ⌝ }
 {
-    let room = (s.len() - at) as u64;
-    if left <= room {
-        Answer {
-            event: 1,
-            start: at,
-            len: left,
-            used: at + left as usize,
-            heads,
-            cells: in_mode(c, 0, 0),
+    if mode == 3 {
+        Telling {
+            last: 1,
+            part: 1,
+            behind: 0,
         }
-    } else if room == 0 {
-        Answer {
-            event: 0,
-            start: at,
-            len: 0,
-            used: at,
-            heads,
-            cells: in_mode(c, 3, left),
+    } else if mode < 6 {
+        Telling {
+            last: 3,
+            part: 2,
+            behind: mode + 2,
         }
     } else {
-        Answer {
-            event: 1,
-            start: at,
-            len: room,
-            used: s.len(),
-            heads,
-            cells: in_mode(c, 3, left - room),
+        Telling {
+            last: 5,
+            part: 6,
+            behind: mode,
         }
     }
 }
 
-// A section's bytes, of which some are to come. mode 4: the header section, 5: trailers.
-fn section(s: &[u8], at: usize, left: u64, mode: u64, c: Cells, heads: u64) -> Answer
-    requires { ⌜ (at ≤ length (now s)) × (0 < left) × (left < 2 ^ 62) × Numbers c × (4 ≤ mode) × (mode ≤ 5) ⌝ }
+// A payload that is handed on, or kept by the caller and judged when it is complete: as much of it as is there. mode 3 to 5, 8 to 11.
+fn handed(s: &[u8], at: usize, left: u64, mode: u64, c: Cells, heads: u64) -> Answer
+    requires { ⌜ (at ≤ length (now s)) × (left < 2 ^ 62) × Numbers c × HandedMode mode × (mode ≡ 3 → 0 < left) ⌝ }
     ensures { λ r. ⌜ Answers c (now (s .entry)) 0 (fromPayload c (now (s .entry)) at heads mode left) r ⌝ }
 {
+    let t = told(mode);
     let room = (s.len() - at) as u64;
     if left <= room {
         Answer {
-            event: 3,
+            event: t.last,
             start: at,
             len: left,
             used: at + left as usize,
             heads,
-            cells: in_mode(c, mode + 2, 0),
+            cells: in_mode(c, t.behind, 0),
         }
     } else if room == 0 {
         Answer {
@@ -390,34 +387,7 @@ fn section(s: &[u8], at: usize, left: u64, mode: u64, c: Cells, heads: u64) -> A
         }
     } else {
         Answer {
-            event: 2,
-            start: at,
-            len: room,
-            used: s.len(),
-            heads,
-            cells: in_mode(c, mode, left - room),
-        }
-    }
-}
-
-// A kept payload, of which some is to come: the caller keeps its parts and judges it when it is complete. mode 8 to 11.
-fn kept(s: &[u8], at: usize, left: u64, mode: u64, c: Cells, heads: u64) -> Answer
-    requires { ⌜ (at ≤ length (now s)) × (0 < left) × (left < 2 ^ 62) × Numbers c × (8 ≤ mode) × (mode ≤ 11) ⌝ }
-    ensures { λ r. ⌜ Answers c (now (s .entry)) 0 (fromPayload c (now (s .entry)) at heads mode left) r ⌝ }
-{
-    let room = (s.len() - at) as u64;
-    if left <= room {
-        Answer {
-            event: 5,
-            start: at,
-            len: left,
-            used: at + left as usize,
-            heads,
-            cells: in_mode(c, mode, 0),
-        }
-    } else {
-        Answer {
-            event: 6,
+            event: t.part,
             start: at,
             len: room,
             used: s.len(),
@@ -490,7 +460,7 @@ fn stopped(s: &[u8], number: u64, to: usize, len: u64, rest: u64, c: Cells, head
     ensures { λ r. ⌜ Answers c (now (s .entry)) 1 (fromStop (now (s .entry)) to heads number len rest) r ⌝ }
 {
     if number == 1 {
-        content(s, to, len, more_sum(c, len), heads)
+        handed(s, to, len, 3, more_sum(c, len), heads)
     } else if number == 0 {
         let room = (s.len() - to) as u64;
         Answer {
@@ -515,31 +485,9 @@ fn stopped(s: &[u8], number: u64, to: usize, len: u64, rest: u64, c: Cells, head
             cut_header(s, to, c, heads)
         }
     } else if number < 4 {
-        if len == 0 {
-            Answer {
-                event: 3,
-                start: to,
-                len: 0,
-                used: to,
-                heads,
-                cells: in_mode(c, number + 4, 0),
-            }
-        } else {
-            section(s, to, len, number + 2, c, heads)
-        }
+        handed(s, to, len, number + 2, c, heads)
     } else if number < 8 {
-        if len == 0 {
-            Answer {
-                event: 5,
-                start: to,
-                len: 0,
-                used: to,
-                heads,
-                cells: in_mode(c, number + 4, 0),
-            }
-        } else {
-            kept(s, to, len, number + 4, c, heads)
-        }
+        handed(s, to, len, number + 4, c, heads)
     } else {
         Answer {
             event: 4,
@@ -678,10 +626,8 @@ pub fn feed(s: &[u8], c: Cells, allow: u64) -> Answer
 {
     if c.mode < 3 {
         read(s, c, allow)
-    } else if c.mode == 3 {
-        content(s, 0, c.acc, c, 0)
     } else if c.mode < 6 {
-        section(s, 0, c.acc, c.mode, c, 0)
+        handed(s, 0, c.acc, c.mode, c, 0)
     } else if c.mode < 8 {
         Answer {
             event: 0,
@@ -692,7 +638,7 @@ pub fn feed(s: &[u8], c: Cells, allow: u64) -> Answer
             cells: c,
         }
     } else {
-        kept(s, 0, c.acc, c.mode, c, 0)
+        handed(s, 0, c.acc, c.mode, c, 0)
     }
 }
 

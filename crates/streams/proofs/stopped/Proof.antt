@@ -1,140 +1,108 @@
 use native.Mathlib.Omega.{arith}
 use denote.Ref.{now}
-use Rattle.streams.specs.Stopped.{stop-fault, stop-out, stop-skip, stop-content, stop-section, stop-kept, stop-empty-section, stop-empty-kept}
+use Rattle.streams.specs.Stopped.{stop-fault, stop-out, stop-skip, stop-content, stop-section, stop-kept}
 use Rattle.streams.specs.Begun.{stop-cut, numbers-more}
 use borrow.Author.Needs.{needs}
 use Rattle.streams.proofs.stopped.Statement.{statement}
 use Rattle.streams.proofs.stopped.Tie as tie
 use Rattle.streams.proofs.stopped.Reads as reads
 use Rattle.streams.proofs.stopped.Lts as lts
-use Rattle.streams.proofs.content.Reads as content-reads
 use Rattle.streams.proofs.cut_header.Reads as cut-header-reads
+use Rattle.streams.proofs.handed.Reads as handed-reads
 use Rattle.streams.proofs.in_mode.Reads as in-mode-reads
-use Rattle.streams.proofs.kept.Reads as kept-reads
 use Rattle.streams.proofs.more_sum.Reads as more-sum-reads
-use Rattle.streams.proofs.section.Reads as section-reads
 
--- src/lib.rt:487:29
+-- src/lib.rt:463:31
 more-sum-requires : tie.Need-more-sum-requires
 more-sum-requires c κs = c .before .before .pre .3 .lawful (c .if1 .taken) .1
 
--- src/lib.rt:487:9
-content-requires : tie.Need-content-requires
-content-requires c κs = let a = c .before .before .before in (a .pre .0, a .pre .3 .some (c .before .if1 .taken), a .pre .1, numbers-more _ _ _ (c .more-sum .ensures) (a .pre .3 .lawful (c .before .if1 .taken) .1) (a .pre .2 .stateds))
+-- src/lib.rt:463:9
+handed-requires : tie.Need-handed-requires
+handed-requires c κs = let a = c .before .before .before in (a .pre .0, a .pre .1, numbers-more _ _ _ (c .more-sum .ensures) (a .pre .3 .lawful (c .before .if1 .taken) .1) (a .pre .2 .stateds), (omega arith, omega arith, λ e. omega arith, λ e. omega arith), λ e. a .pre .3 .some (c .before .if1 .taken))
 
--- src/lib.rt:489:21
+-- src/lib.rt:465:21
 sub-room : tie.Need-sub-room
 sub-room c = search needs
 
--- src/lib.rt:496:34
+-- src/lib.rt:472:34
 sub-in-mode : tie.Need-sub-in-mode
 sub-in-mode c = omega (arith, c .before .before .before .pre .3 .skips (c .if2 .taken))
 
--- src/lib.rt:496:20
+-- src/lib.rt:472:20
 in-mode-requires : tie.Need-in-mode-requires
 in-mode-requires c κs = search needs
 
--- src/lib.rt:506:24
+-- src/lib.rt:482:24
 in-mode-requires-2 : tie.Need-in-mode-requires-2
 in-mode-requires-2 c κs = search needs
 
--- src/lib.rt:509:13
+-- src/lib.rt:485:13
 cut-header-requires : tie.Need-cut-header-requires
 cut-header-requires c κs = let a = c .before .before .before .before .before in (a .pre .0, (a .pre .2 .sums, a .pre .2 .stateds), a .pre .3 .short (c .before .if3 .taken) (omega (arith, c .if4 .left)))
 
--- src/lib.rt:519:35
-add-in-mode : tie.Need-add-in-mode
-add-in-mode c = search needs
+-- src/lib.rt:488:28
+add-handed : tie.Need-add-handed
+add-handed c = search needs
 
--- src/lib.rt:519:24
-in-mode-requires-3 : tie.Need-in-mode-requires-3
-in-mode-requires-3 c κs = search needs
+-- src/lib.rt:488:9
+handed-requires-2 : tie.Need-handed-requires-2
+handed-requires-2 c κs = search needs
 
--- src/lib.rt:522:33
-add-section : tie.Need-add-section
-add-section c = search needs
+-- src/lib.rt:490:28
+add-handed-2 : tie.Need-add-handed-2
+add-handed-2 c = search needs
 
--- src/lib.rt:522:13
-section-requires : tie.Need-section-requires
-section-requires c κs = search needs
+-- src/lib.rt:490:9
+handed-requires-3 : tie.Need-handed-requires-3
+handed-requires-3 c κs = search needs
 
--- src/lib.rt:532:35
-add-in-mode-2 : tie.Need-add-in-mode-2
-add-in-mode-2 c = search needs
-
--- src/lib.rt:532:24
-in-mode-requires-4 : tie.Need-in-mode-requires-4
-in-mode-requires-4 c κs = search needs
-
--- src/lib.rt:535:30
-add-kept : tie.Need-add-kept
-add-kept c = search needs
-
--- src/lib.rt:535:13
-kept-requires : tie.Need-kept-requires
-kept-requires c κs = search needs
-
--- src/lib.rt:482:1
+-- src/lib.rt:458:1
 returns : tie.Need-returns
-returns c = let a = c .before .before .before .before in stop-content (a .args .c) (now (a .args .s)) (a .args .to) (a .args .heads) (a .args .len) (a .args .rest) (a .pre .0) (a .pre .2 .sums, a .pre .2 .stateds) (a .pre .2) (a .args .number) _ (c .before .before .if1 .taken) (a .pre .3 .some (c .before .before .if1 .taken)) (a .pre .3 .lawful (c .before .before .if1 .taken) .0) (c .before .more-sum .ensures) (c .content .ensures)
+returns c = let a = c .before .before .before .before in stop-content (a .args .c) (now (a .args .s)) (a .args .to) (a .args .heads) (a .args .len) (a .args .rest) (a .pre .0) (a .pre .2 .sums, a .pre .2 .stateds) (a .pre .2) (a .args .number) _ (c .before .before .if1 .taken) (a .pre .3 .some (c .before .before .if1 .taken)) (a .pre .3 .lawful (c .before .before .if1 .taken) .0) (c .before .more-sum .ensures) (c .handed .ensures)
 
--- src/lib.rt:482:1
+-- src/lib.rt:458:1
 returns-2 : tie.Need-returns-2
 returns-2 c = let a = c .before .before .before .before in stop-skip (a .args .c) (now (a .args .s)) (a .args .to) (a .args .heads) (a .args .len) (a .args .rest) (a .pre .0) (a .pre .2 .sums, a .pre .2 .stateds) (a .pre .2) (a .args .number) (c .before .if2 .taken) (a .pre .3 .skips (c .before .if2 .taken)) (a .pre .1) (c .in-mode .ensures)
 
--- src/lib.rt:482:1
+-- src/lib.rt:458:1
 returns-3 : tie.Need-returns-3
 returns-3 c = let a = c .before .before .before .before .before .before in stop-out (a .args .c) (now (a .args .s)) (a .args .to) (a .args .heads) (a .args .len) (a .args .rest) (a .pre .0) (a .pre .2 .sums, a .pre .2 .stateds) (a .pre .2) (a .args .number) (c .before .before .if3 .taken) (c .before .if4 .taken) (c .in-mode2 .ensures)
 
--- src/lib.rt:482:1
+-- src/lib.rt:458:1
 returns-4 : tie.Need-returns-4
 returns-4 c = let a = c .before .before .before .before .before .before in stop-cut (a .args .c) (now (a .args .s)) (a .args .to) (a .args .heads) (a .args .number) (a .args .len) (a .args .rest) (c .before .before .if3 .taken) (c .before .if4 .left) (c .cut-header .ensures)
 
--- src/lib.rt:482:1
+-- src/lib.rt:458:1
 returns-5 : tie.Need-returns-5
-returns-5 c = let a = c .before .before .before .before .before .before .before in stop-empty-section (a .args .c) (now (a .args .s)) (a .args .to) (a .args .heads) (a .args .len) (a .args .rest) (a .pre .0) (a .pre .2 .sums, a .pre .2 .stateds) (a .pre .2) (a .args .number) (omega (arith, c .before .before .before .before .before .if1 .left, c .before .before .before .before .if2 .left)) (c .before .before .if5 .taken) (c .before .if6 .taken) (c .in-mode3 .ensures)
+returns-5 c = let a = c .before .before .before .before .before .before in stop-section (a .args .c) (now (a .args .s)) (a .args .to) (a .args .heads) (a .args .len) (a .args .rest) (a .pre .0) (a .pre .2 .sums, a .pre .2 .stateds) (a .pre .2) (a .args .number) (omega (arith, c .before .before .before .before .if1 .left, c .before .before .before .if2 .left)) (c .before .if5 .taken) (c .handed2 .ensures)
 
--- src/lib.rt:482:1
+-- src/lib.rt:458:1
 returns-6 : tie.Need-returns-6
-returns-6 c = let a = c .before .before .before .before .before .before .before in stop-section (a .args .c) (now (a .args .s)) (a .args .to) (a .args .heads) (a .args .len) (a .args .rest) (a .pre .0) (a .pre .2 .sums, a .pre .2 .stateds) (a .pre .2) (a .args .number) (omega (arith, c .before .before .before .before .before .if1 .left, c .before .before .before .before .if2 .left)) (c .before .before .if5 .taken) (omega (arith, c .before .if6 .left)) (c .section .ensures)
+returns-6 c = let a = c .before .before .before .before .before .before .before in stop-kept (a .args .c) (now (a .args .s)) (a .args .to) (a .args .heads) (a .args .len) (a .args .rest) (a .pre .0) (a .pre .2 .sums, a .pre .2 .stateds) (a .pre .2) (a .args .number) (c .before .before .if5 .left) (c .before .if6 .taken) (c .handed3 .ensures)
 
--- src/lib.rt:482:1
+-- src/lib.rt:458:1
 returns-7 : tie.Need-returns-7
-returns-7 c = let a = c .before .before .before .before .before .before .before .before in stop-empty-kept (a .args .c) (now (a .args .s)) (a .args .to) (a .args .heads) (a .args .len) (a .args .rest) (a .pre .0) (a .pre .2 .sums, a .pre .2 .stateds) (a .pre .2) (a .args .number) (c .before .before .before .if5 .left) (c .before .before .if7 .taken) (c .before .if8 .taken) (c .in-mode4 .ensures)
-
--- src/lib.rt:482:1
-returns-8 : tie.Need-returns-8
-returns-8 c = let a = c .before .before .before .before .before .before .before .before in stop-kept (a .args .c) (now (a .args .s)) (a .args .to) (a .args .heads) (a .args .len) (a .args .rest) (a .pre .0) (a .pre .2 .sums, a .pre .2 .stateds) (a .pre .2) (a .args .number) (c .before .before .before .if5 .left) (c .before .before .if7 .taken) (omega (arith, c .before .if8 .left)) (c .kept .ensures)
-
--- src/lib.rt:482:1
-returns-9 : tie.Need-returns-9
-returns-9 c = let a = c .before .before .before .before .before .before in stop-fault (a .args .c) (now (a .args .s)) (a .args .to) (a .args .heads) (a .args .len) (a .args .rest) (a .pre .0) (a .pre .2 .sums, a .pre .2 .stateds) (a .pre .2) (a .args .number) (c .if7 .left) (c .before .before .if3 .left)
+returns-7 c = let a = c .before .before .before .before .before .before in stop-fault (a .args .c) (now (a .args .s)) (a .args .to) (a .args .heads) (a .args .len) (a .args .rest) (a .pre .0) (a .pre .2 .sums, a .pre .2 .stateds) (a .pre .2) (a .args .number) (c .if6 .left) (c .before .before .if3 .left)
 
 pub stopped-spec : {M : Type 1} → statement M
 stopped-spec =
     tie.close
     (tie.spec
     more-sum-requires
-    content-requires
+    handed-requires
     sub-room
     sub-in-mode
     in-mode-requires
     in-mode-requires-2
     cut-header-requires
-    add-in-mode
-    in-mode-requires-3
-    add-section
-    section-requires
-    add-in-mode-2
-    in-mode-requires-4
-    add-kept
-    kept-requires
+    add-handed
+    handed-requires-2
+    add-handed-2
+    handed-requires-3
     returns
     returns-2
     returns-3
     returns-4
     returns-5
     returns-6
-    returns-7
-    returns-8
-    returns-9)
+    returns-7)
