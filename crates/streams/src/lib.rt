@@ -8,7 +8,7 @@ ghost use Rattle.streams.specs.Both.{rule};
 ghost use Rattle.streams.specs.Uses.{placeOf, numberOf, passesOf};
 ghost use Rattle.streams.specs.Ruled.{oneOf};
 ghost use Rattle.streams.specs.Heads.{GoodHead, HeadStepped, HeadRead};
-ghost use Rattle.streams.specs.Answers.{Sane, Numbers, HandedMode, Tells, Answers, fromPayload, inMode};
+ghost use Rattle.streams.specs.Answers.{Sane, Numbers, HandedMode, Tells, Answers, fromPayload, inMode, answer};
 ghost use Rattle.streams.specs.Stopped.{moreSum, fromStop};
 ghost use Rattle.streams.specs.Begun.{headCells, fromCut, Started};
 ghost use Rattle.streams.specs.Fed.{Fed};
@@ -328,6 +328,20 @@ fn in_mode(c: Cells, mode: u64, acc: u64) -> Cells
     }
 }
 
+// No event, at the end of what was used.
+fn quiet(used: usize, heads: u64, cells: Cells) -> Answer
+    ensures { λ r. ⌜ r ≡ answer 0 used 0 used heads cells ⌝ }
+{
+    Answer {
+        event: 0,
+        start: used,
+        len: 0,
+        used,
+        heads,
+        cells,
+    }
+}
+
 // How the parts of a payload are told: the event of the last one, of one before it, and the mode behind the payload.
 struct Telling {
     last: u64,
@@ -377,14 +391,7 @@ fn handed(s: &[u8], at: usize, left: u64, mode: u64, c: Cells, heads: u64) -> An
             cells: in_mode(c, t.behind, 0),
         }
     } else if room == 0 {
-        Answer {
-            event: 0,
-            start: at,
-            len: 0,
-            used: at,
-            heads,
-            cells: in_mode(c, mode, left),
-        }
+        quiet(at, heads, in_mode(c, mode, left))
     } else {
         Answer {
             event: t.part,
@@ -444,14 +451,7 @@ fn cut_header(s: &[u8], to: usize, c: Cells, heads: u64) -> Answer
         },
     );
     let h = e.head;
-    Answer {
-        event: 0,
-        start: s.len(),
-        len: 0,
-        used: s.len(),
-        heads,
-        cells: head_cells(h, c),
-    }
+    quiet(s.len(), heads, head_cells(h, c))
 }
 
 // What the readers stopped at.
@@ -463,24 +463,10 @@ fn stopped(s: &[u8], number: u64, to: usize, len: u64, rest: u64, c: Cells, head
         handed(s, to, len, 3, more_sum(c, len), heads)
     } else if number == 0 {
         let room = (s.len() - to) as u64;
-        Answer {
-            event: 0,
-            start: s.len(),
-            len: 0,
-            used: s.len(),
-            heads,
-            cells: in_mode(c, 2, len - room),
-        }
+        quiet(s.len(), heads, in_mode(c, 2, len - room))
     } else if number == 9 {
         if rest == 0 {
-            Answer {
-                event: 0,
-                start: to,
-                len: 0,
-                used: to,
-                heads,
-                cells: in_mode(c, 0, 0),
-            }
+            quiet(to, heads, in_mode(c, 0, 0))
         } else {
             cut_header(s, to, c, heads)
         }
@@ -589,14 +575,7 @@ fn read(s: &[u8], c: Cells, allow: u64) -> Answer
     let b = begin(s, c, allow);
     let cells = b.cells;
     if b.number == 9 {
-        Answer {
-            event: 0,
-            start: b.at,
-            len: 0,
-            used: b.at,
-            heads: 0,
-            cells,
-        }
+        quiet(b.at, 0, cells)
     } else {
         let mut to = 0;
         let mut len = 0;
@@ -629,14 +608,7 @@ pub fn feed(s: &[u8], c: Cells, allow: u64) -> Answer
     } else if c.mode < 6 {
         handed(s, 0, c.acc, c.mode, c, 0)
     } else if c.mode < 8 {
-        Answer {
-            event: 0,
-            start: 0,
-            len: 0,
-            used: 0,
-            heads: 0,
-            cells: c,
-        }
+        quiet(0, 0, c)
     } else {
         handed(s, 0, c.acc, c.mode, c, 0)
     }

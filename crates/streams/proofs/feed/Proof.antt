@@ -9,6 +9,7 @@ use Rattle.streams.proofs.feed.Reads as reads
 use Rattle.streams.proofs.feed.Lts as lts
 use Rattle.streams.proofs.handed.Reads as handed-reads
 use Rattle.streams.proofs.read.Reads as read-reads
+use Rattle.streams.proofs.quiet.Reads as quiet-reads
 
 -- src/lib.rt:628:9
 read-requires : tie.Need-read-requires
@@ -17,6 +18,10 @@ read-requires c κs = search needs
 -- src/lib.rt:630:9
 handed-requires : tie.Need-handed-requires
 handed-requires c κs = let a = c .before .before .before .before .before in (zero-le, a .pre .small, (a .pre .sums, a .pre .stateds), (omega (arith, c .before .before .if1 .left), omega (arith, c .if2 .taken), λ e. omega (arith, e, c .if2 .taken), λ e. omega (arith, e, c .if2 .taken)), λ e. a .pre .some (omega (arith, e)) (λ x. omega (arith, e, x)) (λ x. omega (arith, e, x)))
+
+-- src/lib.rt
+quiet-requires : tie.Need-quiet-requires
+quiet-requires c κs = search needs
 
 -- src/lib.rt:641:9
 handed-requires-2 : tie.Need-handed-requires-2
@@ -32,7 +37,7 @@ returns-2 c = let a = c .before .before .before .before .before .before in fed-p
 
 -- src/lib.rt:623:1
 returns-3 : tie.Need-returns-3
-returns-3 c = let a = c .before .before .before .before .before .before .before in fed-due (a .args .c) (now (a .args .s)) (a .args .allow) (a .pre) (c .before .before .if2 .left) (c .if3 .taken)
+returns-3 c = let a = c .before .before .before .before .before .before .before .before in rw (c .quiet .ensures) (fed-due (a .args .c) (now (a .args .s)) (a .args .allow) (a .pre) (c .before .before .before .if2 .left) (c .before .if3 .taken))
 
 -- src/lib.rt:623:1
 returns-4 : tie.Need-returns-4
@@ -43,7 +48,7 @@ feed-spec =
     tie.close
     (tie.spec
     read-requires
-    handed-requires
+    handed-requires quiet-requires
     handed-requires-2
     returns
     returns-2

@@ -8,6 +8,7 @@ use Rattle.streams.proofs.handed.Reads as reads
 use Rattle.streams.proofs.handed.Lts as lts
 use Rattle.streams.proofs.in_mode.Reads as in-mode-reads
 use Rattle.streams.proofs.told.Reads as told-reads
+use Rattle.streams.proofs.quiet.Reads as quiet-reads
 
 -- src/lib.rt:368:9
 told-requires : tie.Need-told-requires
@@ -29,6 +30,10 @@ in-mode-requires c κs = search needs
 in-mode-requires-2 : tie.Need-in-mode-requires-2
 in-mode-requires-2 c κs = search needs
 
+-- src/lib.rt
+quiet-requires : tie.Need-quiet-requires
+quiet-requires c κs = search needs
+
 -- src/lib.rt:395:37
 sub-in-mode : tie.Need-sub-in-mode
 sub-in-mode c = search needs
@@ -43,7 +48,7 @@ returns c = let a = c .before .before .before .before in handed-over (a .args .c
 
 -- src/lib.rt:364:1
 returns-2 : tie.Need-returns-2
-returns-2 c = let a = c .before .before .before .before .before in none-here (a .args .c) (now (a .args .s)) (a .args .at) (a .args .heads) (a .pre .0) (a .pre .2) 0 (a .args .left) (a .args .mode) (omega (arith, c .before .before .if1 .left)) (a .pre .1) (a .pre .3) (c .before .if2 .taken) (c .in-mode2 .ensures)
+returns-2 c = let a = c .before .before .before .before .before .before in rw (c .quiet .ensures) (none-here (a .args .c) (now (a .args .s)) (a .args .at) (a .args .heads) (a .pre .0) (a .pre .2) 0 (a .args .left) (a .args .mode) (omega (arith, c .before .before .before .if1 .left)) (a .pre .1) (a .pre .3) (c .before .before .if2 .taken) (c .before .in-mode2 .ensures))
 
 -- src/lib.rt:364:1
 returns-3 : tie.Need-returns-3
@@ -57,7 +62,7 @@ handed-spec =
     sub-room
     add-t14
     in-mode-requires
-    in-mode-requires-2
+    in-mode-requires-2 quiet-requires
     sub-in-mode
     in-mode-requires-3
     returns

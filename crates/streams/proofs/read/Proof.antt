@@ -8,10 +8,15 @@ use Rattle.streams.proofs.read.Lts as lts
 use Rattle.streams.proofs.begin.Reads as begin-reads
 use Rattle.streams.proofs.payload.Reads as payload-reads
 use Rattle.streams.proofs.stopped.Reads as stopped-reads
+use Rattle.streams.proofs.quiet.Reads as quiet-reads
 
 -- src/lib.rt:636:9
 begin-requires : tie.Need-begin-requires
 begin-requires c κs = search needs
+
+-- src/lib.rt
+quiet-requires : tie.Need-quiet-requires
+quiet-requires c κs = search needs
 
 -- src/lib.rt:660:13
 sub-payload : tie.Need-sub-payload
@@ -31,7 +36,7 @@ stopped-requires c κs = search needs
 
 -- src/lib.rt:632:1
 returns : tie.Need-returns
-returns c = let a = c .before .before .before .before .before in fed-stays (a .args .c) (now (a .args .s)) (a .args .allow) _ (c .before .before .before .begin .ensures) (c .if1 .taken)
+returns c = let a = c .before .before .before .before .before .before in rw (c .quiet .ensures) (fed-stays (a .args .c) (now (a .args .s)) (a .args .allow) _ (c .before .before .before .before .begin .ensures) (c .before .if1 .taken))
 
 -- src/lib.rt:632:1
 returns-2 : tie.Need-returns-2
@@ -41,7 +46,7 @@ pub read-spec : {M : Type 1} → statement M
 read-spec =
     tie.close
     (tie.spec
-    begin-requires
+    begin-requires quiet-requires
     sub-payload
     payload-requires
     sub-stopped

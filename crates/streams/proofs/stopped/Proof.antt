@@ -11,6 +11,7 @@ use Rattle.streams.proofs.cut_header.Reads as cut-header-reads
 use Rattle.streams.proofs.handed.Reads as handed-reads
 use Rattle.streams.proofs.in_mode.Reads as in-mode-reads
 use Rattle.streams.proofs.more_sum.Reads as more-sum-reads
+use Rattle.streams.proofs.quiet.Reads as quiet-reads
 
 -- src/lib.rt:463:31
 more-sum-requires : tie.Need-more-sum-requires
@@ -32,9 +33,17 @@ sub-in-mode c = omega (arith, c .before .before .before .pre .3 .skips (c .if2 .
 in-mode-requires : tie.Need-in-mode-requires
 in-mode-requires c κs = search needs
 
+-- src/lib.rt
+quiet-requires : tie.Need-quiet-requires
+quiet-requires c κs = search needs
+
 -- src/lib.rt:482:24
 in-mode-requires-2 : tie.Need-in-mode-requires-2
 in-mode-requires-2 c κs = search needs
+
+-- src/lib.rt
+quiet-requires-2 : tie.Need-quiet-requires-2
+quiet-requires-2 c κs = search needs
 
 -- src/lib.rt:485:13
 cut-header-requires : tie.Need-cut-header-requires
@@ -62,11 +71,11 @@ returns c = let a = c .before .before .before .before in stop-content (a .args .
 
 -- src/lib.rt:458:1
 returns-2 : tie.Need-returns-2
-returns-2 c = let a = c .before .before .before .before in stop-skip (a .args .c) (now (a .args .s)) (a .args .to) (a .args .heads) (a .args .len) (a .args .rest) (a .pre .0) (a .pre .2 .sums, a .pre .2 .stateds) (a .pre .2) (a .args .number) (c .before .if2 .taken) (a .pre .3 .skips (c .before .if2 .taken)) (a .pre .1) (c .in-mode .ensures)
+returns-2 c = let a = c .before .before .before .before .before in rw (c .quiet .ensures) (stop-skip (a .args .c) (now (a .args .s)) (a .args .to) (a .args .heads) (a .args .len) (a .args .rest) (a .pre .0) (a .pre .2 .sums, a .pre .2 .stateds) (a .pre .2) (a .args .number) (c .before .before .if2 .taken) (a .pre .3 .skips (c .before .before .if2 .taken)) (a .pre .1) (c .before .in-mode .ensures))
 
 -- src/lib.rt:458:1
 returns-3 : tie.Need-returns-3
-returns-3 c = let a = c .before .before .before .before .before .before in stop-out (a .args .c) (now (a .args .s)) (a .args .to) (a .args .heads) (a .args .len) (a .args .rest) (a .pre .0) (a .pre .2 .sums, a .pre .2 .stateds) (a .pre .2) (a .args .number) (c .before .before .if3 .taken) (c .before .if4 .taken) (c .in-mode2 .ensures)
+returns-3 c = let a = c .before .before .before .before .before .before .before in rw (c .quiet2 .ensures) (stop-out (a .args .c) (now (a .args .s)) (a .args .to) (a .args .heads) (a .args .len) (a .args .rest) (a .pre .0) (a .pre .2 .sums, a .pre .2 .stateds) (a .pre .2) (a .args .number) (c .before .before .before .if3 .taken) (c .before .before .if4 .taken) (c .before .in-mode2 .ensures))
 
 -- src/lib.rt:458:1
 returns-4 : tie.Need-returns-4
@@ -92,8 +101,8 @@ stopped-spec =
     handed-requires
     sub-room
     sub-in-mode
-    in-mode-requires
-    in-mode-requires-2
+    in-mode-requires quiet-requires
+    in-mode-requires-2 quiet-requires-2
     cut-header-requires
     add-handed
     handed-requires-2
