@@ -8,7 +8,7 @@ use mathlib.Core.Logic.{inl}
 use lib.ListN.{length, drop, drop-of-length-le}
 use Rattle.rules.specs.Integers.{Int, cut, got, integer}
 use Rattle.rules.specs.Reading.{skipped}
-use Rattle.meaning.specs.Machine.{State, in-payload, lives, between, over, with-left}
+use Rattle.meaning.specs.Machine.{in-payload, lives, between, over, with-left}
 use Rattle.meaning.specs.Feed.{quiet, Feeding, halt, onward, left-event, over-event, behind-header, feed}
 use Rattle.meaning.specs.FeedLaws.{past, past-none, past-past, feed-nothing, feed-held, feed-held-length, unfinished-type, unfinished-length}
 use Rattle.varint.specs.ByByte.{part, prog}
@@ -20,7 +20,7 @@ use Rattle.streams.specs.declared.Start.{Start}
 use Rattle.streams.specs.Both.{Place, rule, both}
 use Rattle.streams.specs.Uses.{placeOf, numberOf, rulingAt, ruling-back, number-stands}
 use Rattle.streams.specs.Heads.{headState, goesOn, headGoes, GoodHead, HeadRead}
-use Rattle.streams.specs.Stops.{headerOf, payloadOf, stopOf, not-header, Unready, Lawful, Stop}
+use Rattle.streams.specs.Stops.{headerOf, payloadOf, stopOf, not-header, Unready, Lawful}
 use Rattle.streams.specs.Answers.{stateAt, stateOf, placeIn, StandsIn, answerAt, Sane, Numbers, Answers, place-same, answer}
 use Rattle.streams.specs.Handed.{behind}
 use Rattle.streams.specs.Stopped.{moreSum, fromStop}

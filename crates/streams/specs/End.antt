@@ -5,7 +5,7 @@ use native.Mathlib.Omega.{arith}
 use mathlib.Core.List.{List}
 use borrow.Author.Tests.{eq-eqb, ne-eqb}
 use Rattle.rules.specs.Reading.{End, complete, lacking, Verdict, whole, fault, waits, ended}
-use Rattle.rules.specs.Message.{Message, opening, unequal, all-come, lacks, ends, tally}
+use Rattle.rules.specs.Message.{Message, unequal, all-come, lacks, ends, tally}
 use Rattle.rules.specs.Request.{Rules, request, end-of, codeOf}
 use Rattle.rules.specs.Control.{Control, control}
 use Rattle.meaning.specs.Machine.{fresh, need, State, in-type, in-length, in-payload, due, finish}

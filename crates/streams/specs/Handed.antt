@@ -10,8 +10,8 @@ use lib.Dec.{eqb, eqb·suc-zero}
 use lib.Seq.{take-all}
 use lib.ListN.{length, take, drop, length-drop, drop-of-length-le}
 use Rattle.rules.specs.Reading.{Part, header-section, trailers, Kept, Use, content, section, kept}
-use Rattle.meaning.specs.Machine.{State, in-payload, due, Outcome, lives, between, over}
-use Rattle.meaning.specs.Feed.{Event, quiet, section-bytes, content-bytes, Feeding, halt, over-event, named, feed}
+use Rattle.meaning.specs.Machine.{in-payload, due, Outcome, lives, between, over}
+use Rattle.meaning.specs.Feed.{Event, quiet, section-bytes, content-bytes, halt, over-event, named, feed}
 use Rattle.meaning.specs.FeedLaws.{past, past-past, feed-nothing, kept-short}
 use Rattle.varint.specs.ByByte.{part, prog, fresh-good}
 use Rattle.streams.specs.declared.Cells.{Cells}

@@ -6,7 +6,7 @@ use mathlib.Core.Bool.{Bool, true, false, _||_}
 use mathlib.Core.Option.{none, some}
 use lib.Dec.{ltb, eqb}
 use borrow.Author.Tests.{lt-ltb, le-ltb, ne-eqb}
-use Rattle.rules.specs.Reading.{Kept, settings, refuse, accept, Ruling}
+use Rattle.rules.specs.Reading.{Kept, refuse, accept, Ruling}
 use Rattle.rules.specs.Message.{content-limit, Message, opening, body, trailed}
 use Rattle.rules.specs.Request.{headers-limit, rule as request-rule}
 use Rattle.rules.specs.Control.{Control, unset, set, no-settings, settings-limit, one-integer, ruleFor, rule as control-rule}

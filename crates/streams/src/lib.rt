@@ -408,31 +408,20 @@ fn more_sum(c: Cells, len: u64) -> Cells
     requires { ⌜ c .sum + len ≤ 2 ^ 62 ⌝ }
     ensures { λ r. ⌜ r ≡ moreSum c len ⌝ }
 {
-    Cells {
-        mode: c.mode,
-        acc: c.acc,
-        due: c.due,
-        ftype: c.ftype,
-        phase: c.phase,
-        has: c.has,
-        stated: c.stated,
-        sum: c.sum + len,
-    }
+    let mut d = c;
+    d.sum = c.sum + len;
+    d
 }
 
 fn head_cells(h: Head, c: Cells) -> Cells
     ensures { λ r. ⌜ r ≡ headCells h c ⌝ }
 {
-    Cells {
-        mode: h.mode,
-        acc: h.acc,
-        due: h.due,
-        ftype: h.ftype,
-        phase: c.phase,
-        has: c.has,
-        stated: c.stated,
-        sum: c.sum,
-    }
+    let mut d = c;
+    d.mode = h.mode;
+    d.acc = h.acc;
+    d.due = h.due;
+    d.ftype = h.ftype;
+    d
 }
 
 // A header that the piece ends in.

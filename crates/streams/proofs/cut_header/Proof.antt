@@ -19,7 +19,7 @@ head-on-requires c κs = (c .before .pre .0, (omega arith, (λ l. fresh-good), o
 head-cells-requires : tie.Need-head-cells-requires
 head-cells-requires c κs = search needs
 
--- src/lib.rt
+-- src/lib.rt:443:5
 quiet-requires : tie.Need-quiet-requires
 quiet-requires c κs = search needs
 

@@ -19,7 +19,7 @@ read-requires c κs = search needs
 handed-requires : tie.Need-handed-requires
 handed-requires c κs = let a = c .before .before .before .before .before in (zero-le, a .pre .small, (a .pre .sums, a .pre .stateds), (omega (arith, c .before .before .if1 .left), omega (arith, c .if2 .taken), λ e. omega (arith, e, c .if2 .taken), λ e. omega (arith, e, c .if2 .taken)), λ e. a .pre .some (omega (arith, e)) (λ x. omega (arith, e, x)) (λ x. omega (arith, e, x)))
 
--- src/lib.rt
+-- src/lib.rt:600:9
 quiet-requires : tie.Need-quiet-requires
 quiet-requires c κs = search needs
 

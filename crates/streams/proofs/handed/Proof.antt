@@ -30,7 +30,7 @@ in-mode-requires c κs = search needs
 in-mode-requires-2 : tie.Need-in-mode-requires-2
 in-mode-requires-2 c κs = search needs
 
--- src/lib.rt
+-- src/lib.rt:394:9
 quiet-requires : tie.Need-quiet-requires
 quiet-requires c κs = search needs
 

@@ -14,7 +14,7 @@ use Rattle.streams.proofs.quiet.Reads as quiet-reads
 begin-requires : tie.Need-begin-requires
 begin-requires c κs = search needs
 
--- src/lib.rt
+-- src/lib.rt:567:9
 quiet-requires : tie.Need-quiet-requires
 quiet-requires c κs = search needs
 

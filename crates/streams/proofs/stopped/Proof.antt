@@ -33,7 +33,7 @@ sub-in-mode c = omega (arith, c .before .before .before .pre .3 .skips (c .if2 .
 in-mode-requires : tie.Need-in-mode-requires
 in-mode-requires c κs = search needs
 
--- src/lib.rt
+-- src/lib.rt:455:9
 quiet-requires : tie.Need-quiet-requires
 quiet-requires c κs = search needs
 
@@ -41,7 +41,7 @@ quiet-requires c κs = search needs
 in-mode-requires-2 : tie.Need-in-mode-requires-2
 in-mode-requires-2 c κs = search needs
 
--- src/lib.rt
+-- src/lib.rt:458:13
 quiet-requires-2 : tie.Need-quiet-requires-2
 quiet-requires-2 c κs = search needs
 
