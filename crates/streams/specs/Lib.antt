@@ -9,5 +9,6 @@ pub mod Handed
 pub mod Stopped
 pub mod Begun
 pub mod Fed
+pub mod Refuted
 pub mod End
 pub mod Apart
