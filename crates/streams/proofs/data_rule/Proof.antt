@@ -1,3 +1,4 @@
+use native.Mathlib.Omega.{arith}
 use Rattle.streams.specs.Ruled.{past-limit, in-limit, past-stated, in-stated}
 use borrow.Author.Needs.{needs}
 use Rattle.streams.proofs.data_rule.Statement.{statement}
@@ -19,11 +20,11 @@ returns-2 c = in-limit _ _ _ _ (c .before .if1 .taken) (c .if2 .left)
 
 -- src/lib.rt:16:1
 returns-3 : tie.Need-returns-3
-returns-3 c = past-stated _ _ _ _ (c .before .if1 .left) (c .if3 .taken)
+returns-3 c = let a = c .before .before .args in past-stated (a .has) (a .stated) (a .sum) (a .len) (c .before .if1 .left) (omega (arith, c .if3 .taken))
 
 -- src/lib.rt:16:1
 returns-4 : tie.Need-returns-4
-returns-4 c = in-stated _ _ _ _ (c .before .if1 .left) (c .if3 .left)
+returns-4 c = let a = c .before .before .args in in-stated (a .has) (a .stated) (a .sum) (a .len) (c .before .if1 .left) (omega (arith, c .if3 .left))
 
 pub data-rule-spec : {M : Type 1} → statement M
 data-rule-spec = tie.close (tie.spec add-total returns returns-2 returns-3 returns-4)

@@ -15,11 +15,11 @@ use Rattle.streams.proofs.quiet.Reads as quiet-reads
 
 -- src/lib.rt:463:31
 more-sum-requires : tie.Need-more-sum-requires
-more-sum-requires c κs = c .before .before .pre .3 .lawful (c .if1 .taken) .1
+more-sum-requires c κs = omega (arith, c .before .before .pre .3 .lawful (c .if1 .taken) .1)
 
 -- src/lib.rt:463:9
 handed-requires : tie.Need-handed-requires
-handed-requires c κs = let a = c .before .before .before in (a .pre .0, a .pre .1, numbers-more _ _ _ (c .more-sum .ensures) (a .pre .3 .lawful (c .before .if1 .taken) .1) (a .pre .2 .stateds), (omega arith, omega arith, λ e. omega arith, λ e. omega arith), λ e. a .pre .3 .some (c .before .if1 .taken))
+handed-requires c κs = let a = c .before .before .before in (a .pre .0, a .pre .1, numbers-more _ _ _ (c .more-sum .ensures) (omega (arith, a .pre .3 .lawful (c .before .if1 .taken) .1)) (a .pre .2 .stateds), (omega arith, omega arith, λ e. omega arith, λ e. omega arith), λ e. a .pre .3 .some (c .before .if1 .taken))
 
 -- src/lib.rt:465:21
 sub-room : tie.Need-sub-room

@@ -19,7 +19,7 @@ returns-3 c = let a = c .before .before .before .args in tally-free (a .has) (a 
 
 -- src/lib.rt:702:1
 returns-4 : tie.Need-returns-4
-returns-4 c = let a = c .before .before .before .before .args in tally-equal (a .has) (a .stated) (a .sum) (c .before .if3 .left) (a .phase) (λ x. absurd (omega (arith, x, c .before .before .before .if1 .left)), c .before .before .if2 .left) (c .if4 .taken)
+returns-4 c = let a = c .before .before .before .before .args in tally-equal (a .has) (a .stated) (a .sum) (c .before .if3 .left) (a .phase) (λ x. absurd (omega (arith, x, c .before .before .before .if1 .left)), c .before .before .if2 .left) (omega (arith, c .if4 .taken))
 
 -- src/lib.rt:702:1
 returns-5 : tie.Need-returns-5
