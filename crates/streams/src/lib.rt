@@ -316,16 +316,12 @@ pub struct Answer {
 fn in_mode(c: Cells, mode: u64, acc: u64) -> Cells
     ensures { λ r. ⌜ r ≡ inMode c mode acc ⌝ }
 {
-    Cells {
-        mode,
-        acc,
-        due: 0,
-        ftype: 0,
-        phase: c.phase,
-        has: c.has,
-        stated: c.stated,
-        sum: c.sum,
-    }
+    let mut d = c;
+    d.mode = mode;
+    d.acc = acc;
+    d.due = 0;
+    d.ftype = 0;
+    d
 }
 
 // No event, at the end of what was used.
