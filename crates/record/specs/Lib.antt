@@ -1,0 +1,6 @@
+pub mod Row
+pub mod Sound
+pub mod Tests
+pub mod Tidy
+pub mod ReadWrite
+pub mod Same

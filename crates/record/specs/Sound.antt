@@ -1,0 +1,89 @@
+-- Which records are sound, and what reading and writing answer. Assumes nothing.
+use mathlib.Core.Path.{_≡_}
+use Prim.Native.Nat.{ℕ, _%_, _≤_, _<_, _^_}
+use mathlib.Core.List.{List, []}
+use mathlib.Core.Bool.{Bool, true, false}
+use Rattle.streams.specs.declared.Cells.{Cells}
+use Rattle.streams.specs.Both.{Place}
+use Rattle.streams.specs.Uses.{placeOf}
+use Rattle.streams.specs.Answers.{stateOf, StandsIn, Sane}
+use Rattle.record.specs.declared.Record.{Record}
+use Rattle.record.specs.declared.Stream.{Stream}
+use Rattle.record.specs.Row.{cellsFor, recordAt, recordOf, no-cells, free-record}
+
+-- a test that says whether this holds
+pub record Decides (holds : Type 0) (r : Bool) : Type 0 where
+  pub yes : r ≡ true → holds
+  pub no : r ≡ false → holds → ⊥
+
+-- ---- what numbers an open stream has
+
+-- Kind 1: a request. 2: a one-way stream before its type is whole: the type's own integer, in a place that is not used. 3: a control stream.
+-- 4, 5: a QPACK encoder or decoder stream, 6: a skipped one: nothing but their ID.
+pub record Shaped (kind id : ℕ) (c : Cells) : Type 0 where
+  pub opened : 1 ≤ kind
+  pub known : kind ≤ 6
+  pub ids : id < 2 ^ 62
+  pub request-id : kind ≡ 1 → id % 4 ≡ 0
+  pub one-way-id : 2 ≤ kind → id % 4 ≡ 2
+  pub phases : c .phase ≤ 4
+  pub request-phase : kind ≡ 1 → c .phase ≤ 2
+  pub request-mode : kind ≡ 1 → c .mode ≤ 7
+  pub control-phase : kind ≡ 3 → 3 ≤ c .phase
+  pub control-mode : kind ≡ 3 → 3 ≤ c .mode → 8 ≤ c .mode
+  pub bare-phase : 2 ≤ kind → (kind ≡ 3 → ⊥) → c .phase ≡ 0
+  pub bare-mode : 2 ≤ kind → (kind ≡ 3 → ⊥) → c .mode ≡ 0
+  pub bare : 4 ≤ kind → c .due ≡ 0
+
+pub record Fit (kind id : ℕ) (c : Cells) : Type 0 where
+  pub sane : Sane c
+  pub shaped : Shaped kind id c
+
+-- ---- a record
+
+abbrev pub cellsIn : Record → Cells
+cellsIn r = record {
+  mode = r .mode;
+  acc = r .acc;
+  due = r .due;
+  ftype = r .ftype;
+  phase = r .phase;
+  has = r .has;
+  stated = r .stated;
+  sum = r .sum;
+}
+
+-- the place that the numbers say
+abbrev pub ownPlace : Cells → Place
+ownPlace c = placeOf (c .phase) (c .has) (c .stated) (c .sum)
+
+-- the cells of the state that these cells stand for: of cells that stand for one state, the one that says nothing else
+abbrev pub tidied : Cells → Cells
+tidied c = cellsFor (stateOf c (ownPlace c) [])
+
+-- SOUND: the numbers are some open stream's, and this is the one record of the state that they stand for
+pub record Sound (r : Record) : Type 0 where
+  pub fit : Fit (r .kind) (r .id) (cellsIn r)
+  pub own : r ≡ recordOf (r .kind) (r .id) (stateOf (cellsIn r) (ownPlace (cellsIn r)) [])
+
+-- ---- the answers
+
+abbrev pub stream : (kind id : ℕ) → Cells → Stream
+stream kind id c = record { kind = kind; id = id; cells = c }
+
+abbrev pub free-stream : Stream
+free-stream = stream 0 0 no-cells
+
+abbrev pub unsound-stream : Stream
+unsound-stream = stream 7 0 no-cells
+
+-- WHAT IS READ of any record
+pub record Read (r : Record) (s : Stream) : Type 0 where
+  pub free : r ≡ free-record → s ≡ free-stream
+  pub sound : Sound r → s ≡ stream (r .kind) (r .id) (cellsIn r)
+  pub unsound : (r ≡ free-record → ⊥) → (Sound r → ⊥) → s ≡ unsound-stream
+
+-- WHAT IS WRITTEN of any stream: the one record of its state, for every state that its cells stand for; of what is none, a free record
+pub record Written (s : Stream) (r : Record) : Type 0 where
+  pub fits : Fit (s .kind) (s .id) (s .cells) → (p : Place) (k : List ℕ) → StandsIn (s .cells) p → r ≡ recordOf (s .kind) (s .id) (stateOf (s .cells) p k)
+  pub else : (Fit (s .kind) (s .id) (s .cells) → ⊥) → r ≡ free-record

@@ -1,0 +1,415 @@
+// A stream as a record of a host's row: integers alone, in one place and order for every host, and one record for each state.
+use streams::Cells;
+ghost use mathlib.Core.Path.{_≡_};
+ghost use Prim.Native.Nat.{_<_, _≤_, _^_, _*_, _-_};
+ghost use Rattle.varint.specs.ByByte.{part, prog, partOf, Good};
+ghost use Rattle.streams.specs.Answers.{Sane};
+ghost use Rattle.record.specs.Row.{recordAt, no-cells, free-record};
+ghost use Rattle.record.specs.Sound.{Decides, Shaped, Fit, cellsIn, tidied, free-stream, unsound-stream, Read, Written};
+ghost use Rattle.record.specs.Tidy.{headAs, headTidied, placeAs, placeTidied};
+
+// kind 0: free, 1: a request, 2: a one-way stream before its type is whole, 3: control, 4: QPACK encoder, 5: QPACK decoder, 6: skipped.
+// The rest as in streams::Cells. owner and room are 0.
+#[repr(C)]
+pub struct Record {
+    pub id: u64,
+    pub acc: u64,
+    pub ftype: u64,
+    pub stated: u64,
+    pub sum: u64,
+    pub kind: u8,
+    pub mode: u8,
+    pub due: u8,
+    pub phase: u8,
+    pub has: u8,
+    pub owner: u8,
+    pub room: u16,
+}
+
+// What a record says; kind 7: it is unsound.
+pub struct Stream {
+    pub kind: u64,
+    pub id: u64,
+    pub cells: Cells,
+}
+
+// ---- numbers as they are
+
+fn wide(x: u8) -> u64
+    ensures { λ r. ⌜ r ≡ x ⌝ }
+{
+    x as u64
+}
+
+fn narrow(x: u64) -> u8
+    requires { ⌜ x < 256 ⌝ }
+    ensures { λ r. ⌜ r ≡ x ⌝ }
+{
+    x as u8
+}
+
+fn cells_in(r: Record) -> Cells
+    ensures { λ c. ⌜ c ≡ cellsIn r ⌝ }
+{
+    Cells {
+        mode: wide(r.mode),
+        acc: r.acc,
+        due: wide(r.due),
+        ftype: r.ftype,
+        phase: wide(r.phase),
+        has: wide(r.has),
+        stated: r.stated,
+        sum: r.sum,
+    }
+}
+
+fn record_at(kind: u64, id: u64, c: Cells) -> Record
+    requires { ⌜ (kind < 256) × (c .mode < 256) × (c .due < 256) × (c .phase < 256) × (c .has < 256) ⌝ }
+    ensures { λ r. ⌜ r ≡ recordAt kind id c ⌝ }
+{
+    Record {
+        id,
+        acc: c.acc,
+        ftype: c.ftype,
+        stated: c.stated,
+        sum: c.sum,
+        kind: narrow(kind),
+        mode: narrow(c.mode),
+        due: narrow(c.due),
+        phase: narrow(c.phase),
+        has: narrow(c.has),
+        owner: 0,
+        room: 0,
+    }
+}
+
+fn none() -> Cells
+    ensures { λ r. ⌜ r ≡ no-cells ⌝ }
+{
+    Cells {
+        mode: 0,
+        acc: 0,
+        due: 0,
+        ftype: 0,
+        phase: 0,
+        has: 0,
+        stated: 0,
+        sum: 0,
+    }
+}
+
+pub fn free() -> Record
+    ensures { λ r. ⌜ r ≡ free-record ⌝ }
+{
+    record_at(0, 0, none())
+}
+
+// ---- tests
+
+fn same(a: Cells, b: Cells) -> bool
+    ensures { λ r. ⌜ Decides (a ≡ b) r ⌝ }
+{
+    if a.mode != b.mode {
+        return false;
+    }
+    if a.acc != b.acc {
+        return false;
+    }
+    if a.due != b.due {
+        return false;
+    }
+    if a.ftype != b.ftype {
+        return false;
+    }
+    if a.phase != b.phase {
+        return false;
+    }
+    if a.has != b.has {
+        return false;
+    }
+    if a.stated != b.stated {
+        return false;
+    }
+    if a.sum == b.sum { true } else { false }
+}
+
+// Whether a record is the one of its kind and ID with these cells.
+fn is_row(r: Record, c: Cells) -> bool
+    ensures { λ b. ⌜ Decides (r ≡ recordAt (r .kind) (r .id) c) b ⌝ }
+{
+    if r.owner != 0 {
+        return false;
+    }
+    if r.room != 0 {
+        return false;
+    }
+    same(cells_in(r), c)
+}
+
+fn is_free(r: Record) -> bool
+    ensures { λ b. ⌜ Decides (r ≡ free-record) b ⌝ }
+{
+    if r.kind != 0 {
+        return false;
+    }
+    if r.id != 0 {
+        return false;
+    }
+    is_row(r, none())
+}
+
+// Part of an integer.
+fn good(acc: u64, due: u64) -> bool
+    ensures { λ r. ⌜ Decides (Good (part acc due)) r ⌝ }
+{
+    if 7 < due {
+        return false;
+    }
+    if acc < (1u64 << (62 - 8 * due)) {
+        true
+    } else {
+        false
+    }
+}
+
+fn sane(c: Cells) -> bool
+    ensures { λ r. ⌜ Decides (Sane c) r ⌝ }
+{
+    if 11 < c.mode {
+        return false;
+    }
+    if 4611686018427387904 <= c.acc {
+        return false;
+    }
+    if 4611686018427387904 <= c.ftype {
+        return false;
+    }
+    if 4611686018427387904 < c.sum {
+        return false;
+    }
+    if 4611686018427387904 < c.stated {
+        return false;
+    }
+    if c.mode < 2 {
+        return good(c.acc, c.due);
+    }
+    if c.mode == 6 {
+        return true;
+    }
+    if c.mode == 7 {
+        return true;
+    }
+    if c.acc == 0 { false } else { true }
+}
+
+fn request_shaped(id: u64, c: Cells) -> bool
+    requires { ⌜ id < 2 ^ 62 ⌝ }
+    ensures { λ r. ⌜ Decides (Shaped 1 id c) r ⌝ }
+{
+    if id % 4 != 0 {
+        return false;
+    }
+    if 2 < c.phase {
+        return false;
+    }
+    if 7 < c.mode { false } else { true }
+}
+
+fn control_shaped(id: u64, c: Cells) -> bool
+    requires { ⌜ id < 2 ^ 62 ⌝ }
+    ensures { λ r. ⌜ Decides (Shaped 3 id c) r ⌝ }
+{
+    if id % 4 != 2 {
+        return false;
+    }
+    if c.phase < 3 {
+        return false;
+    }
+    if 4 < c.phase {
+        return false;
+    }
+    if c.mode < 3 {
+        return true;
+    }
+    if c.mode < 8 { false } else { true }
+}
+
+// A one-way stream that is no control stream, or not yet.
+fn bare_shaped(kind: u64, id: u64, c: Cells) -> bool
+    requires { ⌜ (id < 2 ^ 62) × (2 ≤ kind) × (kind ≤ 6) × (kind ≡ 3 → ⊥) ⌝ }
+    ensures { λ r. ⌜ Decides (Shaped kind id c) r ⌝ }
+{
+    if id % 4 != 2 {
+        return false;
+    }
+    if c.phase != 0 {
+        return false;
+    }
+    if c.mode != 0 {
+        return false;
+    }
+    if kind == 2 {
+        return true;
+    }
+    if c.due == 0 { true } else { false }
+}
+
+fn shaped(kind: u64, id: u64, c: Cells) -> bool
+    ensures { λ r. ⌜ Decides (Shaped kind id c) r ⌝ }
+{
+    if 4611686018427387904 <= id {
+        return false;
+    }
+    if kind == 0 {
+        return false;
+    }
+    if 6 < kind {
+        return false;
+    }
+    if kind == 1 {
+        return request_shaped(id, c);
+    }
+    if kind == 3 {
+        return control_shaped(id, c);
+    }
+    bare_shaped(kind, id, c)
+}
+
+fn fits(kind: u64, id: u64, c: Cells) -> bool
+    ensures { λ r. ⌜ Decides (Fit kind id c) r ⌝ }
+{
+    if sane(c) { shaped(kind, id, c) } else { false }
+}
+
+// ---- the one among the cells of a state
+
+fn headed(c: Cells, acc: u64, due: u64, ftype: u64) -> Cells
+    ensures { λ r. ⌜ r ≡ headAs c acc due ftype ⌝ }
+{
+    Cells {
+        mode: c.mode,
+        acc,
+        due,
+        ftype,
+        phase: c.phase,
+        has: c.has,
+        stated: c.stated,
+        sum: c.sum,
+    }
+}
+
+fn placed(c: Cells, has: u64, stated: u64, sum: u64) -> Cells
+    ensures { λ r. ⌜ r ≡ placeAs c has stated sum ⌝ }
+{
+    Cells {
+        mode: c.mode,
+        acc: c.acc,
+        due: c.due,
+        ftype: c.ftype,
+        phase: c.phase,
+        has,
+        stated,
+        sum,
+    }
+}
+
+// The value so far of an integer of which nothing was read is 0.
+fn value_so_far(acc: u64, due: u64) -> u64
+    ensures { λ r. ⌜ r ≡ partOf (prog due acc) .acc ⌝ }
+{
+    if due == 0 { 0 } else { acc }
+}
+
+// In a header or payload.
+fn tidy_head(c: Cells) -> Cells
+    requires { ⌜ Sane c ⌝ }
+    ensures { λ r. ⌜ r ≡ headTidied c ⌝ }
+{
+    if c.mode == 0 {
+        return headed(c, value_so_far(c.acc, c.due), c.due, 0);
+    }
+    if c.mode == 1 {
+        return headed(c, value_so_far(c.acc, c.due), c.due, c.ftype);
+    }
+    if c.mode == 6 {
+        return headed(c, 0, 0, 0);
+    }
+    if c.mode == 7 {
+        return headed(c, 0, 0, 0);
+    }
+    headed(c, c.acc, 0, 0)
+}
+
+// Between two frames.
+fn tidy_place(c: Cells) -> Cells
+    requires { ⌜ c .phase ≤ 4 ⌝ }
+    ensures { λ r. ⌜ r ≡ placeTidied c ⌝ }
+{
+    if c.phase == 0 {
+        return placed(c, 0, 0, 0);
+    }
+    if 2 < c.phase {
+        return placed(c, 0, 0, 0);
+    }
+    if c.has == 0 {
+        return placed(c, 0, 0, c.sum);
+    }
+    placed(c, 1, c.stated, c.sum)
+}
+
+fn tidy(c: Cells) -> Cells
+    requires { ⌜ Sane c × (c .phase ≤ 4) ⌝ }
+    ensures { λ r. ⌜ r ≡ tidied c ⌝ }
+{
+    tidy_place(tidy_head(c))
+}
+
+// ---- a record as a state, and back
+
+// What any record says: free, open, or unsound.
+pub fn read(r: Record) -> Stream
+    ensures { λ s. ⌜ Read r s ⌝ }
+{
+    if is_free(r) {
+        return Stream {
+            kind: 0,
+            id: 0,
+            cells: none(),
+        };
+    }
+    let kind = wide(r.kind);
+    let c = cells_in(r);
+    if fits(kind, r.id, c) {
+        if is_row(r, tidy(c)) {
+            Stream {
+                kind,
+                id: r.id,
+                cells: c,
+            }
+        } else {
+            Stream {
+                kind: 7,
+                id: 0,
+                cells: none(),
+            }
+        }
+    } else {
+        Stream {
+            kind: 7,
+            id: 0,
+            cells: none(),
+        }
+    }
+}
+
+// The one record of a stream's state; of what is no open stream, a free record.
+pub fn write(s: Stream) -> Record
+    ensures { λ r. ⌜ Written s r ⌝ }
+{
+    let c = s.cells;
+    if fits(s.kind, s.id, c) {
+        record_at(s.kind, s.id, tidy(c))
+    } else {
+        free()
+    }
+}
