@@ -6,37 +6,26 @@ use Rattle.streams.specs.declared.Cells.{Cells}
 use Rattle.record.specs.declared.Record.{Record}
 use Rattle.record.specs.declared.Stream.{Stream}
 use Rattle.record.specs.Row.{recordAt, no-cells, free-record}
-use Rattle.record.specs.Sound.{Fit, cellsIn, tidied, Sound, stream, Read, Written}
+use Rattle.record.specs.Sound.{Fit, cellsIn, tidied, Sound, stream, Read, is-free, is-open, is-unsound, Written}
 use Rattle.record.specs.Tidy.{one-state}
 
 module _ (r : Record) where
   pub read-free : {z : Cells} → r ≡ free-record → z ≡ no-cells → Read r (stream 0 0 z)
-  read-free e f = record {
-    free = λ q. ap (stream 0 0) f;
-    sound = λ s. absurd (let k : r .kind ≡ 0 = ap (λ x. x .kind) e in omega (arith, s .fit .shaped .opened));
-    unsound = λ n s. absurd (n e);
-  }
+  read-free e f = is-free e (ap (stream 0 0) f)
 
-  read-unsound : {z : Cells} → (r ≡ free-record → ⊥) → (Sound r → ⊥) → z ≡ no-cells → Read r (stream 7 0 z)
-  read-unsound n s f = record { free = λ q. absurd (n q); sound = λ q. absurd (s q); unsound = λ x y. ap (stream 7 0) f }
-
-  module _ {kind : ℕ} {c : Cells} (k : kind ≡ r .kind) (e : c ≡ cellsIn r) (open-or-not : r ≡ free-record → ⊥) where
+  module _ {kind : ℕ} {c : Cells} (k : kind ≡ r .kind) (e : c ≡ cellsIn r) (taken : r ≡ free-record → ⊥) where
     pub read-unfit : {z : Cells} → (Fit kind (r .id) c → ⊥) → z ≡ no-cells → Read r (stream 7 0 z)
-    read-unfit n f = read-unsound open-or-not (λ s. n (rw (k, e) (s .fit))) f
+    read-unfit n f = is-unsound taken (λ s. n (rw (k, e) (s .fit))) (ap (stream 7 0) f)
 
     module _ {t : Cells} (q : t ≡ tidied c) where
       own : recordAt (r .kind) (r .id) t ≡ recordAt (r .kind) (r .id) (tidied (cellsIn r))
       own = ap (recordAt (r .kind) (r .id)) (q ∙ ap tidied e)
 
       pub read-sound : Fit kind (r .id) c → r ≡ recordAt (r .kind) (r .id) t → Read r (stream kind (r .id) c)
-      read-sound f o = record {
-        free = λ x. absurd (open-or-not x);
-        sound = λ s. (rw (k, e) refl);
-        unsound = λ x y. absurd (y (record { fit = rw (k, e) at f; own = o ∙ own }));
-      }
+      read-sound f o = is-open (record { fit = rw (k, e) at f; own = o ∙ own }) (rw (k, e) refl)
 
       pub read-other : {z : Cells} → (r ≡ recordAt (r .kind) (r .id) t → ⊥) → z ≡ no-cells → Read r (stream 7 0 z)
-      read-other n f = read-unsound open-or-not (λ s. n (s .own ∙ sym own)) f
+      read-other n f = is-unsound taken (λ s. n (s .own ∙ sym own)) (ap (stream 7 0) f)
 
 module _ (s : Stream) {r : Record} where
   pub write-open : {t : Cells} → Fit (s .kind) (s .id) (s .cells) → t ≡ tidied (s .cells) → r ≡ recordAt (s .kind) (s .id) t → Written s r

@@ -17,8 +17,8 @@ use Rattle.streams.specs.Heads.{headState}
 use Rattle.streams.specs.Answers.{stateAt, stateOf, StandsIn, Sane}
 use Rattle.record.specs.declared.Record.{Record}
 use Rattle.record.specs.declared.Stream.{Stream}
-use Rattle.record.specs.Row.{phaseOf, statedIn, isStated, lengthOf, sumIn, Numbers, numbers, numbersOf, placeIn, recordAt, cellsFor, recordOf, oneWayRecord}
-use Rattle.record.specs.Sound.{Shaped, Fit, cellsIn, ownPlace, tidied, Sound, stream, Read, Written}
+use Rattle.record.specs.Row.{phaseOf, statedIn, isStated, lengthOf, sumIn, Numbers, numbers, numbersOf, placeIn, recordAt, cellsFor, recordOf, oneWayRecord, free-record}
+use Rattle.record.specs.Sound.{Shaped, Fit, cellsIn, ownPlace, tidied, Sound, stream, Read, is-free, is-open, is-unsound, Written}
 use Rattle.record.specs.Tidy.{ModeView, typing, sizing, waiting, paying, mode-view, in-type-numbers, in-length-numbers, due-numbers, payload-numbers, place-back, one-state, ownNumbers, Tidier, tidy-less}
 
 -- ---- the cells of a state stand for that state
@@ -149,10 +149,19 @@ one-record r q s t a b p p′ k k′ st su e =
     sound-is r s p k st ∙ ap (λ x. recordOf x (r .id) (stateOf (cellsIn r) p k)) a ∙ ap (λ x. recordOf (q .kind) x (stateOf (cellsIn r) p k)) b
     ∙ ap (recordOf (q .kind) (q .id)) e ∙ sym (sound-is q t p′ k′ su)
 
+-- A FREE RECORD IS NOT SOUND, and what is read of a sound one are its own numbers
+pub free-unsound : (r : Record) → r ≡ free-record → Sound r → ⊥
+free-unsound r e s = let k : r .kind ≡ 0 = ap (λ x. x .kind) e in omega (arith, s .fit .shaped .opened)
+
+pub sound-read : (r : Record) (s : Stream) → Sound r → Read r s → s ≡ stream (r .kind) (r .id) (cellsIn r)
+sound-read r s sound (is-free e q) = absurd (free-unsound r e sound)
+sound-read r s sound (is-open t q) = q
+sound-read r s sound (is-unsound n u q) = absurd (u sound)
+
 -- WHAT IS SOUND IS WRITTEN BACK AS IT WAS READ
 pub read-written : (r q : Record) (s : Stream) → Sound r → Read r s → Written s q → q ≡ r
 read-written r q s sound read written =
-    let e : s ≡ stream (r .kind) (r .id) (cellsIn r) = read .sound sound in
+    let e : s ≡ stream (r .kind) (r .id) (cellsIn r) = sound-read r s sound read in
     let w : Written (stream (r .kind) (r .id) (cellsIn r)) q = rw e at written in
     w .fits (sound .fit) (ownPlace (cellsIn r)) [] a-place ∙ sym (sound .own)
 
@@ -171,7 +180,7 @@ module _ (s : Stream) (r : Record) (fit : Fit (s .kind) (s .id) (s .cells)) (wri
 
   -- AND IS READ BACK AS THE SAME STREAM, IN THE SAME STATE
   pub written-read : (t : Stream) → Read r t → t ≡ stream (s .kind) (s .id) (tidied (s .cells))
-  written-read t read = read .sound written-sound ∙ ap (λ x. stream (x .kind) (x .id) (cellsIn x)) written-is
+  written-read t read = sound-read r t written-sound read ∙ ap (λ x. stream (x .kind) (x .id) (cellsIn x)) written-is
 
   pub same-state : (t : Stream) → Read r t → (p : Place) (k : List ℕ) → StandsIn (s .cells) p → StandsIn (t .cells) p × (stateOf (t .cells) p k ≡ stateOf (s .cells) p k)
   same-state t read p k st =

@@ -78,10 +78,10 @@ abbrev pub unsound-stream : Stream
 unsound-stream = stream 7 0 no-cells
 
 -- WHAT IS READ of any record
-pub record Read (r : Record) (s : Stream) : Type 0 where
-  pub free : r ≡ free-record → s ≡ free-stream
-  pub sound : Sound r → s ≡ stream (r .kind) (r .id) (cellsIn r)
-  pub unsound : (r ≡ free-record → ⊥) → (Sound r → ⊥) → s ≡ unsound-stream
+pub data Read (r : Record) (s : Stream) : Type 0 where
+  is-free : r ≡ free-record → s ≡ free-stream → Read r s
+  is-open : Sound r → s ≡ stream (r .kind) (r .id) (cellsIn r) → Read r s
+  is-unsound : (r ≡ free-record → ⊥) → (Sound r → ⊥) → s ≡ unsound-stream → Read r s
 
 -- WHAT IS WRITTEN of any stream: the one record of its state, for every state that its cells stand for; of what is none, a free record
 pub record Written (s : Stream) (r : Record) : Type 0 where
