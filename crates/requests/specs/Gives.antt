@@ -1,0 +1,214 @@
+-- Laws of a section given. Assumes nothing.
+use mathlib.Core.Path.{_≡_, refl, sym, ap, _∙_, subst}
+use Prim.Native.Nat.{ℕ, zero, suc, _≤_, _<_}
+use native.Mathlib.Omega.{arith}
+use mathlib.Core.List.{List, []}
+use mathlib.Core.Bool.{Bool, true, false}
+use lib.Dec.{eqb, lit≤}
+use borrow.Author.Tests.{eqb-true, eqb-false}
+use Rattle.rules.specs.Block.{Section, Lines, unreadable, readable, lines}
+use Rattle.rules.specs.Reading.{header-section, trailers, Next, stop, go}
+use Rattle.rules.specs.Section.{Reason, Judgement, Head, codeOf as section-code}
+use Rattle.rules.specs.Section as section
+use Rattle.rules.specs.Message.{Message, Step, goes, refuses, heads, trails}
+use Rattle.rules.specs.Request.{document, request, Header, Trailer, header-by, trailer-by, next-of, headed-by, trailed-by, given as next-given}
+use Rattle.meaning.specs.Machine.{State, due, between, answered, given}
+use Rattle.meaning.specs.Hom.{map-state}
+use Rattle.streams.specs.declared.Cells.{Cells}
+use Rattle.streams.specs.Both.{Place, of-request}
+use Rattle.streams.specs.Uses.{placeOf, Stands, a-place, any-set}
+use Rattle.streams.specs.Heads.{headState}
+use Rattle.streams.specs.Answers.{stateAt, stateOf, StandsIn, Sane}
+use Rattle.streams.specs.Apart.{message}
+use Rattle.given.specs.declared.Given.{Given}
+use Rattle.given.specs.Taken.{answer, headedAs, trailedAs, headerOf, trailerOf, givenOf, given-header, given-trailers, given-undue, Says, header-says, trailer-says}
+use Rattle.record.specs.declared.Record.{Record}
+use Rattle.record.specs.Row.{recordOf, requestRecord}
+use Rattle.record.specs.Sound.{Fit, cellsIn, ownPlace, stream, Written}
+use Rattle.record.specs.Tests.{request-shape}
+use Rattle.record.specs.Same.{written-sound}
+use Rattle.requests.specs.declared.Reply.{Reply}
+use Rattle.requests.specs.Reply.{Open, stateIn, reply, refused, leftBy, unlessDue, takenAs, readAs, givenAs, Keeps}
+use Rattle.requests.specs.Severity.{left-alone}
+use Rattle.requests.specs.Answered.{answers-open, own-stands}
+use Rattle.requests.specs.Told.{code-high, phase-low}
+use Rattle.requests.specs.Feeds.{due-not}
+
+-- ---- a section is refused with a code of the protocol
+
+section-high : (x : Reason) → 0x0103 ≤ section-code x
+unfolding section-code
+section-high section.too-large = lit≤ tt
+section-high section.bad-bytes = lit≤ tt
+section-high section.unknown-pseudo = lit≤ tt
+section-high section.repeated-pseudo = lit≤ tt
+section-high section.late-pseudo = lit≤ tt
+section-high section.pseudo-in-trailers = lit≤ tt
+section-high section.connection-field = lit≤ tt
+section-high section.other-te = lit≤ tt
+section-high section.bad-method = lit≤ tt
+section-high section.no-method = lit≤ tt
+section-high section.repeated-length = lit≤ tt
+section-high section.length-in-trailers = lit≤ tt
+section-high section.no-digits = lit≤ tt
+section-high section.length-above = lit≤ tt
+section-high section.repeated-host = lit≤ tt
+section-high section.connect = lit≤ tt
+section-high section.no-scheme-or-path = lit≤ tt
+section-high section.other-scheme = lit≤ tt
+section-high section.bad-path = lit≤ tt
+section-high section.no-authority = lit≤ tt
+section-high section.empty-authority = lit≤ tt
+section-high section.authorities-differ = lit≤ tt
+section-high section.at-in-authority = lit≤ tt
+section-high section.length-past-limit = lit≤ tt
+
+abbrev High : Next Message → Type 0
+High (stop code) = 0x0103 ≤ code
+High (go m) = Unit {0}
+
+step-high : (s : Step) → High (next-of s)
+unfolding next-of
+step-high (goes m) = tt
+step-high (refuses x) = code-high x
+
+headed-high : (j : Judgement Head) (m : Message) → High (headed-by (header-by j) m)
+unfolding headed-by header-by
+headed-high (section.refused x) m = section-high x
+headed-high (section.sound h) m = step-high (heads (h .stated) m)
+
+trailed-high : (j : Judgement (Unit {0})) (m : Message) → High (trailed-by (trailer-by j) m)
+unfolding trailed-by trailer-by
+trailed-high (section.refused x) m = section-high x
+trailed-high (section.sound u) m = step-high (trails m)
+
+header-high : (m : Message) (s : Section) → High (next-given document header-section m s)
+unfolding next-given document
+header-high m s = headed-high (section.header-section s) m
+
+trailer-high : (m : Message) (s : Section) → High (next-given document trailers m s)
+unfolding next-given document
+trailer-high m s = trailed-high (section.trailers s) m
+
+-- ---- what an answer in numbers says
+
+data Meant (r : Record) (g : Given) (x : Reply) : Type 0 where
+  turned : (n : ℕ) → (n ≡ 0 → ⊥) → g .number ≡ n → refused n (leftBy n r) ≡ x → Meant r g x
+  took : (m : Message) → g .number ≡ 0 → StandsIn (g .cells) (of-request m) → ((p : Place) (k : List ℕ) → stateOf (g .cells) p k ≡ between p) → Sane (g .cells)
+      → refused 0 (requestRecord (r .id) (between m)) ≡ x → Meant r g x
+
+module _ (r : Record) where
+  by-next : (c : Cells) (g : Given) (n : Next Message) → Says c g n → High n → Meant r g (takenAs r (answered n))
+  unfolding Says takenAs answered
+  by-next c g (stop code) s h = turned code (λ z. omega arith) (ap (λ x. x .number) s) refl
+  by-next c g (go m) s h = took m (s .0) (s .1) (s .2) (s .3) refl
+
+  plain-number : (c : Cells) (n : ℕ) → (n ≡ 0 → ⊥) → n < 0x0103 → Meant r (answer n c) (refused n r)
+  plain-number c n z h =
+      turned n z refl (ap (refused n) (sym (left-alone r n ((λ e. omega arith), (λ e. omega arith), (λ e. omega arith), (λ e. omega arith)))))
+
+  module _ (c : Cells) (m : Message) (st : StandsIn c (of-request m)) where
+    header-lines : (l : Lines) → Meant r (headedAs c (headerOf l)) (readAs r (due header-section m) l)
+    unfolding headedAs headerOf readAs given
+    header-lines (unreadable f) = plain-number c 6 (λ e. omega arith) (omega arith)
+    header-lines (readable s) = by-next c _ (next-given document header-section m s) (header-says c m st s) (header-high m s)
+
+    trailer-lines : Sane c → (l : Lines) → Meant r (trailedAs c (trailerOf l)) (readAs r (due trailers m) l)
+    unfolding trailedAs trailerOf readAs given
+    trailer-lines sane (unreadable f) = plain-number c 6 (λ e. omega arith) (omega arith)
+    trailer-lines sane (readable s) = by-next c _ (next-given document trailers m s) (trailer-says c m st sane s) (trailer-high m s)
+
+data DueView (mode : ℕ) : Type 0 where
+  of-header : mode ≡ 6 → DueView mode
+  of-trailers : mode ≡ 7 → DueView mode
+  not-due : (mode ≡ 6 → ⊥) → (mode ≡ 7 → ⊥) → DueView mode
+
+due-view : (mode : ℕ) → DueView mode
+due-view mode = by (eqb mode 6) refl (eqb mode 7) refl
+  where
+    by : (x : Bool) → eqb mode 6 ≡ x → (y : Bool) → eqb mode 7 ≡ y → DueView mode
+    by true e y f = of-header (eqb-true mode 6 e)
+    by false e true f = of-trailers (eqb-true mode 7 f)
+    by false e false f = not-due (eqb-false mode 6 e) (eqb-false mode 7 f)
+
+header-due : (mode a d t : ℕ) (m : Message) → mode ≡ 6 → due header-section m ≡ stateAt mode a d t m []
+unfolding stateAt
+header-due mode a d t m e = rw e refl
+
+trailer-due : (mode a d t : ℕ) (m : Message) → mode ≡ 7 → due trailers m ≡ stateAt mode a d t m []
+unfolding stateAt
+trailer-due mode a d t m e = rw e refl
+
+module _ (r : Record) (o : Open r) (block : List ℕ) where
+  given-by : DueView (cellsIn r .mode) → Meant r (givenOf (cellsIn r) block) (givenAs r block (stateIn r))
+  unfolding unlessDue
+  given-by (of-header e) =
+      let c = cellsIn r in
+      let m = message (ownPlace c) in
+      let st = own-stands c (phase-low r o) in
+      subst (λ s. Meant r (givenOf c block) (givenAs r block s)) (header-due (c .mode) (c .acc) (c .due) (c .ftype) m e)
+      (subst (λ g. Meant r g (readAs r (due header-section m) (lines block))) (given-header c block (phase-low r o) e refl) (header-lines r c m st (lines block)))
+  given-by (of-trailers e) =
+      let c = cellsIn r in
+      let m = message (ownPlace c) in
+      let st = own-stands c (phase-low r o) in
+      subst (λ s. Meant r (givenOf c block) (givenAs r block s)) (trailer-due (c .mode) (c .acc) (c .due) (c .ftype) m e)
+      (subst (λ g. Meant r g (readAs r (due trailers m) (lines block))) (given-trailers c block (phase-low r o) e refl) (trailer-lines r c m st (o .sound .fit .sane) (lines block)))
+  given-by (not-due e f) =
+      let c = cellsIn r in
+      subst (λ x. Meant r (givenOf c block) x) (due-not (c .acc) (c .due) (c .ftype) (message (ownPlace c)) [] _ (refused 5 r) (c .mode) e f)
+      (subst (λ g. Meant r g (refused 5 r)) (given-undue c block (phase-low r o) e f) (plain-number r c 5 (λ e. omega arith) (omega arith)))
+
+-- ---- the two ways
+
+stands-low : {h n s phase : ℕ} {p : Place} (m : Message) → Stands h n s phase p → p ≡ of-request m → phase ≤ 2
+unfolding placeOf
+stands-low m (a-place {phase = zero}) e = omega arith
+stands-low m (a-place {phase = suc zero}) e = omega arith
+stands-low m (a-place {phase = suc (suc zero)}) e = omega arith
+stands-low m (a-place {phase = suc (suc (suc zero))}) e = let z : _≡_ {A = ℕ} 0 1 = cc in absurd (omega arith)
+stands-low m (a-place {phase = suc (suc (suc (suc k)))}) e = let z : _≡_ {A = ℕ} 0 1 = cc in absurd (omega arith)
+stands-low m (any-set {p = of-request x} k i) e = absurd i
+stands-low m (any-set {p = Place.of-control x} k i) e = let z : _≡_ {A = ℕ} 0 1 = cc in absurd (omega arith)
+
+between-mode : (mode a d t : ℕ) (p : Place) (k : List ℕ) → stateAt mode a d t p k ≡ between p → mode ≤ 7
+unfolding stateAt
+between-mode zero a d t p k e = omega arith
+between-mode (suc zero) a d t p k e = omega arith
+between-mode (suc (suc zero)) a d t p k e = omega arith
+between-mode (suc (suc (suc zero))) a d t p k e = omega arith
+between-mode (suc (suc (suc (suc zero)))) a d t p k e = omega arith
+between-mode (suc (suc (suc (suc (suc zero))))) a d t p k e = omega arith
+between-mode (suc (suc (suc (suc (suc (suc zero)))))) a d t p k e = omega arith
+between-mode (suc (suc (suc (suc (suc (suc (suc zero))))))) a d t p k e = omega arith
+between-mode (suc (suc (suc (suc (suc (suc (suc (suc z)))))))) a d t p k e = let z : _≡_ {A = ℕ} 0 1 = cc in absurd (omega arith)
+
+module _ (r : Record) (o : Open r) (g : Given) {x : Reply} where
+  by-taken : Meant r g x → g .number ≡ 0 → (w : Record) → Written (stream 1 (r .id) (g .cells)) w → (refused 0 w ≡ x) × Open w
+  unfolding map-state
+  by-taken (turned n z e f) q w written = absurd (z (sym e ∙ q))
+  by-taken (took m z st state sane f) q w written =
+      let d = g .cells in
+      let h = o .sound .fit .shaped in
+      let fit : Fit 1 (r .id) d = record {
+        sane = sane;
+        shaped = request-shape (r .id) d (h .ids) (h .request-id (o .kind)) (stands-low m st refl) (between-mode (d .mode) (d .acc) (d .due) (d .ftype) (of-request m) [] (state (of-request m) []));
+      } in
+      let e : w ≡ requestRecord (r .id) (between m) = written .fits fit (of-request m) [] st ∙ ap (recordOf 1 (r .id)) (state (of-request m) []) in
+      (ap (refused 0) e ∙ f, record { sound = written-sound (stream 1 (r .id) d) w fit written; kind = ap (λ y. y .kind) e })
+
+  by-turned : Meant r g x → (g .number ≡ 0 → ⊥) → refused (g .number) (leftBy (g .number) r) ≡ x
+  by-turned (turned n z e f) q = ap (λ y. refused y (leftBy y r)) e ∙ f
+  by-turned (took m z st state sane f) q = absurd (q z)
+
+module _ (r : Record) (o : Open r) (block : List ℕ) (g : Given) (is : g ≡ givenOf (cellsIn r) block) where
+  meant : Meant r g (givenAs r block (stateIn r))
+  meant = rw is (given-by r o block (due-view (cellsIn r .mode)))
+
+  pub give-taken : {a : Reply} → g .number ≡ 0 → (w : Record) → Written (stream 1 (r .id) (g .cells)) w → a ≡ refused 0 w → Keeps r (givenAs r block) a
+  give-taken e w written q = let t = by-taken r o g meant e w written in
+      record { answers = answers-open r (givenAs r block) o (q ∙ t .0); stays = λ z. subst Open (sym (ap (λ x. x .row) q)) (t .1) }
+
+  pub give-turned : {a : Reply} {w : Record} → (g .number ≡ 0 → ⊥) → w ≡ leftBy (g .number) r → a ≡ refused (g .number) w → Keeps r (givenAs r block) a
+  give-turned e f q =
+      record { answers = answers-open r (givenAs r block) o (q ∙ ap (refused (g .number)) f ∙ by-turned r o g meant e); stays = λ z. absurd (e (sym (ap (λ x. x .number) q) ∙ z)) }

@@ -1,0 +1,7 @@
+pub mod Reply
+pub mod Severity
+pub mod Plain
+pub mod Answered
+pub mod Told
+pub mod Feeds
+pub mod Gives

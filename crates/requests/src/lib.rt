@@ -1,0 +1,174 @@
+// The calls of one request stream over its record (document 01, "Calls and the host's memory"), by value: a number, and the record that it leaves.
+use given::Given;
+use record::Record;
+use record::Stream;
+use streams::Answer;
+use streams::Cells;
+ghost use mathlib.Core.Path.{_≡_};
+ghost use Rattle.record.specs.Sound.{stream, Written};
+ghost use Rattle.requests.specs.Reply.{reply, refused, leftBy, fedAs, givenAs, endedAs, resetAs, Answered, Keeps};
+
+// number 0: accepted; 1: not an open request; 4, 5, 6; else the code. event 0: none, 1: content, 2: section bytes, 3: the last of them,
+// 8: the request is whole, 9: reset. A part is len bytes of the piece from start on. used and heads: bytes and frame headers of the piece.
+pub struct Reply {
+    pub number: u64,
+    pub event: u64,
+    pub start: usize,
+    pub len: u64,
+    pub used: usize,
+    pub heads: u64,
+    pub row: Record,
+}
+
+// What a number leaves of a record: a stream fault frees it.
+fn left(number: u64, r: Record) -> Record
+    ensures { λ a. ⌜ a ≡ leftBy number r ⌝ }
+{
+    if number == 0x010b {
+        return record::free();
+    }
+    if number == 0x010c {
+        return record::free();
+    }
+    if number == 0x010d {
+        return record::free();
+    }
+    if number == 0x010e {
+        return record::free();
+    }
+    r
+}
+
+fn told(number: u64, event: u64, r: Record) -> Reply
+    ensures { λ a. ⌜ a ≡ reply number event 0 0 0 0 r ⌝ }
+{
+    Reply {
+        number,
+        event,
+        start: 0,
+        len: 0,
+        used: 0,
+        heads: 0,
+        row: r,
+    }
+}
+
+// The record of a request's state.
+fn kept(id: u64, cells: Cells) -> Record
+    ensures { λ r. ⌜ Written (stream 1 id cells) r ⌝ }
+{
+    record::write(Stream { kind: 1, id, cells })
+}
+
+// The peer resets the stream.
+pub fn reset(r: Record) -> Reply
+    ensures { λ a. ⌜ Answered r (resetAs r) a ⌝ }
+{
+    let s = record::read(r);
+    if s.kind == 1 {
+        told(0, 9, record::free())
+    } else {
+        told(1, 0, r)
+    }
+}
+
+// The peer ends the stream.
+pub fn end(r: Record) -> Reply
+    ensures { λ a. ⌜ Answered r (endedAs r) a ⌝ }
+{
+    let s = record::read(r);
+    if s.kind == 1 {
+        let c = s.cells;
+        let n = streams::end(c);
+        if n == 0 {
+            told(0, 8, record::free())
+        } else {
+            told(n, 0, left(n, r))
+        }
+    } else {
+        told(1, 0, r)
+    }
+}
+
+// One piece of the stream, with a frame allowance.
+pub fn feed(r: Record, piece: &[u8], allow: u64) -> Reply
+    ensures { λ a. ⌜ Keeps r (fedAs r allow (now (piece .entry))) a ⌝ }
+{
+    let s = record::read(r);
+    if s.kind == 1 {
+        let c = s.cells;
+        if c.mode == 6 {
+            return told(4, 0, r);
+        }
+        if c.mode == 7 {
+            return told(4, 0, r);
+        }
+        let a = streams::feed(piece, c, allow);
+        if a.event == 4 {
+            return Reply {
+                number: a.len,
+                event: 0,
+                start: 0,
+                len: 0,
+                used: a.used,
+                heads: a.heads,
+                row: left(a.len, r),
+            };
+        }
+        let d = a.cells;
+        let q = kept(r.id, d);
+        if a.event == 0 {
+            return Reply {
+                number: 0,
+                event: 0,
+                start: 0,
+                len: 0,
+                used: a.used,
+                heads: a.heads,
+                row: q,
+            };
+        }
+        if 4 < a.event {
+            return Reply {
+                number: 0,
+                event: 0,
+                start: 0,
+                len: 0,
+                used: a.used,
+                heads: a.heads,
+                row: q,
+            };
+        }
+        Reply {
+            number: 0,
+            event: a.event,
+            start: a.start,
+            len: a.len,
+            used: a.used,
+            heads: a.heads,
+            row: q,
+        }
+    } else {
+        told(1, 0, r)
+    }
+}
+
+// The section that is due.
+pub fn give(r: Record, block: &[u8]) -> Reply
+    ensures { λ a. ⌜ Keeps r (givenAs r (now (block .entry))) a ⌝ }
+{
+    let s = record::read(r);
+    if s.kind == 1 {
+        let c = s.cells;
+        let g = given::give(c, block);
+        if g.number == 0 {
+            let d = g.cells;
+            told(0, 0, kept(r.id, d))
+        } else {
+            let n = g.number;
+            told(n, 0, left(n, r))
+        }
+    } else {
+        told(1, 0, r)
+    }
+}
