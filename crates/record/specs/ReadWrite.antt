@@ -6,7 +6,7 @@ use Rattle.streams.specs.declared.Cells.{Cells}
 use Rattle.record.specs.declared.Record.{Record}
 use Rattle.record.specs.declared.Stream.{Stream}
 use Rattle.record.specs.Row.{recordAt, no-cells, free-record}
-use Rattle.record.specs.Sound.{Fit, cellsIn, tidied, Sound, stream, Read, is-free, is-open, is-unsound, Written}
+use Rattle.record.specs.Sound.{Fit, cellsIn, tidied, Sound, stream, Read, is-free, is-open, is-unsound, Written, is-record, is-none}
 use Rattle.record.specs.Tidy.{one-state}
 
 module _ (r : Record) where
@@ -29,10 +29,7 @@ module _ (r : Record) where
 
 module _ (s : Stream) {r : Record} where
   pub write-open : {t : Cells} → Fit (s .kind) (s .id) (s .cells) → t ≡ tidied (s .cells) → r ≡ recordAt (s .kind) (s .id) t → Written s r
-  write-open f e q = record {
-    fits = λ f p k st. q ∙ ap (recordAt (s .kind) (s .id)) (e ∙ sym (one-state (s .cells) p k st));
-    else = λ n. absurd (n f);
-  }
+  write-open f e q = is-record f (λ p k st. q ∙ ap (recordAt (s .kind) (s .id)) (e ∙ sym (one-state (s .cells) p k st)))
 
   pub write-none : (Fit (s .kind) (s .id) (s .cells) → ⊥) → r ≡ free-record → Written s r
-  write-none n q = record { fits = λ f p k st. absurd (n f); else = λ x. q }
+  write-none n q = is-none n q

@@ -18,7 +18,7 @@ use Rattle.streams.specs.Answers.{stateAt, stateOf, StandsIn, Sane}
 use Rattle.record.specs.declared.Record.{Record}
 use Rattle.record.specs.declared.Stream.{Stream}
 use Rattle.record.specs.Row.{phaseOf, statedIn, isStated, lengthOf, sumIn, Numbers, numbers, numbersOf, placeIn, recordAt, cellsFor, recordOf, oneWayRecord, free-record}
-use Rattle.record.specs.Sound.{Shaped, Fit, cellsIn, ownPlace, tidied, Sound, stream, Read, is-free, is-open, is-unsound, Written}
+use Rattle.record.specs.Sound.{Shaped, Fit, cellsIn, ownPlace, tidied, Sound, stream, Read, is-free, is-open, is-unsound, Written, is-record, is-none}
 use Rattle.record.specs.Tidy.{ModeView, typing, sizing, waiting, paying, mode-view, in-type-numbers, in-length-numbers, due-numbers, payload-numbers, place-back, one-state, ownNumbers, Tidier, tidy-less}
 
 -- ---- the cells of a state stand for that state
@@ -136,6 +136,34 @@ fit-again kind id c f =
       };
     }
 
+-- ---- one answer
+
+pub written-as : (s : Stream) (r : Record) → Written s r → Fit (s .kind) (s .id) (s .cells)
+    → (p : Place) (k : List ℕ) → StandsIn (s .cells) p → r ≡ recordOf (s .kind) (s .id) (stateOf (s .cells) p k)
+written-as s r (is-record f w) fit p k st = w p k st
+written-as s r (is-none n e) fit p k st = absurd (n fit)
+
+-- WHAT IS WRITTEN IS ONE RECORD, and WHAT IS READ IS ONE STREAM
+pub one-written : (s : Stream) (r q : Record) → Written s r → Written s q → r ≡ q
+one-written s r q (is-record f w) (is-record g v) = w (ownPlace (s .cells)) [] a-place ∙ sym (v (ownPlace (s .cells)) [] a-place)
+one-written s r q (is-record f w) (is-none n e) = absurd (n f)
+one-written s r q (is-none n e) (is-record f w) = absurd (n f)
+one-written s r q (is-none n e) (is-none m d) = e ∙ sym d
+
+pub free-unsound : (r : Record) → r ≡ free-record → Sound r → ⊥
+free-unsound r e s = let k : r .kind ≡ 0 = ap (λ x. x .kind) e in omega (arith, s .fit .shaped .opened)
+
+pub one-read : (r : Record) (s t : Stream) → Read r s → Read r t → s ≡ t
+one-read r s t (is-free e p) (is-free f q) = p ∙ sym q
+one-read r s t (is-free e p) (is-open f q) = absurd (free-unsound r e f)
+one-read r s t (is-free e p) (is-unsound n u q) = absurd (n e)
+one-read r s t (is-open e p) (is-free f q) = absurd (free-unsound r f e)
+one-read r s t (is-open e p) (is-open f q) = p ∙ sym q
+one-read r s t (is-open e p) (is-unsound n u q) = absurd (u e)
+one-read r s t (is-unsound n u p) (is-free f q) = absurd (n f)
+one-read r s t (is-unsound n u p) (is-open f q) = absurd (u f)
+one-read r s t (is-unsound n u p) (is-unsound m v q) = p ∙ sym q
+
 -- ---- one record for each state, and one state for each record
 
 -- A SOUND RECORD IS THE RECORD OF EACH STATE THAT ITS NUMBERS STAND FOR
@@ -149,10 +177,7 @@ one-record r q s t a b p p′ k k′ st su e =
     sound-is r s p k st ∙ ap (λ x. recordOf x (r .id) (stateOf (cellsIn r) p k)) a ∙ ap (λ x. recordOf (q .kind) x (stateOf (cellsIn r) p k)) b
     ∙ ap (recordOf (q .kind) (q .id)) e ∙ sym (sound-is q t p′ k′ su)
 
--- A FREE RECORD IS NOT SOUND, and what is read of a sound one are its own numbers
-pub free-unsound : (r : Record) → r ≡ free-record → Sound r → ⊥
-free-unsound r e s = let k : r .kind ≡ 0 = ap (λ x. x .kind) e in omega (arith, s .fit .shaped .opened)
-
+-- what is read of a sound record are its own numbers
 pub sound-read : (r : Record) (s : Stream) → Sound r → Read r s → s ≡ stream (r .kind) (r .id) (cellsIn r)
 sound-read r s sound (is-free e q) = absurd (free-unsound r e sound)
 sound-read r s sound (is-open t q) = q
@@ -163,11 +188,11 @@ pub read-written : (r q : Record) (s : Stream) → Sound r → Read r s → Writ
 read-written r q s sound read written =
     let e : s ≡ stream (r .kind) (r .id) (cellsIn r) = sound-read r s sound read in
     let w : Written (stream (r .kind) (r .id) (cellsIn r)) q = rw e at written in
-    w .fits (sound .fit) (ownPlace (cellsIn r)) [] a-place ∙ sym (sound .own)
+    written-as _ q w (sound .fit) (ownPlace (cellsIn r)) [] a-place ∙ sym (sound .own)
 
 module _ (s : Stream) (r : Record) (fit : Fit (s .kind) (s .id) (s .cells)) (written : Written s r) where
   written-is : r ≡ recordAt (s .kind) (s .id) (tidied (s .cells))
-  written-is = written .fits fit (ownPlace (s .cells)) [] a-place
+  written-is = written-as s r written fit (ownPlace (s .cells)) [] a-place
 
   -- WHAT IS WRITTEN IS SOUND
   pub written-sound : Sound r

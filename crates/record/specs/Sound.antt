@@ -84,6 +84,6 @@ pub data Read (r : Record) (s : Stream) : Type 0 where
   is-unsound : (r ≡ free-record → ⊥) → (Sound r → ⊥) → s ≡ unsound-stream → Read r s
 
 -- WHAT IS WRITTEN of any stream: the one record of its state, for every state that its cells stand for; of what is none, a free record
-pub record Written (s : Stream) (r : Record) : Type 0 where
-  pub fits : Fit (s .kind) (s .id) (s .cells) → (p : Place) (k : List ℕ) → StandsIn (s .cells) p → r ≡ recordOf (s .kind) (s .id) (stateOf (s .cells) p k)
-  pub else : (Fit (s .kind) (s .id) (s .cells) → ⊥) → r ≡ free-record
+pub data Written (s : Stream) (r : Record) : Type 0 where
+  is-record : Fit (s .kind) (s .id) (s .cells) → ((p : Place) (k : List ℕ) → StandsIn (s .cells) p → r ≡ recordOf (s .kind) (s .id) (stateOf (s .cells) p k)) → Written s r
+  is-none : (Fit (s .kind) (s .id) (s .cells) → ⊥) → r ≡ free-record → Written s r

@@ -14,7 +14,7 @@ use Rattle.record.specs.declared.Record.{Record}
 use Rattle.record.specs.declared.Stream.{Stream}
 use Rattle.record.specs.Sound.{cellsIn, ownPlace, stream, Read, is-free, is-open, is-unsound}
 use Rattle.requests.specs.declared.Reply.{Reply}
-use Rattle.requests.specs.Reply.{Open, stateIn, refused, Answered, Keeps}
+use Rattle.requests.specs.Reply.{Open, stateIn, refused, Answered, shut, opened, Keeps}
 
 module _ (r : Record) (s : Stream) where
   pub read-open : Read r s → s .kind ≡ 1 → Open r × (s .cells ≡ cellsIn r)
@@ -29,13 +29,20 @@ module _ (r : Record) (s : Stream) where
 
 module _ (r : Record) (want : State Message → Reply) {a : Reply} where
   pub answers-shut : (Open r → ⊥) → a ≡ refused 1 r → Answered r want a
-  answers-shut n q = record { shut = λ x. q; is = λ o. absurd (n o) }
+  answers-shut n q = shut n q
 
   pub answers-open : Open r → a ≡ want (stateIn r) → Answered r want a
-  answers-open o q = record { shut = λ n. absurd (n o); is = λ x. q }
+  answers-open o q = opened o q
 
   pub keeps-shut : (Open r → ⊥) → a ≡ refused 1 r → Keeps r want a
   keeps-shut n q = record { answers = answers-shut n q; stays = λ z. (let e : a .number ≡ 1 = ap (λ x. x .number) q in absurd (omega arith)) }
+
+-- A CALL HAS ONE ANSWER
+pub one-answer : (r : Record) (want : State Message → Reply) (a b : Reply) → Answered r want a → Answered r want b → a ≡ b
+one-answer r want a b (shut n p) (shut m q) = p ∙ sym q
+one-answer r want a b (shut n p) (opened o q) = absurd (n o)
+one-answer r want a b (opened o p) (shut n q) = absurd (n o)
+one-answer r want a b (opened o p) (opened x q) = p ∙ sym q
 
 -- the place of a request
 pub of-message : (phase h n s : ℕ) → phase ≤ 2 → placeOf phase h n s ≡ of-request (message (placeOf phase h n s))

@@ -25,7 +25,7 @@ use Rattle.record.specs.declared.Record.{Record}
 use Rattle.record.specs.Row.{recordOf, requestRecord}
 use Rattle.record.specs.Sound.{Fit, cellsIn, ownPlace, stream, Written}
 use Rattle.record.specs.Tests.{request-shape}
-use Rattle.record.specs.Same.{written-sound}
+use Rattle.record.specs.Same.{written-as, written-sound}
 use Rattle.requests.specs.declared.Reply.{Reply}
 use Rattle.requests.specs.Reply.{Open, stateIn, reply, refused, leftBy, saidBy, said, unlessDue, fedAs, Keeps}
 use Rattle.requests.specs.Plain.{Plain, Plainly, plain-feed}
@@ -163,7 +163,7 @@ module _ (r : Record) (o : Open r) (d : Cells) (phase : d .phase ≤ 2) (mode : 
 
   module _ (w : Record) (written : Written (stream 1 (r .id) d) w) where
     pub w-row : (l : List ℕ) → w ≡ requestRecord (r .id) (map-state message (stateOf d (of-request (message (ownPlace d))) l))
-    w-row l = written .fits fit (of-request (message (ownPlace d))) l (own-stands d phase) ∙ ap (recordOf 1 (r .id)) (sym (row-back d (message (ownPlace d)) l))
+    w-row l = written-as (stream 1 (r .id) d) w written fit (of-request (message (ownPlace d))) l (own-stands d phase) ∙ ap (recordOf 1 (r .id)) (sym (row-back d (message (ownPlace d)) l))
 
     pub w-open : Open w
     w-open = record { sound = written-sound (stream 1 (r .id) d) w fit written; kind = ap (λ x. x .kind) (w-row []) }

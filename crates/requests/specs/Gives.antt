@@ -26,7 +26,7 @@ use Rattle.record.specs.declared.Record.{Record}
 use Rattle.record.specs.Row.{recordOf, requestRecord}
 use Rattle.record.specs.Sound.{Fit, cellsIn, ownPlace, stream, Written}
 use Rattle.record.specs.Tests.{request-shape}
-use Rattle.record.specs.Same.{written-sound}
+use Rattle.record.specs.Same.{written-as, written-sound}
 use Rattle.requests.specs.declared.Reply.{Reply}
 use Rattle.requests.specs.Reply.{Open, stateIn, reply, refused, leftBy, unlessDue, takenAs, readAs, givenAs, Keeps}
 use Rattle.requests.specs.Severity.{left-alone}
@@ -194,7 +194,7 @@ module _ (r : Record) (o : Open r) (g : Given) {x : Reply} where
         sane = sane;
         shaped = request-shape (r .id) d (h .ids) (h .request-id (o .kind)) (stands-low m st refl) (between-mode (d .mode) (d .acc) (d .due) (d .ftype) (of-request m) [] (state (of-request m) []));
       } in
-      let e : w ≡ requestRecord (r .id) (between m) = written .fits fit (of-request m) [] st ∙ ap (recordOf 1 (r .id)) (state (of-request m) []) in
+      let e : w ≡ requestRecord (r .id) (between m) = written-as (stream 1 (r .id) d) w written fit (of-request m) [] st ∙ ap (recordOf 1 (r .id)) (state (of-request m) []) in
       (ap (refused 0) e ∙ f, record { sound = written-sound (stream 1 (r .id) d) w fit written; kind = ap (λ y. y .kind) e })
 
   by-turned : Meant r g x → (g .number ≡ 0 → ⊥) → refused (g .number) (leftBy (g .number) r) ≡ x

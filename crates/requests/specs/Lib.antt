@@ -5,3 +5,4 @@ pub mod Answered
 pub mod Told
 pub mod Feeds
 pub mod Gives
+pub mod Opens

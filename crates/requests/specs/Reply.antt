@@ -106,13 +106,12 @@ resetAs r s = reply 0 9 0 0 0 0 free-record
 
 -- ---- an answer to any record
 
--- ONE ANSWER: 1, nothing altered, unless the record is an open request; then what the call answers from its state. What is accepted and not freed
--- is an open request.
-pub record Answered (r : Record) (want : State Message → Reply) (a : Reply) : Type 0 where
-  pub shut : (Open r → ⊥) → a ≡ refused 1 r
-  pub is : Open r → a ≡ want (stateIn r)
+-- THE ANSWER: 1, nothing altered, unless the record is an open request; then what the call answers from its state
+pub data Answered (r : Record) (want : State Message → Reply) (a : Reply) : Type 0 where
+  shut : (Open r → ⊥) → a ≡ refused 1 r → Answered r want a
+  opened : Open r → a ≡ want (stateIn r) → Answered r want a
 
--- what a call accepts leaves an open request
+-- and what is accepted leaves an open request
 pub record Keeps (r : Record) (want : State Message → Reply) (a : Reply) : Type 0 where
   pub answers : Answered r want a
   pub stays : a .number ≡ 0 → Open (a .row)
