@@ -1,12 +1,11 @@
 -- Laws of reading and writing a record: a law for each way out. Assumes nothing.
 use mathlib.Core.Path.{_≡_, refl, sym, ap, _∙_}
-use Prim.Native.Nat.{ℕ, _≤_}
-use native.Mathlib.Omega.{arith}
+use Prim.Native.Nat.{ℕ}
 use Rattle.streams.specs.declared.Cells.{Cells}
 use Rattle.record.specs.declared.Record.{Record}
 use Rattle.record.specs.declared.Stream.{Stream}
 use Rattle.record.specs.Row.{recordAt, no-cells, free-record}
-use Rattle.record.specs.Sound.{Fit, cellsIn, tidied, Sound, stream, Read, is-free, is-open, is-unsound, Written, is-record, is-none}
+use Rattle.record.specs.Sound.{Fit, cellsIn, tidied, stream, Read, is-free, is-open, is-unsound, Written, is-record, is-none}
 use Rattle.record.specs.Tidy.{one-state}
 
 module _ (r : Record) where

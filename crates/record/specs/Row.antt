@@ -1,8 +1,7 @@
 -- THE ONE RECORD that means a state: numbers alone, and those that would say nothing are 0. Assumes nothing.
-use mathlib.Core.Path.{_≡_}
 use Prim.Native.Nat.{ℕ, suc}
 use mathlib.Core.Option.{Option, none, some}
-use Rattle.rules.specs.Reading.{Part, header-section, trailers, Kept, settings, goaway, max-push-id, cancel-push, Use, content, skipped, section, kept}
+use Rattle.rules.specs.Reading.{Part, header-section, trailers, settings, goaway, max-push-id, cancel-push, Use, content, skipped, section, kept}
 use Rattle.rules.specs.Message.{Message, opening, body, trailed}
 use Rattle.rules.specs.Control.{unset, set}
 use Rattle.rules.specs.OneWay.{encoder, decoder}

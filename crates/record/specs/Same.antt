@@ -4,12 +4,12 @@ use Prim.Native.Nat.{ℕ, zero, suc, _≤_, _<_}
 use native.Mathlib.Omega.{arith}
 use mathlib.Core.List.{List, []}
 use mathlib.Core.Option.{none, some}
-use Rattle.rules.specs.Message.{Message, opening, body, trailed}
+use Rattle.rules.specs.Message.{opening, body, trailed}
 use Rattle.rules.specs.Control.{unset, set}
 use Rattle.rules.specs.OneWay.{encoder, decoder}
 use Rattle.meaning.specs.Machine.{State, between, in-type, in-length}
 use Rattle.meaning.specs.OneWayFeed.{in-stream-type, in-qpack, in-skipped}
-use Rattle.varint.specs.ByByte.{part, prog, partOf, Good}
+use Rattle.varint.specs.ByByte.{prog, partOf}
 use Rattle.streams.specs.declared.Cells.{Cells}
 use Rattle.streams.specs.Both.{Place, of-request, of-control}
 use Rattle.streams.specs.Uses.{statedOf, placeOf, Stands, a-place, any-set}
@@ -17,9 +17,9 @@ use Rattle.streams.specs.Heads.{headState}
 use Rattle.streams.specs.Answers.{stateAt, stateOf, StandsIn, Sane}
 use Rattle.record.specs.declared.Record.{Record}
 use Rattle.record.specs.declared.Stream.{Stream}
-use Rattle.record.specs.Row.{phaseOf, statedIn, isStated, lengthOf, sumIn, Numbers, numbers, numbersOf, placeIn, recordAt, cellsFor, recordOf, oneWayRecord, free-record}
-use Rattle.record.specs.Sound.{Shaped, Fit, cellsIn, ownPlace, tidied, Sound, stream, Read, is-free, is-open, is-unsound, Written, is-record, is-none}
-use Rattle.record.specs.Tidy.{ModeView, typing, sizing, waiting, paying, mode-view, in-type-numbers, in-length-numbers, due-numbers, payload-numbers, place-back, one-state, ownNumbers, Tidier, tidy-less}
+use Rattle.record.specs.Row.{phaseOf, statedIn, isStated, lengthOf, sumIn, Numbers, numbersOf, placeIn, recordAt, cellsFor, recordOf, oneWayRecord, free-record}
+use Rattle.record.specs.Sound.{Fit, cellsIn, ownPlace, tidied, Sound, stream, Read, is-free, is-open, is-unsound, Written, is-record, is-none}
+use Rattle.record.specs.Tidy.{ModeView, typing, sizing, waiting, paying, mode-view, in-type-numbers, in-length-numbers, due-numbers, payload-numbers, place-back, one-state, Tidier, tidy-less}
 
 -- ---- the cells of a state stand for that state
 

@@ -9,7 +9,7 @@ use Rattle.streams.specs.Uses.{placeOf}
 use Rattle.streams.specs.Answers.{stateOf, StandsIn, Sane}
 use Rattle.record.specs.declared.Record.{Record}
 use Rattle.record.specs.declared.Stream.{Stream}
-use Rattle.record.specs.Row.{cellsFor, recordAt, recordOf, no-cells, free-record}
+use Rattle.record.specs.Row.{cellsFor, recordOf, no-cells, free-record}
 
 -- a test that says whether this holds
 pub record Decides (holds : Type 0) (r : Bool) : Type 0 where

@@ -8,7 +8,7 @@ use Rattle.streams.specs.declared.Cells.{Cells}
 use Rattle.streams.specs.Answers.{Sane}
 use Rattle.record.specs.declared.Record.{Record}
 use Rattle.record.specs.Row.{recordAt, no-cells, free-record}
-use Rattle.record.specs.Sound.{Decides, Shaped, Fit, cellsIn}
+use Rattle.record.specs.Sound.{Decides, Shaped, cellsIn}
 
 module _ {A : Type 0} where
   pub accepts : A → Decides A true

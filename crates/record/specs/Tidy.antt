@@ -1,13 +1,11 @@
 -- Laws of the cells of a state. Assumes nothing.
 use mathlib.Core.Path.{_≡_, refl, sym, ap, _∙_}
-use Prim.Native.Nat.{ℕ, zero, suc, _+_, _-_, _*_, _%_, _≤_, _<_, _^_}
+use Prim.Native.Nat.{ℕ, zero, suc, _-_, _≤_, _<_}
 use native.Mathlib.Omega.{arith}
 use mathlib.Core.List.{List, []}
 use mathlib.Core.Option.{Option, none, some}
-use Rattle.rules.specs.Message.{opening, body, trailed}
 use Rattle.rules.specs.Control.{unset, set}
-use Rattle.meaning.specs.Machine.{State}
-use Rattle.varint.specs.ByByte.{part, prog, partOf, Good}
+use Rattle.varint.specs.ByByte.{prog, partOf}
 use Rattle.streams.specs.declared.Cells.{Cells}
 use Rattle.streams.specs.Both.{Place, of-request, of-control}
 use Rattle.streams.specs.Uses.{statedOf, placeOf, Stands, a-place, any-set}

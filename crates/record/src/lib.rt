@@ -1,11 +1,11 @@
 // A stream as a record of a host's row: integers alone, in one place and order for every host, and one record for each state.
 use streams::Cells;
 ghost use mathlib.Core.Path.{_≡_};
-ghost use Prim.Native.Nat.{_<_, _≤_, _^_, _*_, _-_};
+ghost use Prim.Native.Nat.{_<_, _≤_, _^_};
 ghost use Rattle.varint.specs.ByByte.{part, prog, partOf, Good};
 ghost use Rattle.streams.specs.Answers.{Sane};
 ghost use Rattle.record.specs.Row.{recordAt, no-cells, free-record};
-ghost use Rattle.record.specs.Sound.{Decides, Shaped, Fit, cellsIn, tidied, free-stream, unsound-stream, Read, Written};
+ghost use Rattle.record.specs.Sound.{Decides, Shaped, Fit, cellsIn, tidied, Read, Written};
 ghost use Rattle.record.specs.Tidy.{headAs, headTidied, placeAs, placeTidied};
 
 // kind 0: free, 1: a request, 2: a one-way stream before its type is whole, 3: control, 4: QPACK encoder, 5: QPACK decoder, 6: skipped.

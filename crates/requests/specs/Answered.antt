@@ -1,18 +1,17 @@
 -- Laws of a call's answer: the record is read, and is an open request or not. Assumes nothing.
 use mathlib.Core.Path.{_≡_, refl, sym, ap, _∙_, subst}
-use Prim.Native.Nat.{ℕ, zero, suc, _≤_, _<_}
+use Prim.Native.Nat.{ℕ, zero, suc, _≤_}
 use native.Mathlib.Omega.{arith}
-use mathlib.Core.List.{List, []}
 use Rattle.rules.specs.Message.{Message}
 use Rattle.meaning.specs.Machine.{State}
 use Rattle.streams.specs.declared.Cells.{Cells}
-use Rattle.streams.specs.Both.{Place, of-request}
+use Rattle.streams.specs.Both.{of-request}
 use Rattle.streams.specs.Uses.{placeOf, a-place}
-use Rattle.streams.specs.Answers.{stateOf, StandsIn}
+use Rattle.streams.specs.Answers.{StandsIn}
 use Rattle.streams.specs.Apart.{message}
 use Rattle.record.specs.declared.Record.{Record}
 use Rattle.record.specs.declared.Stream.{Stream}
-use Rattle.record.specs.Sound.{cellsIn, ownPlace, stream, Read, is-free, is-open, is-unsound}
+use Rattle.record.specs.Sound.{cellsIn, ownPlace, Read, is-free, is-open, is-unsound}
 use Rattle.requests.specs.declared.Reply.{Reply}
 use Rattle.requests.specs.Reply.{Open, stateIn, refused, Answered, shut, opened, Keeps}
 

@@ -5,10 +5,9 @@ use native.Mathlib.Omega.{arith}
 use mathlib.Core.List.{List, [], _++_}
 use mathlib.Core.Logic.{_⊎_, ⊎-elim}
 use lib.ListN.{take, drop}
-use Rattle.rules.specs.Reading.{Kept}
 use Rattle.rules.specs.Message.{Message}
 use Rattle.rules.specs.Request.{document, request}
-use Rattle.meaning.specs.Machine.{State, in-payload, lives, dies, answered}
+use Rattle.meaning.specs.Machine.{State, lives, dies}
 use Rattle.meaning.specs.Feed.{taken, Feeding, halt, judged-event, feed}
 use Rattle.meaning.specs.FeedLaws.{past}
 use Rattle.meaning.specs.Hom.{map-state, map-outcome, map-feeding}
@@ -18,7 +17,7 @@ use Rattle.streams.specs.Both.{Place, of-request, judged}
 use Rattle.streams.specs.Uses.{placeOf}
 use Rattle.streams.specs.Heads.{headState}
 use Rattle.streams.specs.Parts.{judgedAs}
-use Rattle.streams.specs.Answers.{keptAt, stateAt, stateOf, placeAt, placeIn, StandsIn, answerAt, answerOf, Sane, Held}
+use Rattle.streams.specs.Answers.{keptAt, stateAt, stateOf, placeAt, answerAt, Sane, Held}
 use Rattle.streams.specs.Fed.{Fed}
 use Rattle.streams.specs.Apart.{message, state-carried, request-fed}
 use Rattle.record.specs.declared.Record.{Record}

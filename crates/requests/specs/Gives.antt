@@ -11,13 +11,12 @@ use Rattle.rules.specs.Reading.{header-section, trailers, Next, stop, go}
 use Rattle.rules.specs.Section.{Reason, Judgement, Head, codeOf as section-code}
 use Rattle.rules.specs.Section as section
 use Rattle.rules.specs.Message.{Message, Step, goes, refuses, heads, trails}
-use Rattle.rules.specs.Request.{document, request, Header, Trailer, header-by, trailer-by, next-of, headed-by, trailed-by, given as next-given}
-use Rattle.meaning.specs.Machine.{State, due, between, answered, given}
+use Rattle.rules.specs.Request.{document, header-by, trailer-by, next-of, headed-by, trailed-by, given as next-given}
+use Rattle.meaning.specs.Machine.{due, between, answered, given}
 use Rattle.meaning.specs.Hom.{map-state}
 use Rattle.streams.specs.declared.Cells.{Cells}
 use Rattle.streams.specs.Both.{Place, of-request}
 use Rattle.streams.specs.Uses.{placeOf, Stands, a-place, any-set}
-use Rattle.streams.specs.Heads.{headState}
 use Rattle.streams.specs.Answers.{stateAt, stateOf, StandsIn, Sane}
 use Rattle.streams.specs.Apart.{message}
 use Rattle.given.specs.declared.Given.{Given}
@@ -28,7 +27,7 @@ use Rattle.record.specs.Sound.{Fit, cellsIn, ownPlace, stream, Written}
 use Rattle.record.specs.Tests.{request-shape}
 use Rattle.record.specs.Same.{written-as, written-sound}
 use Rattle.requests.specs.declared.Reply.{Reply}
-use Rattle.requests.specs.Reply.{Open, stateIn, reply, refused, leftBy, unlessDue, takenAs, readAs, givenAs, Keeps}
+use Rattle.requests.specs.Reply.{Open, stateIn, refused, leftBy, unlessDue, takenAs, readAs, givenAs, Keeps}
 use Rattle.requests.specs.Severity.{left-alone}
 use Rattle.requests.specs.Answered.{answers-open, own-stands}
 use Rattle.requests.specs.Told.{code-high, phase-low}

@@ -1,15 +1,15 @@
 -- A request keeps no payload: what its feed says and leaves, and the codes it stops with. Assumes nothing.
-use mathlib.Core.Path.{_≡_, refl}
+use mathlib.Core.Path.{_≡_}
 use Prim.Native.Nat.{ℕ, zero, suc, _-_, _≤_, min}
 use native.Mathlib.Omega.{arith}
 use mathlib.Core.List.{List, [], _∷_}
 use mathlib.Core.Bool.{true}
 use lib.ListN.{length}
-use Rattle.rules.specs.Reading.{Part, header-section, trailers, Kept, Use, content, skipped, section, kept, Ruling}
+use Rattle.rules.specs.Reading.{Part, header-section, trailers, Kept, content, skipped, section, kept, Ruling}
 use Rattle.rules.specs.Message.{Message, opening, body}
 use Rattle.rules.specs.Request.{Rules, request, rule}
 use Rattle.meaning.specs.Machine.{fresh, Fed, going, value, fed, State, in-type, in-length, in-payload, due, lives, dies, typed, over, with-left}
-use Rattle.meaning.specs.Feed.{quiet, section-bytes, content-bytes, taken, Feeding, halt, also, onward, over-event, left-event, behind-header, named, taking, feed}
+use Rattle.meaning.specs.Feed.{quiet, section-bytes, taken, Feeding, halt, also, onward, over-event, left-event, behind-header, named, taking, feed}
 use Rattle.meaning.specs.RequestLaws.{RuleView, r-refused, r-skipped, r-content, r-header, r-trailers, rule-view}
 
 abbrev pub Plain : {P : Type 0} → State P → Type 0

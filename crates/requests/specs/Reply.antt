@@ -5,7 +5,7 @@ use mathlib.Core.List.{List, []}
 use mathlib.Core.Bool.{Bool, true, false}
 use mathlib.Core.Option.{Option, none, some}
 use Rattle.rules.specs.Block.{Lines, unreadable, readable, lines}
-use Rattle.rules.specs.Reading.{Part, Verdict, whole, fault, waits}
+use Rattle.rules.specs.Reading.{Verdict, whole, fault, waits}
 use Rattle.rules.specs.Message.{Message}
 use Rattle.rules.specs.Request.{document, request}
 use Rattle.rules.specs.Numbers.{Leaves, nothing-altered, id-unspent, untouched, record-freed, code-kept, Row, rowOf}

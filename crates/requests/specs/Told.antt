@@ -1,19 +1,15 @@
 -- Laws of the end. Assumes nothing.
 use mathlib.Core.Path.{_≡_, refl, sym, ap, _∙_}
-use Prim.Native.Nat.{ℕ, zero, suc, _≤_, _<_}
+use Prim.Native.Nat.{ℕ, _≤_}
 use native.Mathlib.Omega.{arith}
 use mathlib.Core.List.{[]}
-use mathlib.Core.Bool.{Bool, true, false}
-use mathlib.Core.Option.{Option, none, some}
-use lib.Dec.{eqb, lit≤}
-use Rattle.rules.specs.Reading.{End, complete, lacking, Verdict, whole, fault, waits, ended}
+use lib.Dec.{lit≤}
+use Rattle.rules.specs.Reading.{Verdict, whole, fault, waits, ended}
 use Rattle.rules.specs.Message.{Message, Reason, out-of-place, past-stated, past-limit, no-section, unequal, Ended, all-come, lacks, ends}
 use Rattle.rules.specs.Request.{document, request, codeOf, end-of}
 use Rattle.meaning.specs.Machine.{fresh, need, State, in-type, in-length, in-payload, due, finish}
-use Rattle.meaning.specs.Hom.{map-state}
 use Rattle.streams.specs.declared.Cells.{Cells}
 use Rattle.streams.specs.Both.{of-request}
-use Rattle.streams.specs.Answers.{stateOf}
 use Rattle.streams.specs.Apart.{message, state-carried}
 use Rattle.streams.specs.End.{verdictNumber, endOf, Ends, request-end}
 use Rattle.record.specs.declared.Record.{Record}

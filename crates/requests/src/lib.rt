@@ -1,12 +1,10 @@
 // The calls of one request stream over its record (document 01, "Calls and the host's memory"), by value: a number, and the record that it leaves.
-use given::Given;
 use record::Record;
 use record::Stream;
-use streams::Answer;
 use streams::Cells;
 ghost use mathlib.Core.Path.{_≡_};
 ghost use Rattle.record.specs.Sound.{stream, Written};
-ghost use Rattle.requests.specs.Reply.{reply, refused, leftBy, fedAs, givenAs, endedAs, resetAs, Answered, Keeps};
+ghost use Rattle.requests.specs.Reply.{reply, leftBy, fedAs, givenAs, endedAs, resetAs, Answered, Keeps};
 
 // number 0: accepted; 1: not an open request; 4, 5, 6; else the code. event 0: none, 1: content, 2: section bytes, 3: the last of them,
 // 8: the request is whole, 9: reset. A part is len bytes of the piece from start on. used and heads: bytes and frame headers of the piece.

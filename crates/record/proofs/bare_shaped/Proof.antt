@@ -1,5 +1,4 @@
 use native.Mathlib.Omega.{arith}
-use mathlib.Core.Path.{refl}
 use Rattle.record.specs.Tests.{accepts, refuses, bare-shape}
 use Rattle.record.proofs.bare_shaped.Statement.{statement}
 use Rattle.record.proofs.bare_shaped.Tie as tie

@@ -1,4 +1,3 @@
-use native.Mathlib.Omega.{arith}
 use Rattle.record.specs.Tests.{as-well, refuses}
 use borrow.Author.Needs.{needs}
 use Rattle.record.proofs.fits.Statement.{statement}

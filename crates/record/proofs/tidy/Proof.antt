@@ -1,7 +1,6 @@
 use native.Mathlib.Omega.{arith}
 use mathlib.Core.Path.{ap}
 use Rattle.record.specs.Tidy.{tidy-both}
-use borrow.Author.Needs.{needs}
 use Rattle.record.proofs.tidy.Statement.{statement}
 use Rattle.record.proofs.tidy.Tie as tie
 use Rattle.record.proofs.tidy.Reads as reads
