@@ -4,3 +4,4 @@ pub mod Tests
 pub mod Tidy
 pub mod ReadWrite
 pub mod Same
+pub mod Worked

@@ -13,7 +13,7 @@ use Rattle.record.specs.declared.Record.{Record}
 use Rattle.record.specs.declared.Stream.{Stream}
 use Rattle.record.specs.Sound.{cellsIn, ownPlace, Read, is-free, is-open, is-unsound}
 use Rattle.requests.specs.declared.Reply.{Reply}
-use Rattle.requests.specs.Reply.{Open, stateIn, refused, Answered, shut, opened, Keeps}
+use Rattle.requests.specs.Reply.{Open, refused, Answered, shut, opened, Keeps}
 
 module _ (r : Record) (s : Stream) where
   pub read-open : Read r s → s .kind ≡ 1 → Open r × (s .cells ≡ cellsIn r)
@@ -27,14 +27,8 @@ module _ (r : Record) (s : Stream) where
   read-shut (is-unsound n u q) k o = u (o .sound)
 
 module _ (r : Record) (want : State Message → Reply) {a : Reply} where
-  pub answers-shut : (Open r → ⊥) → a ≡ refused 1 r → Answered r want a
-  answers-shut n q = shut n q
-
-  pub answers-open : Open r → a ≡ want (stateIn r) → Answered r want a
-  answers-open o q = opened o q
-
   pub keeps-shut : (Open r → ⊥) → a ≡ refused 1 r → Keeps r want a
-  keeps-shut n q = record { answers = answers-shut n q; stays = λ z. (let e : a .number ≡ 1 = ap (λ x. x .number) q in absurd (omega arith)) }
+  keeps-shut n q = record { answers = shut n q; stays = λ z. (let e : a .number ≡ 1 = ap (λ x. x .number) q in absurd (omega arith)) }
 
 -- A CALL HAS ONE ANSWER
 pub one-answer : (r : Record) (want : State Message → Reply) (a b : Reply) → Answered r want a → Answered r want b → a ≡ b

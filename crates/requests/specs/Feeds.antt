@@ -26,9 +26,9 @@ use Rattle.record.specs.Sound.{Fit, cellsIn, ownPlace, stream, Written}
 use Rattle.record.specs.Tests.{request-shape}
 use Rattle.record.specs.Same.{written-as, written-sound}
 use Rattle.requests.specs.declared.Reply.{Reply}
-use Rattle.requests.specs.Reply.{Open, stateIn, reply, refused, leftBy, saidBy, said, unlessDue, fedAs, Keeps}
+use Rattle.requests.specs.Reply.{Open, stateIn, reply, refused, leftBy, saidBy, said, unlessDue, fedAs, Keeps, opened}
 use Rattle.requests.specs.Plain.{Plain, Plainly, plain-feed}
-use Rattle.requests.specs.Answered.{answers-open, own-message, own-stands}
+use Rattle.requests.specs.Answered.{own-message, own-stands}
 use Rattle.requests.specs.Told.{phase-low}
 
 -- ---- a section is due, or not
@@ -170,7 +170,7 @@ module _ (r : Record) (o : Open r) (d : Cells) (phase : d .phase ≤ 2) (mode : 
 module _ (r : Record) (o : Open r) (piece : List ℕ) (allow : ℕ) where
   pub feed-due : {a : Reply} → 6 ≤ cellsIn r .mode → cellsIn r .mode ≤ 7 → a ≡ refused 4 r → Keeps r (fedAs r allow piece) a
   feed-due {a} l u q = let c = cellsIn r in record {
-    answers = answers-open r (fedAs r allow piece) o (q ∙ due-so (c .acc) (c .due) (c .ftype) (message (ownPlace c)) [] _ _ (c .mode) l u);
+    answers = opened o (q ∙ due-so (c .acc) (c .due) (c .ftype) (message (ownPlace c)) [] _ _ (c .mode) l u);
     stays = λ z. (let e : a .number ≡ 4 = ap (λ x. x .number) q in absurd (omega arith));
   }
 
@@ -204,7 +204,7 @@ module _ (r : Record) (o : Open r) (piece : List ℕ) (allow : ℕ) where
 
     pub feed-fault : {q : Record} → ans .event ≡ 4 → q ≡ leftBy (ans .len) r → Keeps r (fedAs r allow piece) (reply (ans .len) 0 0 0 (ans .used) (ans .heads) q)
     feed-fault e f = record {
-      answers = answers-open r (fedAs r allow piece) o
+      answers = opened o
           (ap (reply (ans .len) 0 0 0 (ans .used) (ans .heads)) f
           ∙ fault-said r (ans .start) (ans .len) (ans .used) (ans .heads) (ans .cells) next [] piece (ans .event) e ∙ want-is);
       stays = λ z.
@@ -230,7 +230,7 @@ module _ (r : Record) (o : Open r) (piece : List ℕ) (allow : ℕ) where
 
         pub feed-quiet : ans .event ≡ 0 → Keeps r (fedAs r allow piece) (reply 0 0 0 0 (ans .used) (ans .heads) w)
         feed-quiet e = record {
-          answers = answers-open r (fedAs r allow piece) o
+          answers = opened o
               (ap (reply 0 0 0 0 (ans .used) (ans .heads)) (row [])
               ∙ quiet-said r (ans .start) (ans .len) (ans .used) (ans .heads) (ans .cells) next [] piece (ans .event) e ∙ want-is);
           stays = λ z. open-w;
@@ -238,7 +238,7 @@ module _ (r : Record) (o : Open r) (piece : List ℕ) (allow : ℕ) where
 
         pub feed-late : 4 < ans .event → Keeps r (fedAs r allow piece) (reply 0 0 0 0 (ans .used) (ans .heads) w)
         feed-late h = let l = late-said r (ans .start) (ans .len) (ans .used) (ans .heads) (ans .cells) next [] piece (ans .event) h not-taken in record {
-          answers = answers-open r (fedAs r allow piece) o (ap (reply 0 0 0 0 (ans .used) (ans .heads)) (row (l .0)) ∙ l .1 ∙ want-is);
+          answers = opened o (ap (reply 0 0 0 0 (ans .used) (ans .heads)) (row (l .0)) ∙ l .1 ∙ want-is);
           stays = λ z. open-w;
         }
 
@@ -247,7 +247,7 @@ module _ (r : Record) (o : Open r) (piece : List ℕ) (allow : ℕ) where
 
         pub feed-part : (ans .event ≡ 0 → ⊥) → ans .event ≤ 4 → Keeps r (fedAs r allow piece) (reply 0 (ans .event) (ans .start) (ans .len) (ans .used) (ans .heads) w)
         feed-part z h = record {
-          answers = answers-open r (fedAs r allow piece) o
+          answers = opened o
               (ap (λ x. reply 0 (ans .event) x (ans .len) (ans .used) (ans .heads) w) begins
               ∙ ap (reply 0 (ans .event) (ans .used - ans .len) (ans .len) (ans .used) (ans .heads)) (row [])
               ∙ part-said r (ans .start) (ans .len) (ans .used) (ans .heads) (ans .cells) next [] piece (ans .event) z (omega (arith, h, four)) ∙ want-is);

@@ -27,9 +27,9 @@ use Rattle.record.specs.Sound.{Fit, cellsIn, ownPlace, stream, Written}
 use Rattle.record.specs.Tests.{request-shape}
 use Rattle.record.specs.Same.{written-as, written-sound}
 use Rattle.requests.specs.declared.Reply.{Reply}
-use Rattle.requests.specs.Reply.{Open, stateIn, refused, leftBy, unlessDue, takenAs, readAs, givenAs, Keeps}
+use Rattle.requests.specs.Reply.{Open, stateIn, refused, leftBy, unlessDue, takenAs, readAs, givenAs, Keeps, opened}
 use Rattle.requests.specs.Severity.{left-alone}
-use Rattle.requests.specs.Answered.{answers-open, own-stands}
+use Rattle.requests.specs.Answered.{own-stands}
 use Rattle.requests.specs.Told.{code-high, phase-low}
 use Rattle.requests.specs.Feeds.{due-not}
 
@@ -206,8 +206,8 @@ module _ (r : Record) (o : Open r) (block : List ℕ) (g : Given) (is : g ≡ gi
 
   pub give-taken : {a : Reply} → g .number ≡ 0 → (w : Record) → Written (stream 1 (r .id) (g .cells)) w → a ≡ refused 0 w → Keeps r (givenAs r block) a
   give-taken e w written q = let t = by-taken r o g meant e w written in
-      record { answers = answers-open r (givenAs r block) o (q ∙ t .0); stays = λ z. subst Open (sym (ap (λ x. x .row) q)) (t .1) }
+      record { answers = opened o (q ∙ t .0); stays = λ z. subst Open (sym (ap (λ x. x .row) q)) (t .1) }
 
   pub give-turned : {a : Reply} {w : Record} → (g .number ≡ 0 → ⊥) → w ≡ leftBy (g .number) r → a ≡ refused (g .number) w → Keeps r (givenAs r block) a
   give-turned e f q =
-      record { answers = answers-open r (givenAs r block) o (q ∙ ap (refused (g .number)) f ∙ by-turned r o g meant e); stays = λ z. absurd (e (sym (ap (λ x. x .number) q) ∙ z)) }
+      record { answers = opened o (q ∙ ap (refused (g .number)) f ∙ by-turned r o g meant e); stays = λ z. absurd (e (sym (ap (λ x. x .number) q) ∙ z)) }

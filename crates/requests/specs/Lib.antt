@@ -6,3 +6,4 @@ pub mod Told
 pub mod Feeds
 pub mod Gives
 pub mod Opens
+pub mod Worked

@@ -16,9 +16,9 @@ use Rattle.record.specs.declared.Record.{Record}
 use Rattle.record.specs.Row.{free-record}
 use Rattle.record.specs.Sound.{cellsIn, ownPlace}
 use Rattle.requests.specs.declared.Reply.{Reply}
-use Rattle.requests.specs.Reply.{Open, stateIn, reply, refused, leftBy, endedBy, endedAs, resetAs, Answered}
+use Rattle.requests.specs.Reply.{Open, stateIn, reply, refused, leftBy, endedBy, endedAs, resetAs, Answered, opened}
 use Rattle.requests.specs.Severity.{left-alone}
-use Rattle.requests.specs.Answered.{answers-open, own-stands}
+use Rattle.requests.specs.Answered.{own-stands}
 
 pub code-high : (x : Reason) → 0x0103 ≤ codeOf x
 unfolding codeOf
@@ -70,10 +70,10 @@ module _ (r : Record) (o : Open r) where
       ∙ ap endOf (sym (state-carried of-request (c .mode) (c .acc) (c .due) (c .ftype) (message (ownPlace c)) [])) ∙ request-end document 0 (stateIn r)
 
   pub end-whole : {n : ℕ} {a : Reply} {q : Record} {d : Cells} → d ≡ cellsIn r → Ends d n → n ≡ 0 → q ≡ free-record → a ≡ reply 0 8 0 0 0 0 q → Answered r (endedAs r) a
-  end-whole {n} w e z f g = answers-open r (endedAs r) o (g ∙ ap (reply 0 8 0 0 0 0) f ∙ by-whole r n (finish (request document) 0 (stateIn r)) (sober (stateIn r)) (end-number w e) z)
+  end-whole {n} w e z f g = opened o (g ∙ ap (reply 0 8 0 0 0 0) f ∙ by-whole r n (finish (request document) 0 (stateIn r)) (sober (stateIn r)) (end-number w e) z)
 
   pub end-code : {n : ℕ} {a : Reply} {q : Record} {d : Cells} → d ≡ cellsIn r → Ends d n → (n ≡ 0 → ⊥) → q ≡ leftBy n r → a ≡ refused n q → Answered r (endedAs r) a
-  end-code {n} w e z f g = answers-open r (endedAs r) o (g ∙ ap (refused n) f ∙ by-code r n (finish (request document) 0 (stateIn r)) (sober (stateIn r)) (end-number w e) z)
+  end-code {n} w e z f g = opened o (g ∙ ap (refused n) f ∙ by-code r n (finish (request document) 0 (stateIn r)) (sober (stateIn r)) (end-number w e) z)
 
   pub reset-open : {a : Reply} {q : Record} → q ≡ free-record → a ≡ reply 0 9 0 0 0 0 q → Answered r (resetAs r) a
-  reset-open f g = answers-open r (resetAs r) o (g ∙ ap (reply 0 9 0 0 0 0) f)
+  reset-open f g = opened o (g ∙ ap (reply 0 9 0 0 0 0) f)

@@ -126,6 +126,7 @@ pub fn feed(r: Record, piece: &[u8], allow: u64) -> Reply
                 row: q,
             };
         }
+        // No payload of a request is kept, so no event above 4 comes.
         if 4 < a.event {
             return Reply {
                 number: 0,

@@ -1,5 +1,5 @@
-use Rattle.requests.specs.Reply.{endedAs}
-use Rattle.requests.specs.Answered.{read-open, read-shut, answers-shut}
+use Rattle.requests.specs.Reply.{shut}
+use Rattle.requests.specs.Answered.{read-open, read-shut}
 use Rattle.requests.specs.Told.{end-whole, end-code}
 use borrow.Author.Needs.{needs}
 use Rattle.requests.proofs.end.Statement.{statement}
@@ -50,7 +50,7 @@ returns-2 c = let r = c .before .before .before .before .before .before .before 
 
 -- src/lib.rt:76:1
 returns-3 : tie.Need-returns-3
-returns-3 c = let r = c .before .before .before .before .args .r in answers-shut r (endedAs r) (read-shut r _ (c .before .before .before .read .ensures) (c .before .if1 .left)) (c .told3 .ensures)
+returns-3 c = let r = c .before .before .before .before .args .r in shut (read-shut r _ (c .before .before .before .read .ensures) (c .before .if1 .left)) (c .told3 .ensures)
 
 pub end-spec : {M : Type 1} → statement M
 end-spec =

@@ -1,5 +1,5 @@
-use Rattle.requests.specs.Reply.{resetAs}
-use Rattle.requests.specs.Answered.{read-open, read-shut, answers-shut}
+use Rattle.requests.specs.Reply.{shut}
+use Rattle.requests.specs.Answered.{read-open, read-shut}
 use Rattle.requests.specs.Told.{reset-open}
 use borrow.Author.Needs.{needs}
 use Rattle.requests.proofs.reset.Statement.{statement}
@@ -32,7 +32,7 @@ returns c = let r = c .before .before .before .before .before .args .r in let o 
 
 -- src/lib.rt:64:1
 returns-2 : tie.Need-returns-2
-returns-2 c = let r = c .before .before .before .before .args .r in answers-shut r (resetAs r) (read-shut r _ (c .before .before .before .read .ensures) (c .before .if1 .left)) (c .told2 .ensures)
+returns-2 c = let r = c .before .before .before .before .args .r in shut (read-shut r _ (c .before .before .before .read .ensures) (c .before .if1 .left)) (c .told2 .ensures)
 
 pub reset-spec : {M : Type 1} → statement M
 reset-spec =
