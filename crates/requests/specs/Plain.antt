@@ -1,5 +1,5 @@
 -- A request keeps no payload: what its feed says and leaves, and the codes it stops with. Assumes nothing.
-use mathlib.Core.Path.{_≡_}
+use mathlib.Core.Path.{_≡_, refl, sym, _∙_}
 use Prim.Native.Nat.{ℕ, zero, suc, _-_, _≤_, min}
 use native.Mathlib.Omega.{arith}
 use mathlib.Core.List.{List, [], _∷_}
@@ -29,13 +29,17 @@ pub record Plainly (f : Feeding Message) : Type 0 where
 plain-as : {s t : State Message} → lives s ≡ lives t → Plain s → Plain t
 plain-as {s} {t} e h = let q : s ≡ t = cc in rw q at h
 
+-- a feed that goes on, with an event that is no kept payload
+lives-on : (f : Feeding Message) (s : State Message) → f .after ≡ lives s → Plain s → ((k : Kept) (payload : List ℕ) → f .event ≡ taken k payload → ⊥) → Plainly f
+lives-on f s a h n = record {
+  untold = n;
+  plain = λ t e. plain-as (sym a ∙ e) h;
+  high = λ code e. (let q = sym a ∙ e in let z : _≡_ {A = ℕ} 0 1 = cc in absurd (omega arith));
+}
+
 quiet-lives : (s : State Message) → Plain s → Plainly (halt quiet (lives s))
 unfolding halt
-quiet-lives s h = record {
-  untold = λ k payload e. (let z : _≡_ {A = ℕ} 0 1 = cc in omega arith);
-  plain = λ t e. plain-as e h;
-  high = λ code e. (let z : _≡_ {A = ℕ} 0 1 = cc in absurd (omega arith));
-}
+quiet-lives s h = lives-on (halt quiet (lives s)) s refl h (λ k payload e. (let z : _≡_ {A = ℕ} 0 1 = cc in omega arith))
 
 quiet-dies : (code : ℕ) → 0x0103 ≤ code → Plainly (halt quiet (dies code))
 unfolding halt
@@ -52,37 +56,17 @@ also-plain h f p = record { untold = p .untold; plain = p .plain; high = p .high
 module _ (R : Rules) where
   content-part : (j l : ℕ) (m : Message) → Plainly (taking (request R) content j l m)
   unfolding taking named with-left over
-  content-part j zero m = record {
-    untold = λ k payload e. (let z : _≡_ {A = ℕ} 0 1 = cc in omega arith);
-    plain = λ t e. plain-as e tt;
-    high = λ code e. (let z : _≡_ {A = ℕ} 0 1 = cc in absurd (omega arith));
-  }
-  content-part j (suc l) m = record {
-    untold = λ k payload e. (let z : _≡_ {A = ℕ} 0 1 = cc in omega arith);
-    plain = λ t e. plain-as e tt;
-    high = λ code e. (let z : _≡_ {A = ℕ} 0 1 = cc in absurd (omega arith));
-  }
+  content-part j zero m = lives-on _ (in-type fresh m) refl tt (λ k payload e. (let z : _≡_ {A = ℕ} 0 1 = cc in omega arith))
+  content-part j (suc l) m = lives-on _ (in-payload content [] l m) refl tt (λ k payload e. (let z : _≡_ {A = ℕ} 0 1 = cc in omega arith))
 
   section-part : (t : Part) (j l : ℕ) (m : Message) → Plainly (taking (request R) (section t) j l m)
   unfolding taking named with-left over
-  section-part t j zero m = record {
-    untold = λ k payload e. (let z : _≡_ {A = ℕ} 0 1 = cc in omega arith);
-    plain = λ s e. plain-as e tt;
-    high = λ code e. (let z : _≡_ {A = ℕ} 0 1 = cc in absurd (omega arith));
-  }
-  section-part t j (suc l) m = record {
-    untold = λ k payload e. (let z : _≡_ {A = ℕ} 0 1 = cc in omega arith);
-    plain = λ s e. plain-as e tt;
-    high = λ code e. (let z : _≡_ {A = ℕ} 0 1 = cc in absurd (omega arith));
-  }
+  section-part t j zero m = lives-on _ (due t m) refl tt (λ k payload e. (let z : _≡_ {A = ℕ} 0 1 = cc in omega arith))
+  section-part t j (suc l) m = lives-on _ (in-payload (section t) [] l m) refl tt (λ k payload e. (let z : _≡_ {A = ℕ} 0 1 = cc in omega arith))
 
   empty-section : (t : Part) (m : Message) → Plainly (halt (section-bytes 0 true) (lives (due t m)))
   unfolding halt
-  empty-section t m = record {
-    untold = λ k payload e. (let z : _≡_ {A = ℕ} 0 1 = cc in omega arith);
-    plain = λ s e. plain-as e tt;
-    high = λ code e. (let z : _≡_ {A = ℕ} 0 1 = cc in absurd (omega arith));
-  }
+  empty-section t m = lives-on _ (due t m) refl tt (λ k payload e. (let z : _≡_ {A = ℕ} 0 1 = cc in omega arith))
 
   module _ (f : State Message → Feeding Message) (on : (s : State Message) → Plain s → Plainly (f s)) where
     skip-on : (l : ℕ) (m : Message) → Plainly (onward quiet (with-left (request R) skipped [] l m) f)
