@@ -1,0 +1,17 @@
+-- `feeds_c::reported` meets its contract, beside a fault and without one. Assumes nothing.
+use borrow.Author.Needs.{needs}
+use Rattle.feeds_c.specs.Numbers.{report-fault, report-left}
+use Rattle.feeds_c.proofs.reported.Statement.{statement}
+use Rattle.feeds_c.proofs.reported.Tie as tie
+
+stand-of-requires : tie.Need-stand-of-requires
+stand-of-requires c κs = search needs
+
+returns : tie.Need-returns
+returns c = report-fault (c .before .before .args .at) (c .before .before .args .a) (c .if1 .taken)
+
+returns-2 : tie.Need-returns-2
+returns-2 c = report-left (c .before .before .before .before .args .at) (c .before .before .before .before .args .a) (c .before .before .if1 .left) (c .stand-of .ensures)
+
+pub reported-spec : {M : Type 1} → statement M
+reported-spec = tie.close (tie.spec stand-of-requires returns returns-2)
