@@ -1,0 +1,74 @@
+/* One feed of 256 MiB of empty frames, on a stack of its own that was marked: how much of it was used.
+   Status 0 if every byte was consumed, every header counted, and no more than 64 KB used; and if the measure sees a use of more. */
+#include "feeds.h"
+
+#define BYTES (1ul << 28)
+#define ROOM (1ul << 20)
+#define LIMIT (64ul << 10)
+#define MARK 0xa5
+
+static u8 frames[BYTES];
+static u8 room[ROOM] __attribute__((aligned(16)));
+static Stand at;
+static Report told;
+
+static void fed(void) { told = eist_feed(at, frames, BYTES, ~0ul); }
+
+static void deep(void) {
+    volatile u8 much[LIMIT];
+    for (usize i = 0; i < sizeof much; i++) much[i] = 0;
+}
+
+/* Calls f with the stack pointer at top. The registers named are those that a call may change, and the one that keeps the old pointer. */
+static void on_stack(u8 *top, void (*f)(void)) {
+    __asm__ volatile("movq %%rsp, %%rbx\n\t"
+                     "movq %0, %%rsp\n\t"
+                     "callq *%1\n\t"
+                     "movq %%rbx, %%rsp"
+                     :
+                     : "r"(top), "r"(f)
+                     : "rbx", "rax", "rcx", "rdx", "rsi", "rdi", "r8", "r9", "r10", "r11", "memory", "cc", "xmm0", "xmm1",
+                       "xmm2", "xmm3", "xmm4", "xmm5", "xmm6", "xmm7", "xmm8", "xmm9", "xmm10", "xmm11", "xmm12", "xmm13",
+                       "xmm14", "xmm15");
+}
+
+static usize used_by(void (*f)(void)) {
+    usize left = 0;
+    for (usize i = 0; i < ROOM; i++) room[i] = MARK;
+    on_stack(room + ROOM, f);
+    while (left < ROOM && room[left] == MARK) left++;
+    return ROOM - left;
+}
+
+static usize put(u8 *line, const char *text, u64 number) {
+    usize n = 0;
+    u8 digits[20];
+    int k = 0;
+    while (text[n]) line[n] = (u8)text[n], n++;
+    do digits[k++] = (u8)('0' + number % 10);
+    while (number /= 10);
+    while (k) line[n++] = digits[--k];
+    return n;
+}
+
+/* The frame is the two bytes of an empty one; the stream stands before its header section, or behind it. */
+static int run(const char *what, u8 type, u64 phase) {
+    for (usize i = 0; i < BYTES; i += 2) frames[i] = type, frames[i + 1] = 0;
+    at = (Stand){.phase = phase};
+    usize used = used_by(fed);
+    u8 line[256];
+    usize n = put(line, what, told.used);
+    n += put(line + n, " bytes consumed, headers ", told.heads);
+    n += put(line + n, ", stack bytes ", used);
+    line[n++] = '\n';
+    write(1, line, n);
+    int whole = told.number == 0 && told.event == 0 && told.used == BYTES && told.heads == BYTES / 2;
+    int same = told.stand.mode == 0 && told.stand.due == 0 && told.stand.phase == phase && told.stand.sum == 0;
+    return whole && same && used <= LIMIT;
+}
+
+int main(void) {
+    int skipped = run("empty unknown frames: ", 0x21, 0);
+    int data = run("empty DATA: ", 0x00, 1);
+    return !(skipped && data && used_by(deep) > LIMIT);
+}
