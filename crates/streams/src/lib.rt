@@ -100,7 +100,7 @@ fn one_integer(len: u64, use_number: u64) -> u64
     }
 }
 
-fn ruled(phase: u64, has: u64, stated: u64, sum: u64, ftype: u64, len: u64) -> u64
+pub fn ruled(phase: u64, has: u64, stated: u64, sum: u64, ftype: u64, len: u64) -> u64
     requires { ⌜ (sum ≤ 2 ^ 62) × (len < 2 ^ 62) ⌝ }
     ensures { λ r. ⌜ r ≡ numberOf (rule (placeOf phase has stated sum) ftype len) ⌝ }
 {
