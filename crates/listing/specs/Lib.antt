@@ -2,3 +2,4 @@ pub mod Listing
 pub mod Lines
 pub mod Ruled
 pub mod At
+pub mod Lists

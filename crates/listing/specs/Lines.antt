@@ -89,13 +89,15 @@ useOf Skipped = skipped
 useOf HeaderSection = section header-section
 useOf Trailers = section trailers
 
--- the lines that are read one by one, from a place on, up to a last one or so many
+-- a line, and what comes behind it
+unfoldable pub withRest : (Place → List Entry) → Line → List Entry
+withRest rest (Heading next) = heading ∷ rest next
+withRest rest (Frame at type len usage next) = listing.frame at type len (useOf usage) ∷ rest next
+withRest rest (Whole total) = whole total ∷ []
+withRest rest (Refused bytes code) = refused bytes code ∷ []
+withRest rest TooLong = too-long ∷ []
+
+-- the lines read one by one from a place on, each from where the one before it says, up to a last line or so many
 unfoldable pub linesFrom : (most : ℕ) → List ℕ → Place → List Entry
 linesFrom zero s p = []
-linesFrom (suc k) s p = elim (lineAt s p) [
-  | Heading next ↦ heading ∷ linesFrom k s next
-  | Frame at type len usage next ↦ listing.frame at type len (useOf usage) ∷ linesFrom k s next
-  | Whole total ↦ whole total ∷ []
-  | Refused bytes code ↦ refused bytes code ∷ []
-  | TooLong ↦ too-long ∷ []
-]
+linesFrom (suc k) s p = withRest (linesFrom k s) (lineAt s p)
