@@ -3,3 +3,4 @@ pub mod Lines
 pub mod Ruled
 pub mod At
 pub mod Lists
+pub mod Worked
