@@ -31,7 +31,10 @@ pub enum Line {
         next: Place,
     },
     Whole(usize),
-    Refused { bytes: usize, code: u64 },
+    Refused {
+        bytes: usize,
+        code: u64,
+    },
     TooLong,
 }
 
