@@ -1,14 +1,14 @@
 -- The line at a place, for each way that the input can go there. Assumes nothing.
-use Prim.Native.Nat.{ℕ, zero, suc, _+_, _≤_, _<_}
+use Prim.Native.Nat.{ℕ, zero, suc, _≤_, _<_}
 use mathlib.Core.Path.{_≡_, refl, sym, ap, _∙_}
 use mathlib.Core.List.{List, [], _∷_}
 use mathlib.Core.Bool.{Bool, true, false}
 use native.Mathlib.Omega.{arith}
 use lib.Dec.{ltb, ltb→lt, nltb→le}
-use lib.ListN.{length, take, drop, length-drop, drop-of-length-le}
+use lib.ListN.{length, drop, length-drop}
 use borrow.Author.Tests.{lt-ltb, le-ltb}
 use Rattle.rules.specs.Integers.{cut, got, integer}
-use Rattle.rules.specs.Frames.{Frames, Frames.none as no-more, in-header, in-payload, frame, framesFrom}
+use Rattle.rules.specs.Frames.{Frames.none as no-more, in-header, framesFrom}
 use Rattle.rules.specs.Message.{ends, tally}
 use Rattle.rules.specs.Request.{end-of, codeOf}
 use Rattle.meaning.specs.FrameLaws.{head, cut-type, cut-length, cut-payload, a-frame, view-is, frames-nil}

@@ -1,6 +1,6 @@
 -- Reading on, line by line, comes to an end. Assumes nothing.
 use Prim.Native.Nat.{ℕ, suc, _+_, _-_, _≤_, _<_}
-use mathlib.Core.Path.{_≡_, refl, sym, ap, _∙_}
+use mathlib.Core.Path.{_≡_, refl}
 use mathlib.Core.List.{List, [], _∷_}
 use mathlib.Core.Bool.{Bool, true, false}
 use native.Mathlib.Omega.{arith}
@@ -8,14 +8,14 @@ use lib.Dec.{ltb, ltb→lt, nltb→le}
 use lib.ListN.{length, drop}
 use borrow.Author.Tests.{lt-ltb, le-ltb}
 use Rattle.rules.specs.Frames.{Frames, framesUpTo, framesFrom}
-use Rattle.rules.specs.Reading.{End, complete, lacking, Ruling, refuse, accept}
+use Rattle.rules.specs.Reading.{End, complete, lacking, Ruling}
 use Rattle.rules.specs.Message.{Message, ends}
-use Rattle.rules.specs.Request.{rule, end-of}
+use Rattle.rules.specs.Request.{end-of}
 use Rattle.meaning.specs.IntegerLaws.{integer-length}
 use Rattle.meaning.specs.RequestLaws.{RuleView, r-refused, r-skipped, r-content, r-header, r-trailers, rule-view}
 use Rattle.meaning.specs.FrameLaws.{head, View, cut-type, cut-length, cut-payload, a-frame, view}
-use Rattle.listing.specs.Lines.{place, messageOf, after, lineOf, ruledLine, endOf, endLine, lineIn, lineFrom, lineAt}
-use Rattle.listing.specs.At.{frames-none, line-too-long, line-heading, line-cut-payload, inside}
+use Rattle.listing.specs.Lines.{place, messageOf, after, lineOf, ruledLine, endOf, endLine, lineIn, lineAt}
+use Rattle.listing.specs.At.{line-too-long, line-heading, line-cut-payload, inside}
 use Rattle.listing.specs.declared.Place.{Place}
 use Rattle.listing.specs.declared.Usage.{Usage}
 use Rattle.listing.specs.declared.Line.{Line}

@@ -8,21 +8,20 @@ use native.Mathlib.Omega.{arith}
 use lib.Dec.{ltb, ltb→lt, nltb→le}
 use lib.ListN.{length, take, drop, length-drop}
 use lib.Seq.{drop-drop}
-use borrow.Author.Tests.{lt-ltb, le-ltb}
 use Rattle.rules.specs.Block.{Section}
 use Rattle.rules.specs.Integers.{got, integer}
 use Rattle.rules.specs.Frames.{Header, Frames, Frames.none as no-more, in-header, in-payload, frame, framesUpTo, framesFrom}
-use Rattle.rules.specs.Reading.{Part, Use, content, skipped, section, kept, header-section, trailers, Ruling, refuse, accept, End, complete, lacking, Verdict, fault, Saying, content-byte, section-byte, Reading, ending, put, told, ended, Onward, on, left-by, completed, judge, readFrom, read, Accepted, accepted}
+use Rattle.rules.specs.Reading.{Use, content, skipped, section, kept, header-section, trailers, Ruling, refuse, accept, End, complete, lacking, Verdict, fault, Saying, content-byte, section-byte, Reading, ending, put, told, ended, Onward, on, left-by, completed, judge, readFrom, read, accepted}
 use Rattle.rules.specs.Reading as rules
-use Rattle.rules.specs.Message.{Message, opening, body, trailed, Step, goes, carries, heads, trails, ends}
-use Rattle.rules.specs.Request.{Rules, Header.good as good-header, Trailer.good as good-trailer, request, all-sound, document, rule, given, headed-by, trailed-by, next-of, end-of}
+use Rattle.rules.specs.Message.{Message, opening, body, trailed, Step, goes, heads, trails, ends}
+use Rattle.rules.specs.Request.{Rules, Header.good as good-header, Trailer.good as good-trailer, request, all-sound, rule, given, headed-by, trailed-by, next-of, end-of}
 use Rattle.meaning.specs.IntegerLaws.{integer-length, integer-rest}
 use Rattle.meaning.specs.MessageLaws.{CarryView, c-refused, c-goes, carry-view}
-use Rattle.meaning.specs.RequestLaws.{RuleView, r-refused, r-skipped, r-content, r-header, r-trailers, rule-view}
+use Rattle.meaning.specs.RequestLaws.{RuleView, r-skipped, r-content, r-header, r-trailers, rule-view}
 use Rattle.meaning.specs.FrameLaws.{head, View, cut-type, cut-length, cut-payload, a-frame, view, enough}
-use Rattle.listing.specs.Listing.{Entry, heading, refused, too-long, frameOf, lastOf, entriesOf, reading, two-sections, limit, listing}
+use Rattle.listing.specs.Listing.{Entry, heading, refused, too-long, frameOf, lastOf, entriesOf, reading, limit, listing}
 use Rattle.listing.specs.Listing as lister
-use Rattle.listing.specs.Lines.{place, first, messageOf, after, usageOf, useOf, lineOf, ruledLine, endOf, endLine, lineIn, lineAt, withRest, linesFrom}
+use Rattle.listing.specs.Lines.{place, first, messageOf, after, usageOf, useOf, lineOf, ruledLine, endOf, endLine, lineIn, withRest, linesFrom}
 use Rattle.listing.specs.At.{frames-none, line-too-long, line-heading, line-cut-payload, inside}
 use Rattle.listing.specs.declared.Place.{Place}
 

@@ -7,7 +7,7 @@ use native.Mathlib.Omega.{arith}
 use lib.Dec.{ltb, ltb→lt, nltb→le}
 use borrow.Author.Tests.{lt-ltb, le-ltb}
 use Rattle.rules.specs.Frames.{Header}
-use Rattle.rules.specs.Reading.{content, skipped, section, header-section, trailers, Ruling, refuse, accept}
+use Rattle.rules.specs.Reading.{section, trailers, Ruling, refuse, accept}
 use Rattle.rules.specs.Message.{Message, opening, body, trailed, past-limit, goes, refuses, carries, sum-to, content-limit}
 use Rattle.rules.specs.Request.{Kind, data·, headers, forbidden, unknown, kindOf, headers-limit, within-limit, data-rule, headers-rule, ruleFor, rule}
 use Rattle.meaning.specs.Hom.{map-ruling}

@@ -1,18 +1,10 @@
-use mathlib.Core.Path.{sym, refl, _∙_}
+-- `lister::list` is safe and ends: each line that leads on leaves less to come. Assumes nothing.
+use mathlib.Core.Path.{sym, _∙_}
 use denote.Ref.{now}
-use Rattle.listing.specs.Lines.{lineAt}
 use borrow.Author.Needs.{needs}
 use Rattle.listing.specs.Falls.{rank, falls-heading, falls-frame}
 use Rattle.lister.proofs.list.Statement.{statement}
 use Rattle.lister.proofs.list.Tie as tie
-use Rattle.lister.proofs.list.Reads as reads
-use Rattle.lister.proofs.list.Lts as lts
-use Rattle.lister.proofs.frame.Reads as frame-reads
-use Rattle.lister.proofs.refused.Reads as refused-reads
-use Rattle.lister.proofs.text.Reads as text-reads
-use Rattle.lister.proofs.whole.Reads as whole-reads
-use Rattle.listing.proofs.next.Reads as next-reads
-use Rattle.listing.proofs.start.Reads as start-reads
 
 abbrev Inv-loop : tie.InvT-loop
 Inv-loop input place₀ t12 t13 place = Unit {0}
@@ -20,91 +12,69 @@ Inv-loop input place₀ t12 t13 place = Unit {0}
 abbrev μ-loop : tie.MeasureT-loop
 μ-loop input place₀ t12 t13 place = rank input place
 
--- src/main.rt:54:9
 start-requires : tie.Need-start-requires Inv-loop μ-loop
 start-requires c κs = search needs
 
--- src/main.rt:55:5
 loop-holds : tie.Need-loop-holds Inv-loop μ-loop
 loop-holds c = search needs
 
--- src/main.rt:56:15
 next-requires : tie.Need-next-requires Inv-loop μ-loop
 next-requires c κs = search needs
 
--- src/main.rt:57:27
 enum-known-next : tie.Need-enum-known-next Inv-loop μ-loop
 enum-known-next c = search needs
 
--- src/main.rt:58:22
 slice-aggregate-text : tie.Need-slice-aggregate-text Inv-loop μ-loop
 slice-aggregate-text c = search needs
 
--- src/main.rt:58:17
 text-requires : tie.Need-text-requires Inv-loop μ-loop
 text-requires c κs = search needs
 
--- src/main.rt:55:5
 loop-less : tie.Need-loop-less Inv-loop μ-loop
 loop-less c = falls-heading (now (c .before .before .before .before .before .before .before .before .before .args .input)) (c .before .before .before .before .before .before .loop .place) _ (sym (c .before .before .before .before .before .next .ensures) ∙ c .before .before .before .next2 .given .1)
 
--- src/main.rt:55:5
 loop-again : tie.Need-loop-again Inv-loop μ-loop
 loop-again c = search needs
 
--- src/main.rt:62:17
 enum-known-at : tie.Need-enum-known-at Inv-loop μ-loop
 enum-known-at c = search needs
 
--- src/main.rt:68:17
 frame-requires : tie.Need-frame-requires Inv-loop μ-loop
 frame-requires c κs = search needs
 
--- src/main.rt:55:5
 loop-less-2 : tie.Need-loop-less-2 Inv-loop μ-loop
 loop-less-2 c = falls-frame (now (c .before .before .before .before .before .before .before .before .args .input)) (c .before .before .before .before .before .loop .place) _ _ _ _ _ (sym (c .before .before .before .before .next .ensures) ∙ c .before .before .at .given .1)
 
--- src/main.rt:55:5
 loop-again-2 : tie.Need-loop-again-2 Inv-loop μ-loop
 loop-again-2 c = search needs
 
--- src/main.rt:71:25
 enum-known-total : tie.Need-enum-known-total Inv-loop μ-loop
 enum-known-total c = search needs
 
--- src/main.rt:72:17
 whole-requires : tie.Need-whole-requires Inv-loop μ-loop
 whole-requires c κs = search needs
 
--- src/main.rt:73:17
 returns : tie.Need-returns Inv-loop μ-loop
 returns c = search needs
 
--- src/main.rt:75:29
 enum-known-bytes : tie.Need-enum-known-bytes Inv-loop μ-loop
 enum-known-bytes c = search needs
 
--- src/main.rt:76:17
 refused-requires : tie.Need-refused-requires Inv-loop μ-loop
 refused-requires c κs = search needs
 
--- src/main.rt:77:17
 returns-2 : tie.Need-returns-2 Inv-loop μ-loop
 returns-2 c = search needs
 
--- src/main.rt:80:22
 enum-told : tie.Need-enum-told Inv-loop μ-loop
 enum-told c = search needs
 
--- src/main.rt:80:22
 slice-aggregate-text-2 : tie.Need-slice-aggregate-text-2 Inv-loop μ-loop
 slice-aggregate-text-2 c = search needs
 
--- src/main.rt:80:17
 text-requires-2 : tie.Need-text-requires-2 Inv-loop μ-loop
 text-requires-2 c κs = search needs
 
--- src/main.rt:81:17
 returns-3 : tie.Need-returns-3 Inv-loop μ-loop
 returns-3 c = search needs
 

@@ -1,3 +1,4 @@
+-- `listing::next` meets its contract: one law of specs, At, for each way that the input can go on. Assumes nothing.
 use mathlib.Core.Path.{_∙_}
 use denote.Ref.{now}
 use native.Mathlib.Omega.{arith}
@@ -5,58 +6,40 @@ use Rattle.listing.specs.At.{line-too-long, line-heading, line-end, line
 use borrow.Author.Needs.{needs}
 use Rattle.listing.proofs.next.Statement.{statement}
 use Rattle.listing.proofs.next.Tie as tie
-use Rattle.listing.proofs.next.Reads as reads
-use Rattle.listing.proofs.next.Lts as lts
-use Rattle.listing.proofs.end_line.Reads as end-line-reads
-use Rattle.listing.proofs.ruled_line.Reads as ruled-line-reads
-use Rattle.varint.proofs.ends.Reads as ends-reads
-use Rattle.varint.proofs.value.Reads as value-reads
 
--- src/lib.rt:142:9
 returns : tie.Need-returns
 returns c = let a = c .before .before .args in line-too-long (now (a .s)) (a .p) (c .if1 .taken)
 
--- src/lib.rt:145:9
 returns-2 : tie.Need-returns-2
 returns-2 c = let a = c .before .before .before .before .args in line-heading (now (a .s)) (a .p) (omega (arith, c .before .before .if1 .left)) (c .if2 .taken)
 
--- src/lib.rt:152:9
 end-line-requires : tie.Need-end-line-requires
 end-line-requires c κs = search needs
 
--- src/lib.rt:152:9
 returns-3 : tie.Need-returns-3
 returns-3 c = let a = c .before .before .before .before .before .before .args in c .end-line .ensures ∙ line-end (now (a .s)) (a .p) (omega (arith, c .before .before .before .before .if1 .left)) (omega (arith, c .before .before .if2 .left)) (c .before .if3 .taken)
 
--- src/lib.rt:154:9
 ends-requires : tie.Need-ends-requires
 ends-requires c κs = search needs
 
--- src/lib.rt:156:9
 returns-4 : tie.Need-returns-4
 returns-4 c = let a = c .before .before .before .before .before .before .before .args in line-cut-type (now (a .s)) (a .p) (omega (arith, c .before .before .before .before .before .if1 .left)) (omega (arith, c .before .before .before .if2 .left)) (c .before .before .if3 .left) (c .before .ends .ensures) (c .if4 .taken)
 
--- src/lib.rt:161:9
 value-requires : tie.Need-value-requires
 value-requires c κs = omega (arith, c .before .ends .ensures .is, c .if4 .left)
 
--- src/lib.rt:162:9
 ends-requires-2 : tie.Need-ends-requires-2
 ends-requires-2 c κs = search needs
 
--- src/lib.rt:164:9
 returns-5 : tie.Need-returns-5
 returns-5 c = let a = c .before .before .before .before .before .before .before .before .before .before .args in line-cut-length (now (a .s)) (a .p) (omega (arith, c .before .before .before .before .before .before .before .before .if1 .left)) (omega (arith, c .before .before .before .before .before .before .if2 .left)) _ _ (c .before .before .before .before .ends .ensures) (c .before .before .before .if4 .left) (c .before .before .value .ensures) (c .before .ends2 .ensures) (c .if5 .taken)
 
--- src/lib.rt:169:32
 value-requires-2 : tie.Need-value-requires-2
 value-requires-2 c κs = omega (arith, c .before .ends2 .ensures .is, c .if5 .left)
 
--- src/lib.rt:169:5
 ruled-line-requires : tie.Need-ruled-line-requires
 ruled-line-requires c κs = (omega (arith, c .before .before .before .before .before .before .before .if2 .left), omega (arith, c .before .before .ends2 .ensures .within, c .before .before .before .before .before .before .before .before .before .if1 .left), c .value2 .ensures .small)
 
--- src/lib.rt:136:1
 returns-6 : tie.Need-returns-6
 returns-6 c = let a = c .before .before .before .before .before .before .before .before .before .before .before .before .args in line-header (now (a .s)) (a .p) (omega (arith, c .before .before .before .before .before .before .before .before .before .before .if1 .left)) (omega (arith, c .before .before .before .before .before .before .before .before .if2 .left)) _ _ (c .before .before .before .before .before .before .ends .ensures) (c .before .before .before .before .before .if4 .left) (c .before .before .before .before .value .ensures) _ _ (c .before .before .before .ends2 .ensures) (c .before .before .if5 .left) (c .before .value2 .ensures) (c .ruled-line .ensures)
 
