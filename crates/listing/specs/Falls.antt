@@ -1,5 +1,5 @@
--- Reading on, line by line, comes to an end. Assumes nothing.
-use Prim.Native.Nat.{ℕ, suc, _+_, _-_, _≤_, _<_}
+-- Reading on, line by line, comes to an end, and to a last line. Assumes nothing.
+use Prim.Native.Nat.{ℕ, zero, suc, _+_, _-_, _≤_, _<_}
 use mathlib.Core.Path.{_≡_, refl}
 use mathlib.Core.List.{List, [], _∷_}
 use mathlib.Core.Bool.{Bool, true, false}
@@ -14,7 +14,9 @@ use Rattle.rules.specs.Request.{end-of}
 use Rattle.meaning.specs.IntegerLaws.{integer-length}
 use Rattle.meaning.specs.RequestLaws.{RuleView, r-refused, r-skipped, r-content, r-header, r-trailers, rule-view}
 use Rattle.meaning.specs.FrameLaws.{head, View, cut-type, cut-length, cut-payload, a-frame, view}
-use Rattle.listing.specs.Lines.{place, messageOf, after, lineOf, ruledLine, endOf, endLine, lineIn, lineAt}
+use Rattle.listing.specs.Listing.{Entry, whole, refused, too-long, listing}
+use Rattle.listing.specs.Lists.{lists}
+use Rattle.listing.specs.Lines.{place, first, entryOf, behind, withRest, linesFrom, messageOf, after, lineOf, ruledLine, endOf, endLine, lineIn, lineAt}
 use Rattle.listing.specs.At.{line-too-long, line-heading, line-cut-payload, inside}
 use Rattle.listing.specs.declared.Place.{Place}
 use Rattle.listing.specs.declared.Usage.{Usage}
@@ -110,3 +112,29 @@ falls-heading s p n e = falls s p n (rw e refl)
 
 pub falls-frame : (s : List ℕ) (p : Place) (at type len : ℕ) (u : Usage) (n : Place) → lineAt s p ≡ Frame at type len u n → rank s n < rank s p
 falls-frame s p at type len u n e = falls s p n (rw e refl)
+
+-- ---- the last line
+
+pub data HasLast : List Entry → Type 0 where
+  last-whole : {total : ℕ} → HasLast (whole total ∷ [])
+  last-refused : {bytes code : ℕ} → HasLast (refused bytes code ∷ [])
+  last-too-long : HasLast (too-long ∷ [])
+  behind-one : {e : Entry} {es : List Entry} → HasLast es → HasLast (e ∷ es)
+
+lines-end : (s : List ℕ) (most : ℕ) (p : Place) → rank s p < most → HasLast (linesFrom most s p)
+unfolding linesFrom entryOf behind
+lines-end s zero p h = absurd (omega arith)
+lines-end s (suc k) p h = go (lines-end s k) (lineAt s p) refl
+  where
+    go : ((n : Place) → rank s n < k → HasLast (linesFrom k s n)) → (l : Line) → lineAt s p ≡ l → HasLast (withRest (linesFrom k s) l)
+    go ih (Heading n) e = let f = falls-heading s p n e in behind-one (ih n (omega arith))
+    go ih (Frame at type len u n) e = let f = falls-frame s p at type len u n e in behind-one (ih n (omega arith))
+    go ih (Whole total) e = last-whole
+    go ih (Refused bytes code) e = last-refused
+    go ih TooLong e = last-too-long
+
+-- EVERY LISTING HAS A LAST LINE: no reading waits for a third section
+pub listing-ends : (s : List ℕ) → HasLast (listing s)
+listing-ends s =
+    let r = headed s first (omega arith) in
+    rw (lists s (length s + 3) (omega arith)) at (lines-end s (length s + 3) first (omega arith))

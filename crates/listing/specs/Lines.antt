@@ -89,13 +89,24 @@ useOf Skipped = skipped
 useOf HeaderSection = section header-section
 useOf Trailers = section trailers
 
--- a line, and what comes behind it
-unfoldable pub withRest : (Place → List Entry) → Line → List Entry
-withRest rest (Heading next) = heading ∷ rest next
-withRest rest (Frame at type len usage next) = listing.frame at type len (useOf usage) ∷ rest next
-withRest rest (Whole total) = whole total ∷ []
-withRest rest (Refused bytes code) = refused bytes code ∷ []
-withRest rest TooLong = too-long ∷ []
+-- what a line says
+unfoldable pub entryOf : Line → Entry
+entryOf (Heading next) = heading
+entryOf (Frame at type len usage next) = listing.frame at type len (useOf usage)
+entryOf (Whole total) = whole total
+entryOf (Refused bytes code) = refused bytes code
+entryOf TooLong = too-long
+
+-- and what comes behind it: nothing behind a last line
+unfoldable pub behind : (Place → List Entry) → Line → List Entry
+behind rest (Heading next) = rest next
+behind rest (Frame at type len usage next) = rest next
+behind rest (Whole total) = []
+behind rest (Refused bytes code) = []
+behind rest TooLong = []
+
+abbrev pub withRest : (Place → List Entry) → Line → List Entry
+withRest rest line = entryOf line ∷ behind rest line
 
 -- the lines read one by one from a place on, each from where the one before it says, up to a last line or so many
 unfoldable pub linesFrom : (most : ℕ) → List ℕ → Place → List Entry

@@ -31,7 +31,7 @@ reading bytes = read stream two-sections bytes
 unfoldable pub frameOf : Accepted → Entry
 frameOf a = frame (a .header .at) (a .header .type) (a .header .len) (a .purpose)
 
--- (a reading that waited for a section would have no last line; none does: Lists, `lists`)
+-- (a reading that waited for a section would have no last line; every listing has one: Falls, `listing-ends`)
 unfoldable pub lastOf : (total : ℕ) → Verdict → List Entry
 lastOf total reading-of.Verdict.whole = whole total ∷ []
 lastOf total (fault code place) = refused place code ∷ []

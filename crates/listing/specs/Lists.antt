@@ -21,7 +21,7 @@ use Rattle.meaning.specs.RequestLaws.{RuleView, r-skipped, r-content, r-header,
 use Rattle.meaning.specs.FrameLaws.{head, View, cut-type, cut-length, cut-payload, a-frame, view, enough}
 use Rattle.listing.specs.Listing.{Entry, heading, refused, too-long, frameOf, lastOf, entriesOf, reading, limit, listing}
 use Rattle.listing.specs.Listing as lister
-use Rattle.listing.specs.Lines.{place, first, messageOf, after, usageOf, useOf, lineOf, ruledLine, endOf, endLine, lineIn, withRest, linesFrom}
+use Rattle.listing.specs.Lines.{place, first, messageOf, after, usageOf, useOf, lineOf, ruledLine, endOf, endLine, lineIn, entryOf, behind as what-follows, withRest, linesFrom}
 use Rattle.listing.specs.At.{frames-none, line-too-long, line-heading, line-cut-payload, inside}
 use Rattle.listing.specs.declared.Place.{Place}
 
@@ -129,7 +129,7 @@ module _ (R : Rules) (a b : Section) (others : List Section) (head-sound : R .he
 
   module _ (total : ℕ) (p : Place) (listed : p .phase ≤ 2) (rest : Place → List Entry) where
     end-line : (e : End) → withRest rest (endOf total e) ≡ entriesOf total (ending (ended e total))
-    unfolding withRest endOf entriesOf ended accepted lastOf
+    unfolding entryOf what-follows endOf entriesOf ended accepted lastOf
     end-line complete = refl
     end-line (lacking code) = refl
 
@@ -138,18 +138,18 @@ module _ (R : Rules) (a b : Section) (others : List Section) (head-sound : R .he
     line-none = end-line (end-of (ends (messageOf (p .phase) (p .sum))))
 
     line-in-header : withRest rest (lineIn total p in-header) ≡ says total (messageOf (p .phase) (p .sum)) in-header
-    unfolding lineIn judge withRest entriesOf accepted lastOf
+    unfolding lineIn judge entryOf what-follows entriesOf accepted lastOf
     line-in-header = refl
 
     module _ (at from t len : ℕ) where
       refused-line : (code : ℕ) → withRest rest (lineOf p (head at from t len) (refuse code)) ≡ entriesOf total (put (rules.refused (head at from t len) ∷ []) (ending (fault code from)))
-      unfolding withRest lineOf entriesOf put accepted lastOf
+      unfolding entryOf what-follows lineOf entriesOf put accepted lastOf
       refused-line code = refl
 
       -- its payload is whole or cut; r is the reading behind it
       accepted-line : (u : Use) (q : Message) (bytes : List ℕ) (r : Reading) → useOf (usageOf u) ≡ u → rest (after u (from + len) len p) ≡ entriesOf total r
           → withRest rest (lineOf p (head at from t len) (accept u q)) ≡ entriesOf total (put (rules.header (head at from t len) u ∷ told u bytes) r)
-      unfolding withRest lineOf
+      unfolding entryOf what-follows lineOf
       accepted-line u q bytes r e f = ap (λ x. lister.frame at t len x ∷ rest (after u (from + len) len p)) e ∙ ap (λ x. lister.frame at t len u ∷ x) f ∙ sym (entries-frame total (head at from t len) u bytes r)
 
       abbrev m : Message
@@ -235,7 +235,7 @@ module _ (R : Rules) (a b : Section) (others : List Section) (head-sound : R .he
       lines-in (b ∷ bs) d n l = lines-view b bs d n l (view (length bs) (p .at) b bs)
 
     lines : (most : ℕ) (p : Place) → p .phase ≤ 2 → 0 < most → total < most + p .at → Read most p
-    unfolding linesFrom withRest
+    unfolding linesFrom entryOf what-follows
     lines zero p h k l = absurd (omega arith)
     lines (suc k) p h z l = record {
       within = λ w. (let d = length-drop (p .at) s in ap (withRest (linesFrom k s)) (inside s p short h w) ∙ lines-in k (lines k) p h (drop (p .at) s) refl (omega arith) (omega arith));
@@ -244,7 +244,7 @@ module _ (R : Rules) (a b : Section) (others : List Section) (head-sound : R .he
 
     -- from the heading on
     pub lines-by : (most : ℕ) → length s + 1 < most → linesFrom most s first ≡ heading ∷ entriesOf (length s) (read (request R) (a ∷ b ∷ others) s)
-    unfolding linesFrom withRest read readFrom messageOf
+    unfolding linesFrom entryOf what-follows read readFrom messageOf
     lines-by zero h = absurd (omega arith)
     lines-by (suc k) h =
         ap (withRest (linesFrom k s)) (sym (line-heading s first short (omega arith)))
@@ -253,7 +253,7 @@ module _ (R : Rules) (a b : Section) (others : List Section) (head-sound : R .he
 -- THE LINES READ ONE BY ONE ARE THE LISTING: `next` from `start` on, each time from where the line before says, gives just the lines of the listing,
 -- the last one too; one more step than the input has bytes, and one for the heading, is always enough.
 pub lists : (s : List ℕ) (most : ℕ) → length s + 1 < most → linesFrom most s first ≡ listing s
-unfolding listing limit reading linesFrom withRest all-sound
+unfolding listing limit reading linesFrom entryOf what-follows all-sound
 lists s zero h = absurd (omega arith)
 lists s (suc k) h = go (ltb 65_536 (length s)) refl
   where
