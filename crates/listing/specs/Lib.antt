@@ -4,4 +4,6 @@ pub mod Ruled
 pub mod At
 pub mod Lists
 pub mod Falls
+pub mod Text
+pub mod Put
 pub mod Worked

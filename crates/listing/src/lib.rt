@@ -1,8 +1,13 @@
 // The lines of `lister` (document 01, "The writer and the lister"): the frames of one request stream, each section sound and without Content-Length.
 ghost use mathlib.Core.Path.{_≡_};
-ghost use Prim.Native.Nat.{_≤_, _<_, _^_, min};
+ghost use Prim.Native.Nat.{_+_, _≤_, _<_, _^_, min};
+ghost use mathlib.Core.List.{[], _∷_};
+ghost use lib.ListN.{length};
 ghost use Rattle.meaning.specs.FrameLaws.{head};
-ghost use Rattle.listing.specs.Lines.{first, endLine, ruledLine, lineAt};
+ghost use Rattle.listing.specs.Listing.{frame, whole, refused};
+ghost use Rattle.listing.specs.Lines.{first, endLine, ruledLine, lineAt, useOf, entryOf};
+ghost use Rattle.listing.specs.Text.{decimal, spaced, word, textOf};
+ghost use Rattle.listing.specs.Put.{Put};
 
 // What a payload is for.
 pub enum Usage {
@@ -170,4 +175,105 @@ pub fn next(s: &[u8], p: Place) -> Line
         };
     }
     ruled_line(p, from, ftype, varint::value(s, here))
+}
+
+// ---- the text of a line, put into a room that any line fits
+
+fn put(room: &mut [u8; 80], to: usize, word: &[u8]) -> usize
+    requires { ⌜ to + length (now word) ≤ 80 ⌝ }
+    ensures { λ r. ⌜ Put (now (room .entry)) to (now (word .entry)) (now (room .exit)) r ⌝ }
+{
+    let mut i = 0;
+    while i < word.len() {
+        room[to + i] = word[i];
+        i += 1;
+    }
+    to + i
+}
+
+fn put_digit(room: &mut [u8; 80], to: usize, digit: u64) -> usize
+    requires { ⌜ (to < 80) × (digit < 10) ⌝ }
+    ensures { λ r. ⌜ Put (now (room .entry)) to ((48 + digit) ∷ []) (now (room .exit)) r ⌝ }
+{
+    room[to] = 48 + digit as u8;
+    to + 1
+}
+
+fn put_decimal(room: &mut [u8; 80], to: usize, n: u64) -> usize
+    requires { ⌜ to + length (decimal n) ≤ 80 ⌝ }
+    ensures { λ r. ⌜ Put (now (room .entry)) to (decimal n) (now (room .exit)) r ⌝ }
+{
+    if n < 10 {
+        return put_digit(room, to, n);
+    }
+    let last = put_decimal(room, to, n / 10);
+    put_digit(room, last, n % 10)
+}
+
+// A number and a blank.
+fn put_spaced(room: &mut [u8; 80], to: usize, n: u64) -> usize
+    requires { ⌜ to + 21 ≤ 80 ⌝ }
+    ensures { λ r. ⌜ Put (now (room .entry)) to (spaced n) (now (room .exit)) r ⌝ }
+{
+    let blank = put_decimal(room, to, n);
+    put(room, blank, b" ")
+}
+
+fn put_usage(room: &mut [u8; 80], to: usize, usage: Usage) -> usize
+    requires { ⌜ to + 14 ≤ 80 ⌝ }
+    ensures { λ r. ⌜ Put (now (room .entry)) to (word (useOf usage)) (now (room .exit)) r ⌝ }
+{
+    match usage {
+        Usage::Skipped => put(room, to, b"skipped"),
+        Usage::Content => put(room, to, b"content"),
+        Usage::HeaderSection => put(room, to, b"header section"),
+        Usage::Trailers => put(room, to, b"trailers"),
+    }
+}
+
+fn frame_text(at: u64, ftype: u64, len: u64, usage: Usage, room: &mut [u8; 80]) -> usize
+    ensures { λ r. ⌜ Put (now (room .entry)) 0 (textOf (frame at ftype len (useOf usage))) (now (room .exit)) r ⌝ }
+{
+    let second = put_spaced(room, 0, at);
+    let third = put_spaced(room, second, ftype);
+    let last = put_spaced(room, third, len);
+    let end = put_usage(room, last, usage);
+    put(room, end, b"\n")
+}
+
+fn whole_text(total: u64, room: &mut [u8; 80]) -> usize
+    ensures { λ r. ⌜ Put (now (room .entry)) 0 (textOf (whole total)) (now (room .exit)) r ⌝ }
+{
+    let second = put(room, 0, b"end ");
+    let last = put_spaced(room, second, total);
+    put(room, last, b"whole\n")
+}
+
+fn refused_text(bytes: u64, code: u64, room: &mut [u8; 80]) -> usize
+    ensures { λ r. ⌜ Put (now (room .entry)) 0 (textOf (refused bytes code)) (now (room .exit)) r ⌝ }
+{
+    let second = put(room, 0, b"refused ");
+    let last = put_spaced(room, second, bytes);
+    let end = put_decimal(room, last, code);
+    put(room, end, b"\n")
+}
+
+// The text of a line at the start of the room, and how many bytes it has; the rest of the room stays. One behind the other, the texts of the lines
+// are what is printed (specs, Put, `prints`).
+pub fn text(line: Line, room: &mut [u8; 80]) -> usize
+    ensures { λ r. ⌜ Put (now (room .entry)) 0 (textOf (entryOf line)) (now (room .exit)) r ⌝ }
+{
+    match line {
+        Line::Heading(_) => put(room, 0, b"offset type length use\n"),
+        Line::Frame {
+            at,
+            ftype,
+            len,
+            usage,
+            next: _,
+        } => frame_text(at as u64, ftype, len, usage, room),
+        Line::Whole(total) => whole_text(total as u64, room),
+        Line::Refused { bytes, code } => refused_text(bytes as u64, code, room),
+        Line::TooLong => put(room, 0, b"too long\n"),
+    }
 }
