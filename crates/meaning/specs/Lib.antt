@@ -11,6 +11,7 @@ pub mod FeedLaws
 pub mod Hom
 pub mod Feeds
 pub mod EveryFeed
+pub mod FeedUses
 pub mod First
 pub mod ControlLaws
 pub mod OneWayFeed
