@@ -25,9 +25,9 @@ use Rattle.oneway.specs.declared.OneWay.{OneWay}
 use Rattle.oneway.specs.declared.OneAnswer.{OneAnswer}
 use Rattle.oneway.specs.declared.TypeEnd.{TypeEnd}
 use Rattle.oneway.specs.Types.{seenOf, kindNumber}
-use Rattle.oneway.specs.Stands.{oneStateAt, oneState, OneStands, qpackOf, oneAnswerAt, OneSoundAt, OneSound, Says, OneFed}
+use Rattle.oneway.specs.Stands.{oneStateAt, oneState, OneStands, qpackOf, oneAnswerAt, OneSoundAt, OneSound, cellsOf, OneShapeAt, OneShape, Says, OneFed}
 use Rattle.oneway.specs.Typed.{onePast, one-past-none, typeGoes, TypeRead}
-use Rattle.oneway.specs.Frames.{cellsOf, frame-sane, framesStand, framesFrom, Controlled}
+use Rattle.oneway.specs.Frames.{frame-sane, framesStand, framesFrom, Controlled}
 
 abbrev pub untyped : Cells → OneWay
 untyped c = record { kind = 2; cells = c }
@@ -48,7 +48,7 @@ bareFeed (suc (suc (suc (suc (suc zero))))) rest = qpack-feed decoder rest
 bareFeed (suc (suc (suc (suc (suc (suc n)))))) rest = kind-feed 0 skipped rest
 
 abbrev pub Bare : (s : List ℕ) (at : ℕ) → OneWay → OneAnswer → Type 0
-Bare s at w r = Says s (λ p k. Unit {0}) (λ p k. onePast at (bareFeed (w .kind) (drop at s))) r
+Bare s at w r = Says s (OneShape w) (λ p k. Unit {0}) (λ p k. onePast at (bareFeed (w .kind) (drop at s))) r
 
 bare-sound : (kind : ℕ) (c : Cells) → 4 ≤ kind → OneSoundAt kind c
 unfolding OneSoundAt
@@ -111,6 +111,8 @@ module _ (s : List ℕ) (at : ℕ) (w : at ≤ length s) (o : OneWay) where
     within = omega arith;
     part = inl (omega arith);
     sound = bare-sound (o .kind) (o .cells) (omega arith);
+    shaped = λ sh. sh;
+    plain = λ sh l. refl;
   })
 
   pub bare-bytes : 4 ≤ o .kind → o .kind ≤ 5 → at < length s
@@ -120,6 +122,8 @@ module _ (s : List ℕ) (at : ℕ) (w : at ≤ length s) (o : OneWay) where
     within = omega arith;
     part = inl (omega arith);
     sound = bare-sound (o .kind) (o .cells) h;
+    shaped = λ sh. sh;
+    plain = λ sh l. absurd (omega arith);
   }
 
   pub bare-none : {r : OneAnswer} → 4 ≤ o .kind → o .kind ≤ 5 → length s ≤ at → r ≡ quietAt at o → Bare s at o r
@@ -128,6 +132,8 @@ module _ (s : List ℕ) (at : ℕ) (w : at ≤ length s) (o : OneWay) where
     within = w;
     part = inl (omega arith);
     sound = bare-sound (o .kind) (o .cells) h;
+    shaped = λ sh. sh;
+    plain = λ sh l. refl;
   })
 
 -- ---- what is sound, by its kind
@@ -167,6 +173,8 @@ module _ (o : OneWay) (seen : Seen) (s : List ℕ) (allow : ℕ) where
     within = b .within;
     part = b .part;
     sound = b .sound;
+    shaped = b .shaped;
+    plain = b .plain;
   }
 
   pub fed-type : {r : OneAnswer} → o .kind ≡ 2 → OneFed (untyped (o .cells)) seen s allow r → OneFed o seen s allow r
@@ -175,6 +183,8 @@ module _ (o : OneWay) (seen : Seen) (s : List ℕ) (allow : ℕ) where
     within = b .within;
     part = b .part;
     sound = b .sound;
+    shaped = λ sh. b .shaped (rw e at sh);
+    plain = λ sh h. b .plain (rw e at sh) h;
   }
 
   control-stands : (kind : ℕ) (p : Control) (k : List ℕ) → kind ≡ 3 → OneStands kind (o .cells) p k → framesStand (o .cells) p k
@@ -191,6 +201,8 @@ module _ (o : OneWay) (seen : Seen) (s : List ℕ) (allow : ℕ) where
     within = b .within;
     part = b .part;
     sound = b .sound;
+    shaped = λ sh. b .shaped (rw e at sh);
+    plain = λ sh h. b .plain (rw e at sh) h;
   }
 
 -- ---- a stream whose type is read
@@ -202,6 +214,10 @@ fresh-frames k = refl
 fresh-stands : StandsIn (cellsOf 0 0 3) (place.of-control unset)
 unfolding placeOf
 fresh-stands = a-place
+
+fresh-shape : OneShapeAt 3 (cellsOf 0 0 3)
+unfolding OneShapeAt
+fresh-shape = (omega arith, λ h. absurd (omega arith))
 
 -- a refusal of the rule is 0x0103
 abbrev Coded : Typed → Type 0
@@ -263,12 +279,14 @@ module _ (c : Cells) (seen : Seen) (s : List ℕ) (allow : ℕ) (e : TypeEnd) (q
   type-state p k = q .is (seenOf seen) allow
 
   pub typed-cut : {d : Cells} {r : OneAnswer} → e .whole ≡ 0 → d ≡ cellsOf (e .acc) (e .due) 0 → r ≡ quietAt (length s) (untyped d) → OneFed (untyped c) seen s allow r
-  unfolding OneSoundAt onePast halt oneAnswerAt oneStateAt
+  unfolding OneSoundAt OneShapeAt onePast halt oneAnswerAt oneStateAt
   typed-cut z f g = rw (g, f) (record {
     is = λ p k st. type-state p k ∙ ended p k;
     within = omega arith;
     part = inl (omega arith);
     sound = q .good z;
+    shaped = λ sh. refl;
+    plain = λ sh h. refl;
   })
     where
       ended : (p : Control) (k : List ℕ) → onePast (e .next) (typeGoes (seenOf seen) allow (e .whole) (e .acc) (e .due) (drop (e .next) s))
@@ -292,6 +310,8 @@ module _ (c : Cells) (seen : Seen) (s : List ℕ) (allow : ℕ) (e : TypeEnd) (q
       within = q .within;
       part = inr refl;
       sound = g;
+      shaped = λ sh. sh;
+      plain = λ sh l. absurd (omega arith);
     }
       where
         refused : (p : Control) (k : List ℕ) → onePast (e .next) (halt (dies kind)) ≡ oneAnswerAt 4 (e .next) kind (e .next) 0 0 (untyped c) p k s
@@ -318,15 +338,27 @@ module _ (c : Cells) (seen : Seen) (s : List ℕ) (allow : ℕ) (e : TypeEnd) (q
           within = b′ .within;
           part = b′ .part;
           sound = b′ .sound;
+          shaped = λ sh. b′ .shaped fresh-shape;
+          plain = λ sh h. b′ .plain fresh-shape h;
         }
 
     pub kind-bare : (6 < kind → ⊥) → (kind ≡ 3 → ⊥) → 4 ≤ kind
     kind-bare h n = bare-feeds allow _ kind (drop (e .next) s) (coded-rule (seenOf seen) (e .acc)) is-kind h n .1
 
-    pub typed-bare : (d : Cells) {r : OneAnswer} → (6 < kind → ⊥) → (kind ≡ 3 → ⊥) → Bare s (e .next) (record { kind = kind; cells = d }) r → OneFed (untyped c) seen s allow r
-    typed-bare d h n b = record {
+    bare-shape : (n : ℕ) (d : Cells) → 4 ≤ n → d ≡ cellsOf 0 0 0 → OneShapeAt n d
+    unfolding OneShapeAt
+    bare-shape zero d l f = absurd (omega arith)
+    bare-shape (suc zero) d l f = absurd (omega arith)
+    bare-shape (suc (suc zero)) d l f = absurd (omega arith)
+    bare-shape (suc (suc (suc zero))) d l f = absurd (omega arith)
+    bare-shape (suc (suc (suc (suc n)))) d l f = f
+
+    pub typed-bare : {d : Cells} {r : OneAnswer} → d ≡ cellsOf 0 0 0 → (6 < kind → ⊥) → (kind ≡ 3 → ⊥) → Bare s (e .next) (record { kind = kind; cells = d }) r → OneFed (untyped c) seen s allow r
+    typed-bare {d} f h n b = record {
       is = λ p k st. known-state (bareFeed kind) p k (bare-feeds allow _ kind (drop (e .next) s) (coded-rule (seenOf seen) (e .acc)) is-kind h n .0) ∙ b .is p k tt;
       within = b .within;
       part = b .part;
       sound = b .sound;
+      shaped = λ sh. b .shaped (bare-shape kind d (kind-bare h n) f);
+      plain = λ sh l. b .plain (bare-shape kind d (kind-bare h n) f) l;
     }

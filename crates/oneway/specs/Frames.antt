@@ -1,14 +1,17 @@
 -- The frames of a control stream behind its type, from a place of the piece on. Assumes nothing.
-use mathlib.Core.Path.{_≡_, refl, sym, ap, _∙_}
+use mathlib.Core.Path.{_≡_, refl, ap, _∙_, subst}
 use Prim.Native.Nat.{ℕ, zero, suc, _+_, _-_, _≤_, _<_}
 use native.Mathlib.Omega.{arith}
 use mathlib.Core.List.{List, [], _++_}
 use mathlib.Core.Logic.{_⊎_, inl, inr}
 use lib.ListN.{length, take, drop, length-drop}
 use lib.Seq.{drop-drop, take-all}
-use Rattle.rules.specs.Reading.{Kept, Next, stop, go}
-use Rattle.rules.specs.Control.{Control, unset, set, control, judged}
-use Rattle.meaning.specs.Machine.{Outcome, answered}
+use mathlib.Core.Option.{none}
+use Rattle.rules.specs.Reading.{Kept, Use, content, skipped, section, kept, Ruling, Next, stop, go}
+use Rattle.rules.specs.Control.{Control, unset, set, no-settings, control, judged}
+use Rattle.meaning.specs.Machine.{State, answered}
+use Rattle.meaning.specs.ControlLaws.{ControlView, v-refused, v-skipped, v-kept, control-view}
+use Rattle.meaning.specs.FeedUses.{RulesWithin, JudgesWithin, StateWithin, FeedWithin, feed-within}
 use Rattle.meaning.specs.Feed.{judged-event, Feeding, halt}
 use Rattle.meaning.specs.Feed as F
 use Rattle.meaning.specs.FeedLaws.{past}
@@ -20,21 +23,18 @@ use Rattle.streams.specs.declared.Answer.{Answer}
 use Rattle.streams.specs.Both.{Place, both}
 use Rattle.streams.specs.Both as place
 use Rattle.streams.specs.Uses.{placeOf, Stands, a-place, any-set}
+use Rattle.streams.specs.Heads.{headState}
 use Rattle.streams.specs.Parts.{judgedAs}
 use Rattle.streams.specs.Answers.{keptAt, stateAt, stateOf, placeAt, placeIn, StandsIn, answerAt, answerOf, Sane, Held}
 use Rattle.streams.specs.Fed.{Fed}
 use Rattle.streams.specs.Apart.{controls, state-carried, control-fed}
 use Rattle.oneway.specs.declared.OneWay.{OneWay}
 use Rattle.oneway.specs.declared.OneAnswer.{OneAnswer}
-use Rattle.oneway.specs.Stands.{oneStateAt, oneState, oneAnswerAt, OneSoundAt, Says}
+use Rattle.oneway.specs.Stands.{oneStateAt, oneState, oneAnswerAt, OneSoundAt, cellsOf, OneShapeAt, Says}
 use Rattle.oneway.specs.Typed.{onePast}
 
 abbrev pub controlAt : Cells → OneWay
 controlAt c = record { kind = 3; cells = c }
-
--- what was read of a type; between two frames, before SETTINGS (phase 3) or behind them (4)
-abbrev pub cellsOf : (acc due phase : ℕ) → Cells
-cellsOf acc due phase = record { mode = 0; acc = acc; due = due; ftype = 0; phase = phase; has = 0; stated = 0; sum = 0 }
 
 abbrev pub frameCells : (phase : ℕ) → Cells
 frameCells phase = cellsOf 0 0 phase
@@ -47,7 +47,7 @@ abbrev pub framesFrom : (s : List ℕ) (at : ℕ) (c : Cells) (allow : ℕ) → 
 framesFrom s at c allow p k = onePast at (of-control (F.feed control allow (stateOf c p k) (drop at s)))
 
 abbrev pub Controlled : (s : List ℕ) (at : ℕ) (c : Cells) (allow : ℕ) → OneAnswer → Type 0
-Controlled s at c allow r = Says s (framesStand c) (framesFrom s at c allow) r
+Controlled s at c allow r = Says s (OneShapeAt 3 c) (framesStand c) (framesFrom s at c allow) r
 
 pub frame-sane : (phase : ℕ) → 3 ≤ phase → Sane (frameCells phase) × (3 ≤ phase)
 frame-sane phase h = (
@@ -138,6 +138,93 @@ module _ (at : ℕ) (s : List ℕ) (p : Control) (k : List ℕ) (start len used 
   event-part (suc (suc (suc (suc (suc zero))))) f h = absurd (omega arith)
   event-part (suc (suc (suc (suc (suc (suc n)))))) f h = let y = the-part in rw y (let x = carried (k ++ take len (drop (at + start) s)) in rw x refl)
 
+-- ---- nothing is handed over on a control stream, and no section is ever due
+
+abbrev Unseen : Use → Type 0
+Unseen content = ⊥
+Unseen skipped = Unit {0}
+Unseen (section t) = ⊥
+Unseen (kept f) = Unit {0}
+
+abbrev Any : ℕ → Type 0
+Any code = Unit {0}
+
+viewed : {c : Control} {r : Ruling Control} → ControlView c r → RulesWithin Unseen Any r
+viewed (v-refused h) = tt
+viewed v-skipped = tt
+viewed v-kept = tt
+
+any-next : (n : Next Control) → JudgesWithin Any n
+any-next (stop code) = tt
+any-next (go p) = tt
+
+control-within : (n : ℕ) (s : State Control) → StateWithin Unseen s → (bs : List ℕ) → FeedWithin Unseen Any (F.feed control n s bs)
+control-within n s h bs = feed-within control Unseen Any (λ c t len. viewed (control-view c t len)) (λ k c payload. any-next (judged k c payload)) n s h bs
+
+mode-within : (mode a d t : ℕ) (p : Control) (k : List ℕ) → (3 ≤ mode → 8 ≤ mode) → StateWithin Unseen (stateAt mode a d t p k)
+unfolding stateAt headState
+mode-within zero a d t p k h = tt
+mode-within (suc zero) a d t p k h = tt
+mode-within (suc (suc zero)) a d t p k h = tt
+mode-within (suc (suc (suc zero))) a d t p k h = let x = h (omega arith) in absurd (omega arith)
+mode-within (suc (suc (suc (suc zero)))) a d t p k h = let x = h (omega arith) in absurd (omega arith)
+mode-within (suc (suc (suc (suc (suc zero))))) a d t p k h = let x = h (omega arith) in absurd (omega arith)
+mode-within (suc (suc (suc (suc (suc (suc zero)))))) a d t p k h = let x = h (omega arith) in absurd (omega arith)
+mode-within (suc (suc (suc (suc (suc (suc (suc zero))))))) a d t p k h = let x = h (omega arith) in absurd (omega arith)
+mode-within (suc (suc (suc (suc (suc (suc (suc (suc m)))))))) a d t p k h = tt
+
+within-mode : (mode a d t : ℕ) (p : Control) (k : List ℕ) → StateWithin Unseen (stateAt mode a d t p k) → 3 ≤ mode → 8 ≤ mode
+unfolding stateAt
+within-mode zero a d t p k w h = absurd (omega arith)
+within-mode (suc zero) a d t p k w h = absurd (omega arith)
+within-mode (suc (suc zero)) a d t p k w h = absurd (omega arith)
+within-mode (suc (suc (suc zero))) a d t p k w h = absurd w
+within-mode (suc (suc (suc (suc zero)))) a d t p k w h = absurd w
+within-mode (suc (suc (suc (suc (suc zero))))) a d t p k w h = absurd w
+within-mode (suc (suc (suc (suc (suc (suc zero)))))) a d t p k w h = absurd w
+within-mode (suc (suc (suc (suc (suc (suc (suc zero))))))) a d t p k w h = absurd w
+within-mode (suc (suc (suc (suc (suc (suc (suc (suc m)))))))) a d t p k w h = omega arith
+
+module _ (s : List ℕ) (p : Control) (k : List ℕ) (start len used heads : ℕ) (c : Cells) where
+  abbrev says-so : (event : ℕ) → Type 0
+  says-so event = FeedWithin Unseen Any (map-feeding controls (answerAt event start len used heads c (place.of-control p) k s))
+
+  -- no event of a handed part
+  event-plain : (event : ℕ) → says-so event → event < 4 → event ≡ 0
+  unfolding map-feeding answerAt
+  event-plain zero w h = refl
+  event-plain (suc zero) w h = absurd (w .event)
+  event-plain (suc (suc zero)) w h = absurd (w .event .1)
+  event-plain (suc (suc (suc zero))) w h = absurd (w .event .1)
+  event-plain (suc (suc (suc (suc n)))) w h = absurd (omega arith)
+
+  -- the mode that is left
+  left-mode : (event : ℕ) → says-so event → (event ≡ 4 → ⊥) → (event ≡ 5 → ⊥) → 3 ≤ c .mode → 8 ≤ c .mode
+  unfolding map-feeding map-outcome answerAt
+  left-mode zero w m n = let x = carried 0 s p k start len used heads c k in within-mode (c .mode) (c .acc) (c .due) (c .ftype) p k (subst (StateWithin Unseen) x (w .after))
+  left-mode (suc zero) w m n = absurd (w .event)
+  left-mode (suc (suc zero)) w m n = absurd (w .event .1)
+  left-mode (suc (suc (suc zero))) w m n = absurd (w .event .1)
+  left-mode (suc (suc (suc (suc zero)))) w m n = absurd (m refl)
+  left-mode (suc (suc (suc (suc (suc zero))))) w m n = absurd (n refl)
+  left-mode (suc (suc (suc (suc (suc (suc e)))))) w m n =
+      let j = k ++ take len (drop start s) in
+      let x = carried 0 s p k start len used heads c j in
+      within-mode (c .mode) (c .acc) (c .due) (c .ftype) p j (subst (StateWithin Unseen) x (w .after))
+
+-- a place that such cells stand for
+some-place : (h n m ph : ℕ) → 3 ≤ ph → ph ≤ 4 → (p : Control) × Stands h n m ph (place.of-control p)
+some-place h n m zero l u = absurd (omega arith)
+some-place h n m (suc zero) l u = absurd (omega arith)
+some-place h n m (suc (suc zero)) l u = absurd (omega arith)
+some-place h n m (suc (suc (suc zero))) l u = (unset, unfold placeOf in a-place)
+some-place h n m (suc (suc (suc (suc zero)))) l u = (set no-settings none none, any-set 0 tt)
+some-place h n m (suc (suc (suc (suc (suc k))))) l u = absurd (omega arith)
+
+none-held : (n : ℕ) → Held n []
+none-held zero = tt
+none-held (suc n) = refl
+
 -- ---- the ways of a feed
 
 -- the rest of the piece, as the code lends it
@@ -148,12 +235,35 @@ module _ (s : List ℕ) (at : ℕ) (c : Cells) (allow : ℕ) (a : Answer) (w : a
   abbrev Controls : OneAnswer → Type 0
   Controls r = Controlled s at c allow r
 
-  is-control : (p : Control) (k : List ℕ) → framesStand c p k → framesFrom s at c allow p k ≡ rest-says at s p k (a .start) (a .len) (a .used) (a .heads) (a .cells) (a .event)
-  is-control p k st =
+  frames-are : (p : Control) (k : List ℕ) → framesStand c p k
+      → F.feed control allow (stateOf c p k) (drop at s) ≡ map-feeding controls (answerAt (a .event) (a .start) (a .len) (a .used) (a .heads) (a .cells) (place.of-control p) k (drop at s))
+  frames-are p k st =
       let q = stands-place (c .has) (c .stated) (c .sum) (st .0) p refl (a .cells .has) (a .cells .stated) (a .cells .sum) in
       let e : placeIn (a .cells) (place.of-control p) ≡ place.of-control p = ap (λ ph. placeAt ph (a .cells .has) (a .cells .stated) (a .cells .sum) (place.of-control p)) (fed .phase) ∙ q in
-      ap (λ x. onePast at (of-control x)) (control-fed c (drop at s) allow a fed k (st .1) p (st .0)
-      ∙ ap (λ x. map-feeding controls (answerAt (a .event) (a .start) (a .len) (a .used) (a .heads) (a .cells) x k (drop at s))) e)
+      control-fed c (drop at s) allow a fed k (st .1) p (st .0)
+      ∙ ap (λ x. map-feeding controls (answerAt (a .event) (a .start) (a .len) (a .used) (a .heads) (a .cells) x k (drop at s))) e
+
+  is-control : (p : Control) (k : List ℕ) → framesStand c p k → framesFrom s at c allow p k ≡ rest-says at s p k (a .start) (a .len) (a .used) (a .heads) (a .cells) (a .event)
+  is-control p k st = ap (λ x. onePast at (of-control x)) (frames-are p k st)
+
+  -- what the shape before says of the answer, at some place
+  unseen : OneShapeAt 3 c → (p : Control) × says-so (drop at s) p [] (a .start) (a .len) (a .used) (a .heads) (a .cells) (a .event)
+  unfolding OneShapeAt
+  unseen sh =
+      let q = some-place (c .has) (c .stated) (c .sum) (c .phase) phase (sh .0) in
+      let st : framesStand c (q .0) [] = (q .1, none-held (8 - c .mode)) in
+      (q .0, subst (FeedWithin Unseen Any) (frames-are (q .0) [] st) (control-within allow (stateOf c (q .0) []) (mode-within (c .mode) (c .acc) (c .due) (c .ftype) (q .0) [] (sh .1)) (drop at s)))
+
+  pub feed-plain : OneShapeAt 3 c → a .event < 4 → a .event ≡ 0
+  feed-plain sh h = let u = unseen sh in event-plain (drop at s) (u .0) [] (a .start) (a .len) (a .used) (a .heads) (a .cells) (a .event) (u .1) h
+
+  left-shape : OneShapeAt 3 c → (a .event ≡ 4 → ⊥) → (a .event ≡ 5 → ⊥) → OneShapeAt 3 (a .cells)
+  unfolding OneShapeAt
+  left-shape sh m n =
+      let u = unseen sh in
+      let e = fed .phase in
+      let f = sh .0 in
+      (omega arith, left-mode (drop at s) (u .0) [] (a .start) (a .len) (a .used) (a .heads) (a .cells) (a .event) (u .1) m n)
 
   by-event : (event : ℕ) → a .event ≡ event → (p : Control) (k : List ℕ) → framesStand c p k → framesFrom s at c allow p k ≡ rest-says at s p k (a .start) (a .len) (a .used) (a .heads) (a .cells) event
   by-event event e p k st = is-control p k st ∙ ap (rest-says at s p k (a .start) (a .len) (a .used) (a .heads) (a .cells)) e
@@ -182,16 +292,20 @@ module _ (s : List ℕ) (at : ℕ) (c : Cells) (allow : ℕ) (a : Answer) (w : a
     within = used-fits;
     part = inr refl;
     sound = (sane, phase);
+    shaped = λ sh. sh;
+    plain = λ sh h. absurd (omega arith);
   }
 
   pub control-complete : {d : Cells} → a .event ≡ 5 → d ≡ frameCells 4
       → Controls (record { event = 5; start = at + a .start; len = a .len; used = at + a .used; heads = a .heads; payload = a .cells .mode; stream = controlAt d })
-  unfolding OneSoundAt
+  unfolding OneSoundAt OneShapeAt
   control-complete e g = rw g (record {
     is = λ p k st. by-event 5 e p k st ∙ event-complete at s p k (a .start) (a .len) (a .used) (a .heads) (a .cells) (controlAt (frameCells 4));
     within = used-fits;
     part = inl (part-ends (λ x. omega arith));
     sound = frame-sane 4 (omega arith);
+    shaped = λ sh. (omega arith, λ h. absurd (omega arith));
+    plain = λ sh h. absurd (omega arith);
   })
 
   pub control-part : 6 ≤ a .event → Controls (record { event = 6; start = at + a .start; len = a .len; used = at + a .used; heads = a .heads; payload = 0; stream = controlAt (a .cells) })
@@ -201,6 +315,8 @@ module _ (s : List ℕ) (at : ℕ) (c : Cells) (allow : ℕ) (a : Answer) (w : a
     within = used-fits;
     part = inl (part-ends (λ x. omega arith));
     sound = left-sane (λ x. omega arith);
+    shaped = λ sh. left-shape sh (λ x. omega arith) (λ x. omega arith);
+    plain = λ sh l. absurd (omega arith);
   }
 
   pub control-low : a .event < 4 → Controls (record { event = a .event; start = at + a .start; len = a .len; used = at + a .used; heads = a .heads; payload = 0; stream = controlAt (a .cells) })
@@ -210,4 +326,6 @@ module _ (s : List ℕ) (at : ℕ) (c : Cells) (allow : ℕ) (a : Answer) (w : a
     within = used-fits;
     part = inl (part-ends (λ x. omega arith));
     sound = left-sane (λ x. omega arith);
+    shaped = λ sh. left-shape sh (λ x. omega arith) (λ x. omega arith);
+    plain = feed-plain;
   }

@@ -1,6 +1,6 @@
 -- The numbers of a one-way stream and of an answer, and what they say of a feed. Assumes nothing.
 use mathlib.Core.Path.{_≡_, refl}
-use Prim.Native.Nat.{ℕ, zero, suc, _+_, _-_, _≤_}
+use Prim.Native.Nat.{ℕ, zero, suc, _+_, _-_, _≤_, _<_}
 use mathlib.Core.List.{List, [], _++_}
 use mathlib.Core.Bool.{true, false}
 use mathlib.Core.Logic.{_⊎_}
@@ -83,13 +83,32 @@ OneSoundAt (suc (suc (suc (suc n)))) c = Unit {0}
 abbrev pub OneSound : OneWay → Type 0
 OneSound w = OneSoundAt (w .kind) (w .cells)
 
--- what an answer must be, given what was wanted of it
-pub record Says (s : List ℕ) (stands : Control → List ℕ → Type 0) (want : Control → (sofar : List ℕ) → OneFeeding) (r : OneAnswer) : Type 0 where
+-- ---- the numbers of a stream that only these calls touched
+
+-- what was read of a type; between two frames, before SETTINGS (phase 3) or behind them (4); all 0 of a stream that has no frames
+abbrev pub cellsOf : (acc due phase : ℕ) → Cells
+cellsOf acc due phase = record { mode = 0; acc = acc; due = due; ftype = 0; phase = phase; has = 0; stated = 0; sum = 0 }
+
+-- on a control stream nothing is handed over and no section is due
+unfoldable pub OneShapeAt : (kind : ℕ) → Cells → Type 0
+OneShapeAt zero c = Unit {0}
+OneShapeAt (suc zero) c = Unit {0}
+OneShapeAt (suc (suc zero)) c = c ≡ cellsOf (c .acc) (c .due) 0
+OneShapeAt (suc (suc (suc zero))) c = (c .phase ≤ 4) × (3 ≤ c .mode → 8 ≤ c .mode)
+OneShapeAt (suc (suc (suc (suc n)))) c = c ≡ cellsOf 0 0 0
+
+abbrev pub OneShape : OneWay → Type 0
+OneShape w = OneShapeAt (w .kind) (w .cells)
+
+-- what an answer must be, given what was wanted of it; `shape` is that of the stream before
+pub record Says (s : List ℕ) (shape : Type 0) (stands : Control → List ℕ → Type 0) (want : Control → (sofar : List ℕ) → OneFeeding) (r : OneAnswer) : Type 0 where
   pub is : (p : Control) (k : List ℕ) → stands p k → want p k ≡ oneAnswerOf r p k s
   pub within : r .used ≤ length s
   pub part : r .start + r .len ≡ r .used ⊎ r .event ≡ 4
   pub sound : OneSound (r .stream)
+  pub shaped : shape → OneShape (r .stream)
+  pub plain : shape → r .event < 4 → r .event ≡ 0
 
 -- WHAT A FEED OF A ONE-WAY STREAM ANSWERS: the definition's feed, from every state that the numbers stand for
 abbrev pub OneFed : OneWay → Seen → (s : List ℕ) (allow : ℕ) → OneAnswer → Type 0
-OneFed w seen s allow r = Says s (OneStands (w .kind) (w .cells)) (λ p k. feed (seenOf seen) allow (oneState w p k) s) r
+OneFed w seen s allow r = Says s (OneShape w) (OneStands (w .kind) (w .cells)) (λ p k. feed (seenOf seen) allow (oneState w p k) s) r

@@ -8,10 +8,10 @@ ghost use lib.ListN.{length};
 ghost use Rattle.rules.specs.OneWay.{typeRule};
 ghost use Rattle.varint.specs.ByByte.{part, Good};
 ghost use Rattle.oneway.specs.Types.{seenOf, onceOf, kindNumber};
-ghost use Rattle.oneway.specs.Stands.{Says, OneSound, OneFed};
+ghost use Rattle.oneway.specs.Stands.{OneSound, cellsOf, OneFed};
 ghost use Rattle.oneway.specs.Typed.{TypeRead};
 ghost use Rattle.streams.specs.Answers.{Sane};
-ghost use Rattle.oneway.specs.Frames.{cellsOf, Controlled};
+ghost use Rattle.oneway.specs.Frames.{Controlled};
 ghost use Rattle.oneway.specs.Fed.{untyped, quietAt, Bare};
 ghost use Rattle.oneway.specs.Closed.{Closes};
 

@@ -59,7 +59,7 @@ bare-requires c κs = let a = c .before .before .before .before .before .before 
 
 -- src/lib.rt:226:1
 returns-4 : tie.Need-returns-4
-returns-4 c = let a = c .before .before .before .before .before .before .before .before .before .args in typed-bare (a .c) (a .seen) (now (a .s)) (a .allow) (c .before .before .before .before .before .before .before .type-on .result) (c .before .before .before .before .before .before .before .type-on .ensures) (c .before .before .before .before .before .if1 .left) (c .before .before .before .before .kind-of .ensures) (c .before .cells3 .result) (λ x. omega (arith, x, c .before .before .before .if2 .left)) (c .before .before .if3 .left) (c .bare .ensures)
+returns-4 c = let a = c .before .before .before .before .before .before .before .before .before .args in typed-bare (a .c) (a .seen) (now (a .s)) (a .allow) (c .before .before .before .before .before .before .before .type-on .result) (c .before .before .before .before .before .before .before .type-on .ensures) (c .before .before .before .before .before .if1 .left) (c .before .before .before .before .kind-of .ensures) (c .before .cells3 .ensures) (λ x. omega (arith, x, c .before .before .before .if2 .left)) (c .before .before .if3 .left) (c .bare .ensures)
 
 pub typed-spec : {M : Type 1} → statement M
 typed-spec =
