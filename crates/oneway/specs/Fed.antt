@@ -345,13 +345,19 @@ module _ (c : Cells) (seen : Seen) (s : List ℕ) (allow : ℕ) (e : TypeEnd) (q
     pub kind-bare : (6 < kind → ⊥) → (kind ≡ 3 → ⊥) → 4 ≤ kind
     kind-bare h n = bare-feeds allow _ kind (drop (e .next) s) (coded-rule (seenOf seen) (e .acc)) is-kind h n .1
 
-    bare-shape : (n : ℕ) (d : Cells) → 4 ≤ n → d ≡ cellsOf 0 0 0 → OneShapeAt n d
+    bare-shape : (n : ℕ) (d : Cells) → 4 ≤ n → (6 < n → ⊥) → d ≡ cellsOf 0 0 0 → OneShapeAt n d
     unfolding OneShapeAt
-    bare-shape zero d l f = absurd (omega arith)
-    bare-shape (suc zero) d l f = absurd (omega arith)
-    bare-shape (suc (suc zero)) d l f = absurd (omega arith)
-    bare-shape (suc (suc (suc zero))) d l f = absurd (omega arith)
-    bare-shape (suc (suc (suc (suc n)))) d l f = f
+    bare-shape zero d l u f = absurd (omega arith)
+    bare-shape (suc zero) d l u f = absurd (omega arith)
+    bare-shape (suc (suc zero)) d l u f = absurd (omega arith)
+    bare-shape (suc (suc (suc zero))) d l u f = absurd (omega arith)
+    bare-shape (suc (suc (suc (suc n)))) d l u f = (f, small n u)
+      where
+        small : (n : ℕ) → (6 < suc (suc (suc (suc n))) → ⊥) → n ≤ 2
+        small zero u = omega arith
+        small (suc zero) u = omega arith
+        small (suc (suc zero)) u = omega arith
+        small (suc (suc (suc n))) u = absurd (u (omega arith))
 
     pub typed-bare : {d : Cells} {r : OneAnswer} → d ≡ cellsOf 0 0 0 → (6 < kind → ⊥) → (kind ≡ 3 → ⊥) → Bare s (e .next) (record { kind = kind; cells = d }) r → OneFed (untyped c) seen s allow r
     typed-bare {d} f h n b = record {
@@ -359,6 +365,6 @@ module _ (c : Cells) (seen : Seen) (s : List ℕ) (allow : ℕ) (e : TypeEnd) (q
       within = b .within;
       part = b .part;
       sound = b .sound;
-      shaped = λ sh. b .shaped (bare-shape kind d (kind-bare h n) f);
-      plain = λ sh l. b .plain (bare-shape kind d (kind-bare h n) f) l;
+      shaped = λ sh. b .shaped (bare-shape kind d (kind-bare h n) h f);
+      plain = λ sh l. b .plain (bare-shape kind d (kind-bare h n) h f) l;
     }

@@ -4,3 +4,4 @@ pub mod Typed
 pub mod Frames
 pub mod Fed
 pub mod Closed
+pub mod Row

@@ -91,11 +91,11 @@ cellsOf acc due phase = record { mode = 0; acc = acc; due = due; ftype = 0; phas
 
 -- on a control stream nothing is handed over and no section is due
 unfoldable pub OneShapeAt : (kind : ℕ) → Cells → Type 0
-OneShapeAt zero c = Unit {0}
-OneShapeAt (suc zero) c = Unit {0}
+OneShapeAt zero c = ⊥
+OneShapeAt (suc zero) c = ⊥
 OneShapeAt (suc (suc zero)) c = c ≡ cellsOf (c .acc) (c .due) 0
 OneShapeAt (suc (suc (suc zero))) c = (c .phase ≤ 4) × (3 ≤ c .mode → 8 ≤ c .mode)
-OneShapeAt (suc (suc (suc (suc n)))) c = c ≡ cellsOf 0 0 0
+OneShapeAt (suc (suc (suc (suc n)))) c = (c ≡ cellsOf 0 0 0) × (n ≤ 2)
 
 abbrev pub OneShape : OneWay → Type 0
 OneShape w = OneShapeAt (w .kind) (w .cells)
