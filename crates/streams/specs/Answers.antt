@@ -107,6 +107,8 @@ pub record Answers (c : Cells) (s : List ℕ) (fresh : ℕ) (want : (rest : ℕ)
   pub part : r .start + r .len ≡ r .used ⊎ r .event ≡ 4
   pub sane : (r .event ≡ 5 → ⊥) → Sane (r .cells)
   pub phase : r .cells .phase ≡ c .phase
+  pub known : r .event ≤ 6
+  pub held : r .event ≡ 6 → 8 ≤ r .cells .mode  -- a part is kept of a kept payload alone
 
 -- ---- a payload that is handed on or kept, by its mode
 

@@ -117,6 +117,8 @@ cut-answer c s to heads r d w g u h q =
       part = inl (omega arith);
       sane = λ x. head-sane (r .head) c (h .good) m g;
       phase = refl;
+      known = omega arith;
+      held = λ e. absurd (omega arith);
     })
 
 pub stop-cut : (c : Cells) (s : List ℕ) (to heads number len rest : ℕ) {r : Answer} → number ≡ 9 → (rest ≡ 0 → ⊥) → Answers c s 1 (fromCut s to heads) r → Answers c s 1 (fromStop s to heads number len rest) r
@@ -129,6 +131,8 @@ stop-cut c s to heads number len rest e n0 a =
       part = a .part;
       sane = a .sane;
       phase = a .phase;
+      known = a .known;
+      held = a .held;
     }
 
 pub numbers-more : (c d : Cells) (len : ℕ) → d ≡ moreSum c len → c .sum + len ≤ 2 ^ 62 → c .stated ≤ 2 ^ 62 → Numbers d

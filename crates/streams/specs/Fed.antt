@@ -50,6 +50,8 @@ module _ (c : Cells) (s : List ℕ) (allow : ℕ) where
     part = a .part;
     sane = a .sane;
     phase = a .phase;
+    known = a .known;
+    held = a .held;
   }
 
   due-state : (mode a d t : ℕ) (p : Place) (k : List ℕ) → 6 ≤ mode → mode < 8 → feed both allow (stateAt mode a d t p k) s ≡ halt quiet (lives (stateAt mode a d t p k))
@@ -73,6 +75,8 @@ module _ (c : Cells) (s : List ℕ) (allow : ℕ) where
     part = inl (omega arith);
     sane = λ x. sane;
     phase = refl;
+    known = omega arith;
+    held = λ e. absurd (omega arith);
   }
 
   -- nowhere
@@ -84,6 +88,8 @@ module _ (c : Cells) (s : List ℕ) (allow : ℕ) where
     part = inl (omega arith);
     sane = λ x. q .sane;
     phase = q .phase;
+    known = omega arith;
+    held = λ e. absurd (omega arith);
   }
 
   fresh-held : (mode : ℕ) (k : List ℕ) → mode < 3 → Held (8 - mode) k → Held 1 k
@@ -107,4 +113,6 @@ module _ (c : Cells) (s : List ℕ) (allow : ℕ) where
     part = a .part;
     sane = a .sane;
     phase = a .phase;
+    known = a .known;
+    held = a .held;
   }

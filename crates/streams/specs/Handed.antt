@@ -38,6 +38,31 @@ pub behind : (at heads used : ℕ) (e : Event) (o : Outcome Place) → past at h
 unfolding past
 behind at heads used e o = let z = add-zero heads in rw z refl
 
+-- the events of a payload that is all there, and of one that is not
+last-known : {mode : ℕ} {t : Telling} → Tells mode t → t .last ≤ 6
+last-known tells-content = omega arith
+last-known tells-header = omega arith
+last-known tells-trailers = omega arith
+last-known (tells-kept m h) = omega arith
+
+last-whole : {mode : ℕ} {t : Telling} → Tells mode t → t .last ≡ 6 → ⊥
+last-whole tells-content e = omega arith
+last-whole tells-header e = omega arith
+last-whole tells-trailers e = omega arith
+last-whole (tells-kept m h) e = omega arith
+
+part-known : {mode : ℕ} {t : Telling} → Tells mode t → t .part ≤ 6
+part-known tells-content = omega arith
+part-known tells-header = omega arith
+part-known tells-trailers = omega arith
+part-known (tells-kept m h) = omega arith
+
+part-held : {mode : ℕ} {t : Telling} → Tells mode t → t .part ≡ 6 → 8 ≤ mode
+part-held tells-content e = absurd (omega arith)
+part-held tells-header e = absurd (omega arith)
+part-held tells-trailers e = absurd (omega arith)
+part-held (tells-kept m h) e = omega arith
+
 module _ (c : Cells) (s : List ℕ) (at heads : ℕ) (w : at ≤ length s) (g : Numbers c) (fresh : ℕ) where
   -- the piece ends where the payload begins or goes on
   pub none-here : (left mode : ℕ) {r : Cells} → 0 < left → left < 2 ^ 62 → HandedMode mode → length s - at ≡ 0 → r ≡ inMode c mode left → Answers c s fresh (fromPayload c s at heads mode left) (answer 0 at 0 at heads r)
@@ -52,6 +77,8 @@ module _ (c : Cells) (s : List ℕ) (at heads : ℕ) (w : at ≤ length s) (g : 
         part = inl (omega arith);
         sane = λ x. sane-in c mode left g (m .1) hi (λ l. absurd (omega arith)) (λ a b f. lo);
         phase = refl;
+        known = omega arith;
+        held = λ e. absurd (omega arith);
       })
 
   -- ---- all of it is there
@@ -108,6 +135,8 @@ module _ (c : Cells) (s : List ℕ) (at heads : ℕ) (w : at ≤ length s) (g : 
     part = inl (omega arith);
     sane = over-sane h;
     phase = refl;
+    known = last-known h;
+    held = λ e. absurd (last-whole h e);
   })
 
   -- ---- some of it is there
@@ -149,6 +178,8 @@ module _ (c : Cells) (s : List ℕ) (at heads : ℕ) (w : at ≤ length s) (g : 
       part = inl (omega arith);
       sane = λ x. sane-in c mode (left - (length s - at)) g (m .1) (omega arith) (λ l. absurd (omega arith)) (λ a b f. omega arith);
       phase = refl;
+      known = part-known h;
+      held = part-held h;
     })
 
 -- ---- how parts are told

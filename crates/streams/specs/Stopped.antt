@@ -69,6 +69,8 @@ module _ (c : Cells) (s : List ℕ) (to heads len rest : ℕ) (w : to ≤ length
         part = inr refl;
         sane = λ x. sane;
         phase = refl;
+        known = omega arith;
+        held = λ e. absurd (omega arith);
       }
 
   -- ---- no more headers
@@ -84,6 +86,8 @@ module _ (c : Cells) (s : List ℕ) (to heads len rest : ℕ) (w : to ≤ length
         part = inl (omega arith);
         sane = λ x. sane-in c 0 0 g (omega arith) (omega arith) (λ l. refl) (λ a b f. absurd (omega arith));
         phase = refl;
+        known = omega arith;
+        held = λ e. absurd (omega arith);
       })
 
   -- ---- a payload of some bytes
@@ -111,6 +115,8 @@ module _ (c : Cells) (s : List ℕ) (to heads len rest : ℕ) (w : to ≤ length
         part = inl (omega arith);
         sane = λ x. sane-in c 2 (len - (length s - to)) g (omega arith) (omega arith) (λ l. absurd (omega arith)) (λ a b f. omega arith);
         phase = refl;
+        known = omega arith;
+        held = λ e. absurd (omega arith);
       })
 
   -- ---- content: DATA moves the sum
@@ -132,6 +138,8 @@ module _ (c : Cells) (s : List ℕ) (to heads len rest : ℕ) (w : to ≤ length
         part = a .part;
         sane = a .sane;
         phase = a .phase;
+        known = a .known;
+        held = a .held;
       }
 
   -- ---- a section or a kept payload
@@ -148,6 +156,8 @@ module _ (c : Cells) (s : List ℕ) (to heads len rest : ℕ) (w : to ≤ length
     part = a .part;
     sane = a .sane;
     phase = a .phase;
+    known = a .known;
+    held = a .held;
   }
 
   pub stop-section : (number : ℕ) {r : Answer} → 2 ≤ number → number < 4 → Answers c s 0 (fromPayload c s to heads (number + 2) len) r → Answers c s 1 (fromStop s to heads number len rest) r
