@@ -25,7 +25,7 @@ use Rattle.oneway.specs.declared.OneWay.{OneWay}
 use Rattle.oneway.specs.declared.OneAnswer.{OneAnswer}
 use Rattle.oneway.specs.declared.TypeEnd.{TypeEnd}
 use Rattle.oneway.specs.Types.{seenOf, kindNumber}
-use Rattle.oneway.specs.Stands.{oneStateAt, oneState, OneStands, qpackOf, oneAnswerAt, OneSoundAt, OneSound, cellsOf, OneShapeAt, OneShape, Says, OneFed}
+use Rattle.oneway.specs.Stands.{oneStateAt, oneState, OneStands, qpackOf, oneAnswerAt, OneSoundAt, OneSound, cellsOf, OneShapeAt, OneShape, StandsAt, Says, OneFed}
 use Rattle.oneway.specs.Typed.{onePast, one-past-none, typeGoes, TypeRead}
 use Rattle.oneway.specs.Frames.{frame-sane, framesStand, framesFrom, Controlled}
 
@@ -48,7 +48,7 @@ bareFeed (suc (suc (suc (suc (suc zero))))) rest = qpack-feed decoder rest
 bareFeed (suc (suc (suc (suc (suc (suc n)))))) rest = kind-feed 0 skipped rest
 
 abbrev pub Bare : (s : List ℕ) (at : ℕ) → OneWay → OneAnswer → Type 0
-Bare s at w r = Says s (OneShape w) (λ p k. Unit {0}) (λ p k. onePast at (bareFeed (w .kind) (drop at s))) r
+Bare s at w r = (before : OneWay) → Says s before (OneShape w) (λ p k. Unit {0}) (λ p k. onePast at (bareFeed (w .kind) (drop at s))) r
 
 bare-sound : (kind : ℕ) (c : Cells) → 4 ≤ kind → OneSoundAt kind c
 unfolding OneSoundAt
@@ -57,6 +57,14 @@ bare-sound (suc zero) c h = absurd (omega arith)
 bare-sound (suc (suc zero)) c h = absurd (omega arith)
 bare-sound (suc (suc (suc zero))) c h = absurd (omega arith)
 bare-sound (suc (suc (suc (suc n)))) c h = tt
+
+stands-bare : (kind : ℕ) (c : Cells) (p : Control) → 4 ≤ kind → StandsAt kind c p
+unfolding StandsAt
+stands-bare zero c p h = absurd (omega arith)
+stands-bare (suc zero) c p h = absurd (omega arith)
+stands-bare (suc (suc zero)) c p h = absurd (omega arith)
+stands-bare (suc (suc (suc zero))) c p h = absurd (omega arith)
+stands-bare (suc (suc (suc (suc n)))) c p h = tt
 
 -- a QPACK stream's piece
 some-qpack : (q : Qpack) (rest : List ℕ) → 0 < length rest → qpack-feed q rest ≡ record { used = length rest; heads = 0; event = qpack-bytes q (length rest); after = lives (in-qpack q) }
@@ -106,34 +114,49 @@ module _ (s : List ℕ) (at : ℕ) (w : at ≤ length s) (c : Cells) where
 
 module _ (s : List ℕ) (at : ℕ) (w : at ≤ length s) (o : OneWay) where
   pub bare-skipped : {r : OneAnswer} → 5 < o .kind → r ≡ quietAt (length s) o → Bare s at o r
-  bare-skipped h e = rw e (record {
+  bare-skipped h e b = rw e (record {
     is = λ p k st. skipped-all s at w (o .cells) (o .kind) p k h;
     within = omega arith;
     part = inl (omega arith);
     sound = bare-sound (o .kind) (o .cells) (omega arith);
     shaped = λ sh. sh;
     plain = λ sh l. refl;
+    known = omega arith;
+    stays = λ x. absurd (omega arith);
+    behind = λ x. absurd (omega arith);
+    held = λ x. absurd (omega arith);
+    leaves = λ x y p k st. stands-bare (o .kind) (o .cells) p (omega arith);
   })
 
   pub bare-bytes : 4 ≤ o .kind → o .kind ≤ 5 → at < length s
       → Bare s at o (record { event = 7; start = at; len = length s - at; used = length s; heads = 0; payload = 0; stream = o })
-  bare-bytes h l m = record {
+  bare-bytes h l m b = record {
     is = λ p k st. qpack-all s at w (o .cells) (o .kind) p k h l m;
     within = omega arith;
     part = inl (omega arith);
     sound = bare-sound (o .kind) (o .cells) h;
     shaped = λ sh. sh;
     plain = λ sh l. absurd (omega arith);
+    known = omega arith;
+    stays = λ x. absurd (omega arith);
+    behind = λ x. absurd (omega arith);
+    held = λ x. absurd (omega arith);
+    leaves = λ x y p k st. stands-bare (o .kind) (o .cells) p (omega arith);
   }
 
   pub bare-none : {r : OneAnswer} → 4 ≤ o .kind → o .kind ≤ 5 → length s ≤ at → r ≡ quietAt at o → Bare s at o r
-  bare-none h l m e = rw e (record {
+  bare-none h l m e b = rw e (record {
     is = λ p k st. qpack-none s at w (o .cells) (o .kind) p k h l m;
     within = w;
     part = inl (omega arith);
     sound = bare-sound (o .kind) (o .cells) h;
     shaped = λ sh. sh;
     plain = λ sh l. refl;
+    known = omega arith;
+    stays = λ x. absurd (omega arith);
+    behind = λ x. absurd (omega arith);
+    held = λ x. absurd (omega arith);
+    leaves = λ x y p k st. stands-bare (o .kind) (o .cells) p (omega arith);
   })
 
 -- ---- what is sound, by its kind
@@ -168,14 +191,22 @@ bare-state (suc (suc (suc (suc (suc (suc n)))))) c seen allow p k rest h = refl
 
 module _ (o : OneWay) (seen : Seen) (s : List ℕ) (allow : ℕ) where
   pub fed-bare : {r : OneAnswer} → 4 ≤ o .kind → Bare s 0 o r → OneFed o seen s allow r
-  fed-bare h b = record {
+  fed-bare h bare = let b = bare o in record {
     is = λ p k st. bare-state (o .kind) (o .cells) (seenOf seen) allow p k s h ∙ sym (one-past-none _) ∙ b .is p k tt;
     within = b .within;
     part = b .part;
     sound = b .sound;
     shaped = b .shaped;
     plain = b .plain;
+    known = b .known;
+    stays = b .stays;
+    behind = b .behind;
+    held = b .held;
+    leaves = λ x y p k st. b .leaves x y p k tt;
   }
+
+  same-kind : (kind : ℕ) → o .kind ≡ kind → _≡_ {A = OneWay} (record { kind = kind; cells = o .cells }) o
+  same-kind kind e = ap (λ n. record { kind = n; cells = o .cells }) (sym e)
 
   pub fed-type : {r : OneAnswer} → o .kind ≡ 2 → OneFed (untyped (o .cells)) seen s allow r → OneFed o seen s allow r
   fed-type e b = record {
@@ -185,6 +216,11 @@ module _ (o : OneWay) (seen : Seen) (s : List ℕ) (allow : ℕ) where
     sound = b .sound;
     shaped = λ sh. b .shaped (rw e at sh);
     plain = λ sh h. b .plain (rw e at sh) h;
+    known = b .known;
+    stays = λ x. b .stays x ∙ same-kind 2 e;
+    behind = b .behind;
+    held = b .held;
+    leaves = λ x y p k st. b .leaves x y p k (rw e at st);
   }
 
   control-stands : (kind : ℕ) (p : Control) (k : List ℕ) → kind ≡ 3 → OneStands kind (o .cells) p k → framesStand (o .cells) p k
@@ -195,14 +231,19 @@ module _ (o : OneWay) (seen : Seen) (s : List ℕ) (allow : ℕ) where
   unfolding oneStateAt feed
   control-state kind p k e = rw e refl
 
-  pub fed-control : {r : OneAnswer} → o .kind ≡ 3 → Controlled s 0 (o .cells) allow r → OneFed o seen s allow r
+  pub fed-control : {r : OneAnswer} → o .kind ≡ 3 → Controlled s 0 o (o .cells) allow r → OneFed o seen s allow r
   fed-control e b = record {
     is = λ p k st. control-state (o .kind) p k e ∙ sym (one-past-none _) ∙ b .is p k (control-stands (o .kind) p k e st);
     within = b .within;
     part = b .part;
     sound = b .sound;
-    shaped = λ sh. b .shaped (rw e at sh);
-    plain = λ sh h. b .plain (rw e at sh) h;
+    shaped = λ sh. b .shaped (rw e at sh, sh);
+    plain = λ sh h. b .plain (rw e at sh, sh) h;
+    known = b .known;
+    stays = b .stays;
+    behind = b .behind;
+    held = b .held;
+    leaves = λ x y p k st. b .leaves x y p k (control-stands (o .kind) p k e st);
   }
 
 -- ---- a stream whose type is read
@@ -279,7 +320,7 @@ module _ (c : Cells) (seen : Seen) (s : List ℕ) (allow : ℕ) (e : TypeEnd) (q
   type-state p k = q .is (seenOf seen) allow
 
   pub typed-cut : {d : Cells} {r : OneAnswer} → e .whole ≡ 0 → d ≡ cellsOf (e .acc) (e .due) 0 → r ≡ quietAt (length s) (untyped d) → OneFed (untyped c) seen s allow r
-  unfolding OneSoundAt OneShapeAt onePast halt oneAnswerAt oneStateAt
+  unfolding OneSoundAt OneShapeAt OneStands StandsAt onePast halt oneAnswerAt oneStateAt
   typed-cut z f g = rw (g, f) (record {
     is = λ p k st. type-state p k ∙ ended p k;
     within = omega arith;
@@ -287,6 +328,11 @@ module _ (c : Cells) (seen : Seen) (s : List ℕ) (allow : ℕ) (e : TypeEnd) (q
     sound = q .good z;
     shaped = λ sh. refl;
     plain = λ sh h. refl;
+    known = omega arith;
+    stays = λ x. absurd (omega arith);
+    behind = λ x. absurd (omega arith);
+    held = λ x. absurd (omega arith);
+    leaves = λ x y p k st. st .0;
   })
     where
       ended : (p : Control) (k : List ℕ) → onePast (e .next) (typeGoes (seenOf seen) allow (e .whole) (e .acc) (e .due) (drop (e .next) s))
@@ -312,6 +358,11 @@ module _ (c : Cells) (seen : Seen) (s : List ℕ) (allow : ℕ) (e : TypeEnd) (q
       sound = g;
       shaped = λ sh. sh;
       plain = λ sh l. absurd (omega arith);
+      known = omega arith;
+      stays = λ x. refl;
+      behind = λ x. absurd (omega arith);
+      held = λ x. absurd (omega arith);
+      leaves = λ x y p k st. absurd (x refl);
     }
       where
         refused : (p : Control) (k : List ℕ) → onePast (e .next) (halt (dies kind)) ≡ oneAnswerAt 4 (e .next) kind (e .next) 0 0 (untyped c) p k s
@@ -325,12 +376,13 @@ module _ (c : Cells) (seen : Seen) (s : List ℕ) (allow : ℕ) (e : TypeEnd) (q
     unfolding OneStands
     is-unset p k st = st .0
 
-    pub frames-ask : {d : Cells} → d ≡ cellsOf 0 0 3 → (e .next ≤ length s) × Sane d × (3 ≤ d .phase)
-    frames-ask f = let g = frame-sane 3 (omega arith) in rw f (q .within, g .0, g .1)
+    pub frames-ask : {d : Cells} → Good (part (c .acc) (c .due)) → d ≡ cellsOf 0 0 3 → (e .next ≤ length s) × Sane d × (3 ≤ d .phase) × OneSound (untyped c)
+    unfolding OneSoundAt
+    frames-ask good f = let g = frame-sane 3 (omega arith) in rw f (q .within, g .0, g .1, good)
 
-    pub typed-control : {d : Cells} {r : OneAnswer} → kind ≡ 3 → d ≡ cellsOf 0 0 3 → Controlled s (e .next) d allow r → OneFed (untyped c) seen s allow r
+    pub typed-control : {d : Cells} {r : OneAnswer} → kind ≡ 3 → d ≡ cellsOf 0 0 3 → Controlled s (e .next) (untyped c) d allow r → OneFed (untyped c) seen s allow r
     typed-control {d} {r} h f b =
-        let b′ : Controlled s (e .next) (cellsOf 0 0 3) allow r = rw f at b in
+        let b′ : Controlled s (e .next) (untyped c) (cellsOf 0 0 3) allow r = rw f at b in
         record {
           is = λ p k st. known-state (λ x. of-control (F.feed control allow (between unset) x)) p k (control-feeds allow _ kind (drop (e .next) s) (coded-rule (seenOf seen) (e .acc)) is-kind h)
               ∙ ap (λ x. onePast (e .next) (of-control (F.feed control allow x (drop (e .next) s)))) (sym (fresh-frames k))
@@ -338,8 +390,13 @@ module _ (c : Cells) (seen : Seen) (s : List ℕ) (allow : ℕ) (e : TypeEnd) (q
           within = b′ .within;
           part = b′ .part;
           sound = b′ .sound;
-          shaped = λ sh. b′ .shaped fresh-shape;
-          plain = λ sh h. b′ .plain fresh-shape h;
+          shaped = λ sh. b′ .shaped (fresh-shape, sh);
+          plain = λ sh h. b′ .plain (fresh-shape, sh) h;
+          known = b′ .known;
+          stays = b′ .stays;
+          behind = b′ .behind;
+          held = b′ .held;
+          leaves = λ x y p k st. b′ .leaves x y p k (untyped-stands p k st);
         }
 
     pub kind-bare : (6 < kind → ⊥) → (kind ≡ 3 → ⊥) → 4 ≤ kind
@@ -360,11 +417,16 @@ module _ (c : Cells) (seen : Seen) (s : List ℕ) (allow : ℕ) (e : TypeEnd) (q
         small (suc (suc (suc n))) u = absurd (u (omega arith))
 
     pub typed-bare : {d : Cells} {r : OneAnswer} → d ≡ cellsOf 0 0 0 → (6 < kind → ⊥) → (kind ≡ 3 → ⊥) → Bare s (e .next) (record { kind = kind; cells = d }) r → OneFed (untyped c) seen s allow r
-    typed-bare {d} f h n b = record {
+    typed-bare {d} f h n bare = let b = bare (untyped c) in record {
       is = λ p k st. known-state (bareFeed kind) p k (bare-feeds allow _ kind (drop (e .next) s) (coded-rule (seenOf seen) (e .acc)) is-kind h n .0) ∙ b .is p k tt;
       within = b .within;
       part = b .part;
       sound = b .sound;
       shaped = λ sh. b .shaped (bare-shape kind d (kind-bare h n) h f);
       plain = λ sh l. b .plain (bare-shape kind d (kind-bare h n) h f) l;
+      known = b .known;
+      stays = b .stays;
+      behind = b .behind;
+      held = b .held;
+      leaves = λ x y p k st. b .leaves x y p k tt;
     }

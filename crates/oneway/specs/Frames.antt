@@ -1,5 +1,5 @@
 -- The frames of a control stream behind its type, from a place of the piece on. Assumes nothing.
-use mathlib.Core.Path.{_≡_, refl, ap, _∙_, subst}
+use mathlib.Core.Path.{_≡_, refl, sym, ap, _∙_, subst}
 use Prim.Native.Nat.{ℕ, zero, suc, _+_, _-_, _≤_, _<_}
 use native.Mathlib.Omega.{arith}
 use mathlib.Core.List.{List, [], _++_}
@@ -30,7 +30,7 @@ use Rattle.streams.specs.Fed.{Fed}
 use Rattle.streams.specs.Apart.{controls, state-carried, control-fed}
 use Rattle.oneway.specs.declared.OneWay.{OneWay}
 use Rattle.oneway.specs.declared.OneAnswer.{OneAnswer}
-use Rattle.oneway.specs.Stands.{oneStateAt, oneState, oneAnswerAt, OneSoundAt, cellsOf, OneShapeAt, Says}
+use Rattle.oneway.specs.Stands.{oneStateAt, oneState, oneAnswerAt, OneSoundAt, OneSound, cellsOf, OneShapeAt, OneShape, StandsAt, Says}
 use Rattle.oneway.specs.Typed.{onePast}
 
 abbrev pub controlAt : Cells → OneWay
@@ -46,8 +46,8 @@ framesStand c p k = StandsIn c (place.of-control p) × Held (8 - c .mode) k
 abbrev pub framesFrom : (s : List ℕ) (at : ℕ) (c : Cells) (allow : ℕ) → Control → List ℕ → OneFeeding
 framesFrom s at c allow p k = onePast at (of-control (F.feed control allow (stateOf c p k) (drop at s)))
 
-abbrev pub Controlled : (s : List ℕ) (at : ℕ) (c : Cells) (allow : ℕ) → OneAnswer → Type 0
-Controlled s at c allow r = Says s (OneShapeAt 3 c) (framesStand c) (framesFrom s at c allow) r
+abbrev pub Controlled : (s : List ℕ) (at : ℕ) (before : OneWay) (c : Cells) (allow : ℕ) → OneAnswer → Type 0
+Controlled s at before c allow r = Says s before (OneShapeAt 3 c × OneShape before) (framesStand c) (framesFrom s at c allow) r
 
 pub frame-sane : (phase : ℕ) → 3 ≤ phase → Sane (frameCells phase) × (3 ≤ phase)
 frame-sane phase h = (
@@ -77,6 +77,18 @@ stands-place : (h n m : ℕ) {ph : ℕ} {q : Place} → Stands h n m ph q → (p
 unfolding placeAt
 stands-place h n m (a-place {phase = ph}) p e h′ n′ m′ = set-place h n m ph p e h′ n′ m′
 stands-place h n m (any-set k i) p e h′ n′ m′ = refl
+
+place-again : (h n m ph : ℕ) (p : Control) → placeOf ph h n m ≡ place.of-control p → (h′ n′ m′ : ℕ) → Stands h′ n′ m′ ph (place.of-control p)
+unfolding placeOf
+place-again h n m zero p e h′ n′ m′ = let z : _≡_ {A = ℕ} 0 1 = cc in absurd (omega arith)
+place-again h n m (suc zero) p e h′ n′ m′ = let z : _≡_ {A = ℕ} 0 1 = cc in absurd (omega arith)
+place-again h n m (suc (suc zero)) p e h′ n′ m′ = let z : _≡_ {A = ℕ} 0 1 = cc in absurd (omega arith)
+place-again h n m (suc (suc (suc zero))) p e h′ n′ m′ = let x : unset ≡ p = cc in rw (sym x) a-place
+place-again h n m (suc (suc (suc (suc k)))) p e h′ n′ m′ = let x : set no-settings none none ≡ p = cc in rw (sym x) (any-set k tt)
+
+stands-again : (h n m : ℕ) {ph : ℕ} {q : Place} → Stands h n m ph q → (p : Control) → q ≡ place.of-control p → (h′ n′ m′ : ℕ) → Stands h′ n′ m′ ph (place.of-control p)
+stands-again h n m (a-place {phase = ph}) p e h′ n′ m′ = place-again h n m ph p e h′ n′ m′
+stands-again h n m (any-set {p = q} k i) p e h′ n′ m′ = let s : Stands h′ n′ m′ (suc (suc (suc (suc k)))) q = any-set k i in subst (Stands h′ n′ m′ (suc (suc (suc (suc k))))) e s
 
 -- ---- what an answer says, a control stream's and from its place in the piece
 
@@ -231,9 +243,15 @@ none-held (suc n) = refl
 pub rest-fed : (s : List ℕ) (at : ℕ) (c : Cells) (allow : ℕ) (a : Answer) → Fed c (take (length s - at) (drop at s)) allow a → Fed c (drop at s) allow a
 rest-fed s at c allow a f = let e : take (length s - at) (drop at s) ≡ drop at s = take-all (length s - at) (drop at s) (let l = length-drop at s in omega arith) in rw e at f
 
-module _ (s : List ℕ) (at : ℕ) (c : Cells) (allow : ℕ) (a : Answer) (w : at ≤ length s) (sane : Sane c) (phase : 3 ≤ c .phase) (fed : Fed c (drop at s) allow a) where
+module _ (s : List ℕ) (at : ℕ) (before : OneWay) (c : Cells) (allow : ℕ) (a : Answer) (w : at ≤ length s) (sane : Sane c) (phase : 3 ≤ c .phase) (sound : OneSound before) (fed : Fed c (drop at s) allow a) where
   abbrev Controls : OneAnswer → Type 0
-  Controls r = Controlled s at c allow r
+  Controls r = Controlled s at before c allow r
+
+  left-stands : (p : Control) (k : List ℕ) → framesStand c p k → StandsAt 3 (a .cells) p
+  unfolding StandsAt
+  left-stands p k st =
+      subst (λ ph. Stands (a .cells .has) (a .cells .stated) (a .cells .sum) ph (place.of-control p)) (sym (fed .phase))
+      (stands-again (c .has) (c .stated) (c .sum) (st .0) p refl (a .cells .has) (a .cells .stated) (a .cells .sum))
 
   frames-are : (p : Control) (k : List ℕ) → framesStand c p k
       → F.feed control allow (stateOf c p k) (drop at s) ≡ map-feeding controls (answerAt (a .event) (a .start) (a .len) (a .used) (a .heads) (a .cells) (place.of-control p) k (drop at s))
@@ -285,15 +303,19 @@ module _ (s : List ℕ) (at : ℕ) (c : Cells) (allow : ℕ) (a : Answer) (w : a
   left-sane : (a .event ≡ 5 → ⊥) → Sane (a .cells) × (3 ≤ a .cells .phase)
   left-sane n = (fed .sane n, (let e = fed .phase in omega arith))
 
-  pub control-fault : a .event ≡ 4 → Controls (record { event = 4; start = at + a .used; len = a .len; used = at + a .used; heads = a .heads; payload = 0; stream = controlAt c })
-  unfolding OneSoundAt
+  pub control-fault : a .event ≡ 4 → Controls (record { event = 4; start = at + a .used; len = a .len; used = at + a .used; heads = a .heads; payload = 0; stream = before })
   control-fault e = record {
-    is = λ p k st. by-event 4 e p k st ∙ event-fault at s p k (a .start) (a .len) (a .used) (a .heads) (a .cells) (at + a .used) 0 (controlAt c);
+    is = λ p k st. by-event 4 e p k st ∙ event-fault at s p k (a .start) (a .len) (a .used) (a .heads) (a .cells) (at + a .used) 0 before;
     within = used-fits;
     part = inr refl;
-    sound = (sane, phase);
-    shaped = λ sh. sh;
+    sound = sound;
+    shaped = λ sh. sh .1;
     plain = λ sh h. absurd (omega arith);
+    known = omega arith;
+    stays = λ x. refl;
+    behind = λ x. absurd (omega arith);
+    held = λ x. absurd (omega arith);
+    leaves = λ x y p k st. absurd (x refl);
   }
 
   pub control-complete : {d : Cells} → a .event ≡ 5 → d ≡ frameCells 4
@@ -306,6 +328,11 @@ module _ (s : List ℕ) (at : ℕ) (c : Cells) (allow : ℕ) (a : Answer) (w : a
     sound = frame-sane 4 (omega arith);
     shaped = λ sh. (omega arith, λ h. absurd (omega arith));
     plain = λ sh h. absurd (omega arith);
+    known = omega arith;
+    stays = λ x. absurd (omega arith);
+    behind = λ x. refl;
+    held = λ x. absurd (omega arith);
+    leaves = λ x y p k st. absurd (y refl);
   })
 
   pub control-part : 6 ≤ a .event → Controls (record { event = 6; start = at + a .start; len = a .len; used = at + a .used; heads = a .heads; payload = 0; stream = controlAt (a .cells) })
@@ -315,8 +342,13 @@ module _ (s : List ℕ) (at : ℕ) (c : Cells) (allow : ℕ) (a : Answer) (w : a
     within = used-fits;
     part = inl (part-ends (λ x. omega arith));
     sound = left-sane (λ x. omega arith);
-    shaped = λ sh. left-shape sh (λ x. omega arith) (λ x. omega arith);
+    shaped = λ sh. left-shape (sh .0) (λ x. omega arith) (λ x. omega arith);
     plain = λ sh l. absurd (omega arith);
+    known = omega arith;
+    stays = λ x. absurd (omega arith);
+    behind = λ x. absurd (omega arith);
+    held = λ x. (refl, fed .held (let u = fed .known in omega arith));
+    leaves = λ x y p k st. left-stands p k st;
   }
 
   pub control-low : a .event < 4 → Controls (record { event = a .event; start = at + a .start; len = a .len; used = at + a .used; heads = a .heads; payload = 0; stream = controlAt (a .cells) })
@@ -326,6 +358,11 @@ module _ (s : List ℕ) (at : ℕ) (c : Cells) (allow : ℕ) (a : Answer) (w : a
     within = used-fits;
     part = inl (part-ends (λ x. omega arith));
     sound = left-sane (λ x. omega arith);
-    shaped = λ sh. left-shape sh (λ x. omega arith) (λ x. omega arith);
-    plain = feed-plain;
+    shaped = λ sh. left-shape (sh .0) (λ x. omega arith) (λ x. omega arith);
+    plain = λ sh l. feed-plain (sh .0) l;
+    known = omega arith;
+    stays = λ x. absurd (omega arith);
+    behind = λ x. absurd (omega arith);
+    held = λ x. absurd (omega arith);
+    leaves = λ x y p k st. left-stands p k st;
   }

@@ -100,15 +100,28 @@ OneShapeAt (suc (suc (suc (suc n)))) c = (c ≡ cellsOf 0 0 0) × (n ≤ 2)
 abbrev pub OneShape : OneWay → Type 0
 OneShape w = OneShapeAt (w .kind) (w .cells)
 
--- what an answer must be, given what was wanted of it; `shape` is that of the stream before
-pub record Says (s : List ℕ) (shape : Type 0) (stands : Control → List ℕ → Type 0) (want : Control → (sofar : List ℕ) → OneFeeding) (r : OneAnswer) : Type 0 where
+-- where a stream of this kind may stand
+unfoldable pub StandsAt : (kind : ℕ) → Cells → Control → Type 0
+StandsAt zero c p = Unit {0}
+StandsAt (suc zero) c p = Unit {0}
+StandsAt (suc (suc zero)) c p = p ≡ unset
+StandsAt (suc (suc (suc zero))) c p = StandsIn c (both.of-control p)
+StandsAt (suc (suc (suc (suc n)))) c p = Unit {0}
+
+-- what an answer must be, given what was wanted of it: `before` is the stream before, `shape` says of its numbers what only these calls leave
+pub record Says (s : List ℕ) (before : OneWay) (shape : Type 0) (stands : Control → List ℕ → Type 0) (want : Control → (sofar : List ℕ) → OneFeeding) (r : OneAnswer) : Type 0 where
   pub is : (p : Control) (k : List ℕ) → stands p k → want p k ≡ oneAnswerOf r p k s
   pub within : r .used ≤ length s
   pub part : r .start + r .len ≡ r .used ⊎ r .event ≡ 4
   pub sound : OneSound (r .stream)
   pub shaped : shape → OneShape (r .stream)
   pub plain : shape → r .event < 4 → r .event ≡ 0
+  pub known : r .event ≤ 7
+  pub stays : r .event ≡ 4 → r .stream ≡ before  -- a fault leaves the stream as it was
+  pub behind : r .event ≡ 5 → r .stream ≡ record { kind = 3; cells = cellsOf 0 0 4 }  -- where it stands once the payload is judged good
+  pub held : r .event ≡ 6 → (r .stream .kind ≡ 3) × (8 ≤ r .stream .cells .mode)  -- a part is kept of a kept payload alone
+  pub leaves : (r .event ≡ 4 → ⊥) → (r .event ≡ 5 → ⊥) → (p : Control) (k : List ℕ) → stands p k → StandsAt (r .stream .kind) (r .stream .cells) p
 
 -- WHAT A FEED OF A ONE-WAY STREAM ANSWERS: the definition's feed, from every state that the numbers stand for
 abbrev pub OneFed : OneWay → Seen → (s : List ℕ) (allow : ℕ) → OneAnswer → Type 0
-OneFed w seen s allow r = Says s (OneShape w) (OneStands (w .kind) (w .cells)) (λ p k. feed (seenOf seen) allow (oneState w p k) s) r
+OneFed w seen s allow r = Says s w (OneShape w) (OneStands (w .kind) (w .cells)) (λ p k. feed (seenOf seen) allow (oneState w p k) s) r

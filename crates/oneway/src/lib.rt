@@ -124,10 +124,10 @@ fn cells(acc: u64, due: u64, phase: u64) -> Cells
     }
 }
 
-// The frames of a control stream, from at on.
-fn control(s: &[u8], at: usize, c: Cells, allow: u64) -> OneAnswer
-    requires { ⌜ (at ≤ length (now s)) × Sane c × (3 ≤ c .phase) ⌝ }
-    ensures { λ r. ⌜ Controlled (now (s .entry)) at c allow r ⌝ }
+// The frames of a control stream, from at on; w is the stream before.
+fn control(s: &[u8], at: usize, w: OneWay, c: Cells, allow: u64) -> OneAnswer
+    requires { ⌜ (at ≤ length (now s)) × Sane c × (3 ≤ c .phase) × OneSound w ⌝ }
+    ensures { λ r. ⌜ Controlled (now (s .entry)) at w c allow r ⌝ }
 {
     let rest = &s[at..];
     let a = streams::feed(rest, c, allow);
@@ -153,7 +153,7 @@ fn control(s: &[u8], at: usize, c: Cells, allow: u64) -> OneAnswer
             used: at + a.used,
             heads: a.heads,
             payload: 0,
-            stream: OneWay { kind: 3, cells: c },
+            stream: w,
         }
     } else if a.event == 5 {
         OneAnswer {
@@ -251,7 +251,13 @@ fn typed(s: &[u8], c: Cells, seen: Seen, allow: u64) -> OneAnswer
         };
     }
     if kind == 3 {
-        return control(s, e.next, cells(0, 0, 3), allow);
+        return control(
+            s,
+            e.next,
+            OneWay { kind: 2, cells: c },
+            cells(0, 0, 3),
+            allow,
+        );
     }
     bare(
         s,
@@ -272,7 +278,7 @@ pub fn feed(s: &[u8], w: OneWay, seen: Seen, allow: u64) -> OneAnswer
     if w.kind == 2 {
         typed(s, c, seen, allow)
     } else if w.kind == 3 {
-        control(s, 0, c, allow)
+        control(s, 0, w, c, allow)
     } else {
         bare(s, 0, w)
     }

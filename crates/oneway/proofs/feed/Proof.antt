@@ -15,7 +15,7 @@ typed-requires c κs = let w = c .before .before .before .before .args .w in sou
 
 -- src/lib.rt:274:9
 control-requires : tie.Need-control-requires
-control-requires c κs = let w = c .before .before .before .before .before .before .args .w in let q = sound-control (w .kind) (w .cells) (c .before .before .before .before .before .before .pre) (c .if2 .taken) in (omega arith, q .0, q .1)
+control-requires c κs = let w = c .before .before .before .before .before .before .args .w in let q = sound-control (w .kind) (w .cells) (c .before .before .before .before .before .before .pre) (c .if2 .taken) in (omega arith, q .0, q .1, c .before .before .before .before .before .before .pre)
 
 -- src/lib.rt:276:9
 bare-requires : tie.Need-bare-requires

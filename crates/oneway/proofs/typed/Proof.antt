@@ -43,7 +43,7 @@ cells-requires-2 c κs = search needs
 
 -- src/lib.rt:253:9
 control-requires : tie.Need-control-requires
-control-requires c κs = let a = c .before .before .before .before .before .before .before .before .args in frames-ask (a .c) (a .seen) (now (a .s)) (a .allow) (c .before .before .before .before .before .before .type-on .result) (c .before .before .before .before .before .before .type-on .ensures) (c .before .before .before .before .if1 .left) (c .before .before .before .kind-of .ensures) (c .cells2 .ensures)
+control-requires c κs = let a = c .before .before .before .before .before .before .before .before .args in frames-ask (a .c) (a .seen) (now (a .s)) (a .allow) (c .before .before .before .before .before .before .type-on .result) (c .before .before .before .before .before .before .type-on .ensures) (c .before .before .before .before .if1 .left) (c .before .before .before .kind-of .ensures) (c .before .before .before .before .before .before .before .before .pre) (c .cells2 .ensures)
 
 -- src/lib.rt:253:9
 returns-3 : tie.Need-returns-3
