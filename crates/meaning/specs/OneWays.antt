@@ -445,9 +445,13 @@ holds-reads seen {bytes} (h-control {next = next} {rest = rest} {s = s} e r c q)
 holds-reads seen (h-qpack e r f n) = tt
 holds-reads seen (h-skipped e r f q n) = tt
 
--- whatever the calls, where a one-way stream is not refused, a byte and an allowance move it
-pub always-moves : (seen : List ℕ) (cs : List Call) (s : OneState) → calls seen nothing-done cs .after ≡ lives s → (n b : ℕ) (bs : List ℕ) → 1 ≤ feed seen (suc n) s (b ∷ bs) .used
-always-moves seen cs s e n b bs =
+-- whatever the calls, where a one-way stream is not refused, no section is due on it
+pub always-reads : (seen : List ℕ) (cs : List Call) (s : OneState) → calls seen nothing-done cs .after ≡ lives s → ReadsOnOne s
+always-reads seen cs s e =
     let d = calls seen nothing-done cs in
     let h = calls-hold seen nothing-done cs (first-holds seen) in
-    one-moves seen n b s bs (holds-reads seen (subst (Holds seen (d .bytes) (d .frames) (d .qpack) (d .heads)) e h))
+    holds-reads seen (subst (Holds seen (d .bytes) (d .frames) (d .qpack) (d .heads)) e h)
+
+-- and a byte and an allowance move it
+pub always-moves : (seen : List ℕ) (cs : List Call) (s : OneState) → calls seen nothing-done cs .after ≡ lives s → (n b : ℕ) (bs : List ℕ) → 1 ≤ feed seen (suc n) s (b ∷ bs) .used
+always-moves seen cs s e n b bs = one-moves seen n b s bs (always-reads seen cs s e)

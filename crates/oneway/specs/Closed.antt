@@ -13,7 +13,7 @@ use Rattle.rules.specs.OneWay.{OneWay, untyped, refused, of-control, of-qpack, 
 use Rattle.meaning.specs.Machine.{fresh, need, State, in-type, in-length, in-payload, due, Outcome, finish, finished, settled, supplied, between}
 use Rattle.meaning.specs.OneWayFeed.{OneState, in-stream-type, in-control, in-qpack, in-skipped, lives, dies, controlled, Call, nothing-done, calls, Done}
 use Rattle.meaning.specs.EveryFeed.{ReadsOn}
-use Rattle.meaning.specs.OneWays.{Came, still-untyped, type-refused, a-control-stream, a-qpack-stream, a-skipped-stream, calls-read, ReadsOnOne}
+use Rattle.meaning.specs.OneWays.{Came, still-untyped, type-refused, a-control-stream, a-qpack-stream, a-skipped-stream, calls-read, ReadsOnOne, always-reads}
 use Rattle.varint.specs.ByByte.{prog}
 use Rattle.streams.specs.declared.Cells.{Cells}
 use Rattle.streams.specs.Uses.{any-set}
@@ -99,9 +99,9 @@ closed-at seen d s w (a-control-stream (Outcome.dies code) a f q h v) e r = let 
 closed-at seen d s w (a-qpack-stream {q = q} a f n) e r = let x : s ≡ in-qpack q = cc in rw x refl
 closed-at seen d s w (a-skipped-stream a f q n) e r = let x : s ≡ in-skipped = cc in rw x refl
 
--- A ONE-WAY STREAM'S END: whatever the feeds were, closing it answers what the bytes consumed mean (no section is due on it)
-pub closed-is : (seen : List ℕ) (cs : List Call) (s : OneState) → let d = calls seen nothing-done cs in d .after ≡ lives s → ReadsOnOne s → closeNumber (closed (oneWay seen (d .bytes))) ≡ closes s
-closed-is seen cs s e r = let d = calls seen nothing-done cs in closed-at seen d s (oneWay seen (d .bytes)) (calls-read seen cs) e r
+-- A ONE-WAY STREAM'S END: whatever the feeds were, closing it answers what the bytes consumed mean
+pub closed-is : (seen : List ℕ) (cs : List Call) (s : OneState) → let d = calls seen nothing-done cs in d .after ≡ lives s → closeNumber (closed (oneWay seen (d .bytes))) ≡ closes s
+closed-is seen cs s e = let d = calls seen nothing-done cs in closed-at seen d s (oneWay seen (d .bytes)) (calls-read seen cs) e (always-reads seen cs s e)
 
 -- ---- behind a judged payload
 

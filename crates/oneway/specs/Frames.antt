@@ -152,11 +152,17 @@ module _ (at : ℕ) (s : List ℕ) (p : Control) (k : List ℕ) (start len used 
 
 -- ---- nothing is handed over on a control stream, and no section is ever due
 
-abbrev Unseen : Use → Type 0
-Unseen content = ⊥
-Unseen skipped = Unit {0}
-Unseen (section t) = ⊥
-Unseen (kept f) = Unit {0}
+abbrev Unseen : Use → List ℕ → Type 0
+Unseen content k = ⊥
+Unseen skipped k = Unit {0}
+Unseen (section t) k = ⊥
+Unseen (kept f) k = Unit {0}
+
+clear : (u : Use) (k : List ℕ) → Unseen u k → Unseen u []
+clear content k h = h
+clear skipped k h = h
+clear (section t) k h = h
+clear (kept f) k h = h
 
 abbrev Any : ℕ → Type 0
 Any code = Unit {0}
@@ -171,7 +177,7 @@ any-next (stop code) = tt
 any-next (go p) = tt
 
 control-within : (n : ℕ) (s : State Control) → StateWithin Unseen s → (bs : List ℕ) → FeedWithin Unseen Any (F.feed control n s bs)
-control-within n s h bs = feed-within control Unseen Any (λ c t len. viewed (control-view c t len)) (λ k c payload. any-next (judged k c payload)) n s h bs
+control-within n s h bs = feed-within control Unseen Any clear (λ f k b h. h) (λ c t len. viewed (control-view c t len)) (λ k c payload. any-next (judged k c payload)) n s h bs
 
 mode-within : (mode a d t : ℕ) (p : Control) (k : List ℕ) → (3 ≤ mode → 8 ≤ mode) → StateWithin Unseen (stateAt mode a d t p k)
 unfolding stateAt headState

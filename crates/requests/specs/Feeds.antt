@@ -60,16 +60,16 @@ module _ (a d t : ℕ) (m : Message) (k : List ℕ) (x y : Reply) where
 
 -- ---- modes
 
-plain-mode : (mode a d t : ℕ) (m : Message) (k : List ℕ) → mode ≤ 7 → Plain (stateAt mode a d t m k)
+pub plain-mode : (mode a d t : ℕ) (m : Message) (k : List ℕ) → mode ≤ 7 → Plain (stateAt mode a d t m k)
 unfolding stateAt headState
 plain-mode zero a d t m k h = tt
 plain-mode (suc zero) a d t m k h = tt
-plain-mode (suc (suc zero)) a d t m k h = tt
-plain-mode (suc (suc (suc zero))) a d t m k h = tt
-plain-mode (suc (suc (suc (suc zero)))) a d t m k h = tt
-plain-mode (suc (suc (suc (suc (suc zero))))) a d t m k h = tt
-plain-mode (suc (suc (suc (suc (suc (suc zero)))))) a d t m k h = tt
-plain-mode (suc (suc (suc (suc (suc (suc (suc zero))))))) a d t m k h = tt
+plain-mode (suc (suc zero)) a d t m k h = refl
+plain-mode (suc (suc (suc zero))) a d t m k h = refl
+plain-mode (suc (suc (suc (suc zero)))) a d t m k h = refl
+plain-mode (suc (suc (suc (suc (suc zero))))) a d t m k h = refl
+plain-mode (suc (suc (suc (suc (suc (suc zero)))))) a d t m k h = refl
+plain-mode (suc (suc (suc (suc (suc (suc (suc zero))))))) a d t m k h = refl
 plain-mode (suc (suc (suc (suc (suc (suc (suc (suc z)))))))) a d t m k h = absurd (omega arith)
 
 mode-plain : (mode a d t : ℕ) (m : Message) (k : List ℕ) → Plain (stateAt mode a d t m k) → mode ≤ 7

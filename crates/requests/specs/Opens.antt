@@ -1,25 +1,31 @@
 -- An open request's record is the record of its state; a request begins so. Assumes nothing.
 use mathlib.Core.Path.{_≡_, refl, sym, ap, _∙_}
-use Prim.Native.Nat.{ℕ, _%_, _<_, _^_}
+use Prim.Native.Nat.{ℕ, suc, _-_, _%_, _<_, _^_}
 use native.Mathlib.Omega.{arith}
-use mathlib.Core.List.{[]}
-use Rattle.rules.specs.Message.{opening}
-use Rattle.meaning.specs.Machine.{between}
+use mathlib.Core.List.{List, []}
+use mathlib.Core.Option.{Option, none, some}
+use Rattle.rules.specs.Reading.{header-section, trailers, content, skipped, section, kept}
+use Rattle.rules.specs.Message.{Message, opening, body, trailed}
+use Rattle.rules.specs.Request.{document, request}
+use Rattle.meaning.specs.Machine.{Prog, fresh, need, State, in-type, in-length, in-payload, due, lives, between}
+use Rattle.meaning.specs.Feed.{feed}
 use Rattle.meaning.specs.Hom.{map-state}
 use Rattle.varint.specs.ByByte.{prog, partOf, fresh-good}
 use Rattle.streams.specs.Both.{of-request}
-use Rattle.streams.specs.Uses.{placeOf}
+use Rattle.streams.specs.Uses.{statedOf, placeOf}
 use Rattle.streams.specs.Heads.{headState}
 use Rattle.streams.specs.Answers.{stateAt, stateOf}
 use Rattle.streams.specs.Apart.{message, state-carried}
 use Rattle.record.specs.declared.Record.{Record}
-use Rattle.record.specs.Row.{phaseOf, statedIn, isStated, lengthOf, sumIn, numbersOf, placeIn, recordOf, requestRecord}
+use Rattle.record.specs.Row.{phaseOf, statedIn, isStated, lengthOf, sumIn, modeOf, dueMode, numbersOf, placeIn, recordOf, requestRecord}
 use Rattle.record.specs.Sound.{cellsIn, ownPlace}
 use Rattle.record.specs.Tests.{request-shape, sane-with}
 use Rattle.record.specs.Same.{sound-is}
 use Rattle.requests.specs.Reply.{Open, stateIn}
 use Rattle.requests.specs.Answered.{own-stands}
 use Rattle.requests.specs.Told.{phase-low}
+use Rattle.requests.specs.Plain.{Plain, plain-feed}
+use Rattle.requests.specs.Feeds.{plain-mode}
 
 -- THE RECORD IS ITS STATE'S
 pub open-is : (r : Record) → Open r → r ≡ requestRecord (r .id) (stateIn r)
@@ -50,3 +56,69 @@ begins-open id l e = record {
 pub begins-fresh : (id : ℕ) → stateIn (requestRecord id (between opening)) ≡ between opening
 unfolding map-state numbersOf placeIn partOf phaseOf statedIn isStated lengthOf sumIn stateAt headState prog placeOf message
 begins-fresh id = refl
+
+-- ---- a record's state is the state that was written
+
+stated-back : (o : Option ℕ) → statedOf (isStated o) (lengthOf o) ≡ o
+unfolding statedOf isStated lengthOf
+stated-back none = refl
+stated-back (some n) = refl
+
+-- the place that the numbers of a message say
+abbrev place-said : Message → Message
+place-said m = let p = of-request m in message (placeOf (phaseOf p) (isStated (statedIn p)) (lengthOf (statedIn p)) (sumIn p))
+
+message-back : (m : Message) → place-said m ≡ m
+unfolding message placeOf phaseOf statedIn sumIn
+message-back opening = refl
+message-back (body stated sum) = ap (λ o. body o sum) (stated-back stated)
+message-back (trailed stated sum) = ap (λ o. trailed o sum) (stated-back stated)
+
+prog-back : (g : Prog) → prog (partOf g .due) (partOf g .acc) ≡ g
+unfolding prog partOf
+prog-back fresh = refl
+prog-back (need k v) = refl
+
+one-less : (n : ℕ) → suc n - 1 ≡ n
+one-less n = omega arith
+
+numbers-back : {P : Type 0} (s : State P) → Plain s → let h = numbersOf s in stateAt (h .mode) (h .acc) (h .due) (h .ftype) (placeIn s) [] ≡ s
+unfolding numbersOf placeIn stateAt headState modeOf dueMode
+numbers-back (in-type g p) h = ap (λ x. in-type x p) (prog-back g)
+numbers-back (in-length t g p) h = ap (λ x. in-length t x p) (prog-back g)
+numbers-back (in-payload content k left p) h = let n = one-less left in rw (n, h) refl
+numbers-back (in-payload skipped k left p) h = let n = one-less left in rw (n, h) refl
+numbers-back (in-payload (section header-section) k left p) h = let n = one-less left in rw (n, h) refl
+numbers-back (in-payload (section trailers) k left p) h = let n = one-less left in rw (n, h) refl
+numbers-back (in-payload (kept f) k left p) h = absurd h
+numbers-back (due header-section p) h = refl
+numbers-back (due trailers p) h = refl
+
+same-numbers : (s : State Message) → numbersOf (map-state of-request s) ≡ numbersOf s
+unfolding numbersOf map-state
+same-numbers (in-type g p) = refl
+same-numbers (in-length t g p) = refl
+same-numbers (in-payload u k left p) = refl
+same-numbers (due t p) = refl
+
+same-place : (s : State Message) → placeIn (map-state of-request s) ≡ of-request (placeIn s)
+unfolding placeIn map-state
+same-place (in-type g p) = refl
+same-place (in-length t g p) = refl
+same-place (in-payload u k left p) = refl
+same-place (due t p) = refl
+
+-- THE STATE IS ITS RECORD'S: what a feed leaves is what the next one begins with
+pub state-back : (id : ℕ) (s : State Message) → Plain s → stateIn (requestRecord id s) ≡ s
+state-back id s h =
+    let a = same-numbers s in
+    let b = same-place s in
+    let c = message-back (placeIn s) in
+    rw (a, b, c) (numbers-back s h)
+
+pub open-plain : (r : Record) → Open r → Plain (stateIn r)
+open-plain r o = let c = cellsIn r in plain-mode (c .mode) (c .acc) (c .due) (c .ftype) (message (ownPlace c)) [] (o .sound .fit .shaped .request-mode (o .kind))
+
+-- FEED AFTER FEED: the record that an accepted feed leaves stands for the very state that the definition's feed leaves
+pub feeds-on : (r : Record) → Open r → (allow : ℕ) (piece : List ℕ) (s : State Message) → feed (request document) allow (stateIn r) piece .after ≡ lives s → stateIn (requestRecord (r .id) s) ≡ s
+feeds-on r o allow piece s e = state-back (r .id) s (plain-feed document allow (stateIn r) (open-plain r o) piece .plain s e)

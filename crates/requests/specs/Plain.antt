@@ -1,7 +1,7 @@
 -- A request keeps no payload: what its feed says and leaves, and the codes it stops with. Assumes nothing.
-use mathlib.Core.Path.{_≡_, subst}
+use mathlib.Core.Path.{_≡_, refl, subst}
 use Prim.Native.Nat.{ℕ, _≤_}
-use mathlib.Core.List.{List}
+use mathlib.Core.List.{List, []}
 use Rattle.rules.specs.Reading.{Kept, Use, content, skipped, section, kept, Ruling, Next}
 use Rattle.rules.specs.Message.{Message}
 use Rattle.rules.specs.Request.{Rules, request, rule}
@@ -10,11 +10,18 @@ use Rattle.meaning.specs.Feed.{taken, Feeding, feed}
 use Rattle.meaning.specs.RequestLaws.{RuleView, r-refused, r-skipped, r-content, r-header, r-trailers, rule-view}
 use Rattle.meaning.specs.FeedUses.{RulesWithin, JudgesWithin, StateWithin, OutcomeWithin, EventWithin, FeedWithin, feed-within}
 
-abbrev Handed : Use → Type 0
-Handed content = Unit {0}
-Handed skipped = Unit {0}
-Handed (section t) = Unit {0}
-Handed (kept f) = ⊥
+-- nothing is kept of a payload that is handed over or skipped
+abbrev Handed : Use → List ℕ → Type 0
+Handed content k = k ≡ []
+Handed skipped k = k ≡ []
+Handed (section t) k = k ≡ []
+Handed (kept f) k = ⊥
+
+clear : (u : Use) (k : List ℕ) → Handed u k → Handed u []
+clear content k h = refl
+clear skipped k h = refl
+clear (section t) k h = refl
+clear (kept f) k h = absurd h
 
 abbrev pub Plain : {P : Type 0} → State P → Type 0
 Plain s = StateWithin Handed s
@@ -29,15 +36,15 @@ pub record Plainly (f : Feeding Message) : Type 0 where
 
 viewed : (t len : ℕ) (m : Message) {r : Ruling Message} → RuleView t len m r → RulesWithin Handed High r
 viewed t len m (r-refused h) = h
-viewed t len m (r-skipped u) = tt
-viewed t len m (r-content z e) = tt
-viewed t len m (r-header z l) = tt
-viewed t len m (r-trailers z l) = tt
+viewed t len m (r-skipped u) = refl
+viewed t len m (r-content z e) = refl
+viewed t len m (r-header z l) = refl
+viewed t len m (r-trailers z l) = refl
 
 -- A REQUEST'S FEED KEEPS NOTHING, and stops with a code of the protocol
 pub plain-feed : (R : Rules) (n : ℕ) (s : State Message) → Plain s → (bs : List ℕ) → Plainly (feed (request R) n s bs)
 plain-feed R n s h bs =
-    let w = feed-within (request R) Handed High (λ m t len. viewed t len m (rule-view m t len)) (λ k m payload. tt) n s h bs in
+    let w = feed-within (request R) Handed High clear (λ f k b h. absurd h) (λ m t len. viewed t len m (rule-view m t len)) (λ k m payload. tt) n s h bs in
     record {
       untold = λ k payload e. subst (EventWithin Handed) e (w .event);
       plain = λ t e. subst (OutcomeWithin Handed High) e (w .after);
