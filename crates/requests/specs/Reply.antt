@@ -91,18 +91,18 @@ readAs r s (readable block) = takenAs r (given (request document) block s)
 abbrev pub givenAs : Record → (block : List ℕ) → State Message → Reply
 givenAs r block s = unlessDue s (readAs r s (lines block)) (refused 5 r)
 
--- THE END: event 8, the request is whole
+-- THE END: event 11, the request is whole
 unfoldable pub endedBy : Record → Verdict → Reply
-endedBy r whole = reply 0 8 0 0 0 0 free-record
+endedBy r whole = reply 0 11 0 0 0 0 free-record
 endedBy r (fault code place) = refused code (leftBy code r)
 endedBy r (waits place) = refused 4 r
 
 abbrev pub endedAs : Record → State Message → Reply
 endedAs r s = endedBy r (finish (request document) 0 s)
 
--- A RESET: event 9, whatever the state
+-- A RESET: event 12, freed, whatever the state
 abbrev pub resetAs : Record → State Message → Reply
-resetAs r s = reply 0 9 0 0 0 0 free-record
+resetAs r s = reply 0 12 0 0 0 0 free-record
 
 -- ---- an answer to any record
 

@@ -48,7 +48,7 @@ sober (in-payload u k left m) = lit≤ tt
 sober (due t m) = tt
 
 module _ (r : Record) (n : ℕ) where
-  by-whole : (v : Verdict) → Sober v → n ≡ verdictNumber v → n ≡ 0 → reply 0 8 0 0 0 0 free-record ≡ endedBy r v
+  by-whole : (v : Verdict) → Sober v → n ≡ verdictNumber v → n ≡ 0 → reply 0 11 0 0 0 0 free-record ≡ endedBy r v
   unfolding verdictNumber endedBy
   by-whole whole h e z = refl
   by-whole (fault code place) h e z = absurd (omega arith)
@@ -69,11 +69,11 @@ module _ (r : Record) (o : Open r) where
       e (of-request (message (ownPlace c))) [] (own-stands c phase-low)
       ∙ ap endOf (sym (state-carried of-request (c .mode) (c .acc) (c .due) (c .ftype) (message (ownPlace c)) [])) ∙ request-end document 0 (stateIn r)
 
-  pub end-whole : {n : ℕ} {a : Reply} {q : Record} {d : Cells} → d ≡ cellsIn r → Ends d n → n ≡ 0 → q ≡ free-record → a ≡ reply 0 8 0 0 0 0 q → Answered r (endedAs r) a
-  end-whole {n} w e z f g = opened o (g ∙ ap (reply 0 8 0 0 0 0) f ∙ by-whole r n (finish (request document) 0 (stateIn r)) (sober (stateIn r)) (end-number w e) z)
+  pub end-whole : {n : ℕ} {a : Reply} {q : Record} {d : Cells} → d ≡ cellsIn r → Ends d n → n ≡ 0 → q ≡ free-record → a ≡ reply 0 11 0 0 0 0 q → Answered r (endedAs r) a
+  end-whole {n} w e z f g = opened o (g ∙ ap (reply 0 11 0 0 0 0) f ∙ by-whole r n (finish (request document) 0 (stateIn r)) (sober (stateIn r)) (end-number w e) z)
 
   pub end-code : {n : ℕ} {a : Reply} {q : Record} {d : Cells} → d ≡ cellsIn r → Ends d n → (n ≡ 0 → ⊥) → q ≡ leftBy n r → a ≡ refused n q → Answered r (endedAs r) a
   end-code {n} w e z f g = opened o (g ∙ ap (refused n) f ∙ by-code r n (finish (request document) 0 (stateIn r)) (sober (stateIn r)) (end-number w e) z)
 
-  pub reset-open : {a : Reply} {q : Record} → q ≡ free-record → a ≡ reply 0 9 0 0 0 0 q → Answered r (resetAs r) a
-  reset-open f g = opened o (g ∙ ap (reply 0 9 0 0 0 0) f)
+  pub reset-open : {a : Reply} {q : Record} → q ≡ free-record → a ≡ reply 0 12 0 0 0 0 q → Answered r (resetAs r) a
+  reset-open f g = opened o (g ∙ ap (reply 0 12 0 0 0 0) f)

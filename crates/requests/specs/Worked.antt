@@ -55,8 +55,8 @@ rows =
     ∷ row (ends-in (in-type (need 0 0) opening)) (refused 0x0106 (at (in-type (need 0 0) opening)))  -- frees the record of a connection fault
     ∷ row (ends-in (due header-section opening)) (refused 4 (at (due header-section opening)))  -- ends while a section is due
     ∷ row (ends-in (between (body (some 5) 4))) (refused 0x010e free-record)  -- takes half an upload for a whole one
-    ∷ row (ends-in (between (body (some 5) 5))) (reply 0 8 0 0 0 0 free-record)  -- keeps the record of a whole request
-    ∷ row (resetAs (at (due header-section opening)) (due header-section opening)) (reply 0 9 0 0 0 0 free-record)  -- gives 4 to a reset
+    ∷ row (ends-in (between (body (some 5) 5))) (reply 0 11 0 0 0 0 free-record)  -- keeps the record of a whole request
+    ∷ row (resetAs (at (due header-section opening)) (due header-section opening)) (reply 0 12 0 0 0 0 free-record)  -- gives 4 to a reset
     ∷ []
 
 pub worked : map (λ (r : Row). r .asked) rows ≡ map (λ (r : Row). r .says) rows

@@ -7,7 +7,7 @@ ghost use Rattle.record.specs.Sound.{stream, Written};
 ghost use Rattle.requests.specs.Reply.{reply, leftBy, fedAs, givenAs, endedAs, resetAs, Answered, Keeps};
 
 // number 0: accepted; 1: not an open request; 4, 5, 6; else the code. event 0: none, 1: content, 2: section bytes, 3: the last of them,
-// 8: the request is whole, 9: reset. A part is len bytes of the piece from start on. used and heads: bytes and frame headers of the piece.
+// 11: the request is whole, 12: freed. A part is len bytes of the piece from start on. used and heads: bytes and frame headers of the piece.
 pub struct Reply {
     pub number: u64,
     pub event: u64,
@@ -64,7 +64,7 @@ pub fn reset(r: Record) -> Reply
 {
     let s = record::read(r);
     if s.kind == 1 {
-        told(0, 9, record::free())
+        told(0, 12, record::free())
     } else {
         told(1, 0, r)
     }
@@ -79,7 +79,7 @@ pub fn end(r: Record) -> Reply
         let c = s.cells;
         let n = streams::end(c);
         if n == 0 {
-            told(0, 8, record::free())
+            told(0, 11, record::free())
         } else {
             told(n, 0, left(n, r))
         }
