@@ -402,13 +402,22 @@ pub fn read(r: Record) -> Stream
     }
 }
 
-// The one record of a stream's state; of what is no open stream, a free record.
+// The one record of an open stream's state.
+pub fn row(s: Stream) -> Record
+    requires { ⌜ Fit (s .kind) (s .id) (s .cells) ⌝ }
+    ensures { λ r. ⌜ Written s r ⌝ }
+{
+    let c = s.cells;
+    record_at(s.kind, s.id, tidy(c))
+}
+
+// The same of any stream; of what is no open one, a free record.
 pub fn write(s: Stream) -> Record
     ensures { λ r. ⌜ Written s r ⌝ }
 {
     let c = s.cells;
     if fits(s.kind, s.id, c) {
-        record_at(s.kind, s.id, tidy(c))
+        row(s)
     } else {
         free()
     }

@@ -221,6 +221,9 @@ module _ (r : Record) (o : Open r) (piece : List ℕ) (allow : ℕ) where
           let e = state-carried message (d .mode) (d .acc) (d .due) (d .ftype) (of-request next) (l .0) in
           mode-plain (d .mode) (d .acc) (d .due) (d .ftype) next (l .0) (subst Plain e (plainly .plain _ (l .1)))
 
+      pub feed-fit : Fit 1 (r .id) (ans .cells)
+      feed-fit = fit r o (ans .cells) low low-mode (fed .sane not-taken)
+
       module _ (w : Record) (written : Written (stream 1 (r .id) (ans .cells)) w) where
         row : (l : List ℕ) → w ≡ requestRecord (r .id) (map-state message (stateOf (ans .cells) (of-request next) l))
         row l = w-row r o (ans .cells) low low-mode (fed .sane not-taken) w written l

@@ -183,16 +183,22 @@ between-mode (suc (suc (suc (suc (suc (suc (suc zero))))))) a d t p k e = omega 
 between-mode (suc (suc (suc (suc (suc (suc (suc (suc z)))))))) a d t p k e = let z : _≡_ {A = ℕ} 0 1 = cc in absurd (omega arith)
 
 module _ (r : Record) (o : Open r) (g : Given) {x : Reply} where
+  taken-fit : Meant r g x → g .number ≡ 0 → Fit 1 (r .id) (g .cells)
+  taken-fit (turned n z e f) q = absurd (z (sym e ∙ q))
+  taken-fit (took m z st state sane f) q =
+      let d = g .cells in
+      let h = o .sound .fit .shaped in
+      record {
+        sane = sane;
+        shaped = request-shape (r .id) d (h .ids) (h .request-id (o .kind)) (stands-low m st refl) (between-mode (d .mode) (d .acc) (d .due) (d .ftype) (of-request m) [] (state (of-request m) []));
+      }
+
   by-taken : Meant r g x → g .number ≡ 0 → (w : Record) → Written (stream 1 (r .id) (g .cells)) w → (refused 0 w ≡ x) × Open w
   unfolding map-state
   by-taken (turned n z e f) q w written = absurd (z (sym e ∙ q))
   by-taken (took m z st state sane f) q w written =
       let d = g .cells in
-      let h = o .sound .fit .shaped in
-      let fit : Fit 1 (r .id) d = record {
-        sane = sane;
-        shaped = request-shape (r .id) d (h .ids) (h .request-id (o .kind)) (stands-low m st refl) (between-mode (d .mode) (d .acc) (d .due) (d .ftype) (of-request m) [] (state (of-request m) []));
-      } in
+      let fit = taken-fit (took m z st state sane f) q in
       let e : w ≡ requestRecord (r .id) (between m) = written-as (stream 1 (r .id) d) w written fit (of-request m) [] st ∙ ap (recordOf 1 (r .id)) (state (of-request m) []) in
       (ap (refused 0) e ∙ f, record { sound = written-sound (stream 1 (r .id) d) w fit written; kind = ap (λ y. y .kind) e })
 
@@ -203,6 +209,9 @@ module _ (r : Record) (o : Open r) (g : Given) {x : Reply} where
 module _ (r : Record) (o : Open r) (block : List ℕ) (g : Given) (is : g ≡ givenOf (cellsIn r) block) where
   meant : Meant r g (givenAs r block (stateIn r))
   meant = rw is (given-by r o block (due-view (cellsIn r .mode)))
+
+  pub give-fit : g .number ≡ 0 → Fit 1 (r .id) (g .cells)
+  give-fit e = taken-fit r o g meant e
 
   pub give-taken : {a : Reply} → g .number ≡ 0 → (w : Record) → Written (stream 1 (r .id) (g .cells)) w → a ≡ refused 0 w → Keeps r (givenAs r block) a
   give-taken e w written q = let t = by-taken r o g meant e w written in

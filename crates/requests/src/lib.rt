@@ -3,7 +3,7 @@ use record::Record;
 use record::Stream;
 use streams::Cells;
 ghost use mathlib.Core.Path.{_≡_};
-ghost use Rattle.record.specs.Sound.{stream, Written};
+ghost use Rattle.record.specs.Sound.{Fit, stream, Written};
 ghost use Rattle.requests.specs.Reply.{reply, leftBy, fedAs, givenAs, endedAs, resetAs, Answered, Keeps};
 
 // number 0: accepted; 1: not an open request; 4, 5, 6; else the code. event 0: none, 1: content, 2: section bytes, 3: the last of them,
@@ -53,9 +53,10 @@ fn told(number: u64, event: u64, r: Record) -> Reply
 
 // The record of a request's state.
 fn kept(id: u64, cells: Cells) -> Record
+    requires { ⌜ Fit 1 id cells ⌝ }
     ensures { λ r. ⌜ Written (stream 1 id cells) r ⌝ }
 {
-    record::write(Stream { kind: 1, id, cells })
+    record::row(Stream { kind: 1, id, cells })
 }
 
 // The peer resets the stream.

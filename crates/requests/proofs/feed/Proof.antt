@@ -5,7 +5,7 @@ use Rattle.streams.specs.Fed.{Fed}
 use Rattle.record.specs.Sound.{cellsIn}
 use Rattle.requests.specs.Reply.{fedAs}
 use Rattle.requests.specs.Answered.{read-open, read-shut, keeps-shut}
-use Rattle.requests.specs.Feeds.{feed-due, feed-fault, feed-quiet, feed-late, feed-part}
+use Rattle.requests.specs.Feeds.{feed-due, feed-fault, feed-fit, feed-quiet, feed-late, feed-part}
 use borrow.Author.Needs.{needs}
 use Rattle.requests.proofs.feed.Statement.{statement}
 use Rattle.requests.proofs.feed.Tie as tie
@@ -51,7 +51,7 @@ returns-3 c = let g = c .before .before .before .before .before .before .before 
 
 -- src/lib.rt:119:13
 kept-requires : tie.Need-kept-requires
-kept-requires c κs = search needs
+kept-requires c κs = let g = c .before .before .before .before .before .before .before .before .before .before .before .before .before .args in let o = read-open (g .r) _ (c .before .before .before .before .before .before .before .before .before .before .before .read .ensures) (c .before .before .before .before .before .before .before .before .before .if1 .taken) in let e = o .1 in let m = ap (λ x. x .mode) e in let f : Fed (cellsIn (g .r)) (now (g .piece)) (g .allow) _ = rw e at (c .before .before .before .feed .ensures) in feed-fit (g .r) (o .0) (now (g .piece)) (g .allow) (λ x. omega (arith, x, m, c .before .before .before .before .before .before .if2 .left)) (λ x. omega (arith, x, m, c .before .before .before .before .if3 .left)) _ f (c .before .if4 .left)
 
 -- src/lib.rt:121:13
 returns-4 : tie.Need-returns-4

@@ -1,7 +1,7 @@
 use denote.Ref.{now}
 use Rattle.requests.specs.Reply.{givenAs}
 use Rattle.requests.specs.Answered.{read-open, read-shut, keeps-shut}
-use Rattle.requests.specs.Gives.{give-taken, give-turned}
+use Rattle.requests.specs.Gives.{give-fit, give-taken, give-turned}
 use mathlib.Core.Path.{ap, _∙_}
 use Rattle.given.specs.Taken.{givenOf}
 use borrow.Author.Needs.{needs}
@@ -25,7 +25,7 @@ give-requires c κs = search needs
 
 -- src/lib.rt:166:24
 kept-requires : tie.Need-kept-requires
-kept-requires c κs = search needs
+kept-requires c κs = let g = c .before .before .before .before .before .before .before .before .before .args in let o = read-open (g .r) _ (c .before .before .before .before .before .before .before .read .ensures) (c .before .before .before .before .before .if1 .taken) in give-fit (g .r) (o .0) (now (g .block)) _ (c .before .before .before .give .ensures ∙ ap (λ x. givenOf x (now (g .block))) (o .1)) (c .before .if2 .taken)
 
 -- src/lib.rt:166:13
 told-requires : tie.Need-told-requires
