@@ -1,0 +1,127 @@
+// Which streams a connection lets in (document 01, "Calls and the host's memory"), by value.
+use ids::StreamId;
+ghost use mathlib.Core.Path.{_≡_};
+ghost use Prim.Native.Nat.{_<_, _^_};
+ghost use Rattle.doors.specs.Openings.{refusal, barredAt, nextRequest, nextOneWay, admittedAs, requestOf, oneWayOf, openedOf};
+
+// code: of the connection fault, 0 while there was none. requests and oneways: the lowest ID of each kind that was not opened yet.
+// goaways 0: we sent no GOAWAY; goaway: the last one's.
+pub struct Doors {
+    pub code: u64,
+    pub requests: u64,
+    pub oneways: u64,
+    pub goaways: u64,
+    pub goaway: StreamId,
+}
+
+// number 0: accepted.
+pub struct Opening {
+    pub number: u64,
+    pub doors: Doors,
+}
+
+fn refused(number: u64, d: Doors) -> Opening
+    ensures { λ r. ⌜ r ≡ refusal number d ⌝ }
+{
+    Opening { number, doors: d }
+}
+
+// Our GOAWAY bars requests from its ID upward.
+fn barred(d: Doors, id: StreamId) -> bool
+    ensures { λ r. ⌜ r ≡ barredAt (d .goaways) (d .goaway .0) (id .0) ⌝ }
+{
+    let bar = d.goaway;
+    if d.goaways == 0 {
+        return false;
+    }
+    bar.0 <= id.0
+}
+
+// The ID is spent.
+fn next_request(d: Doors) -> Doors
+    requires { ⌜ d .requests < 2 ^ 62 ⌝ }
+    ensures { λ r. ⌜ r ≡ nextRequest d ⌝ }
+{
+    let goaway = d.goaway;
+    Doors {
+        code: d.code,
+        requests: d.requests + 4,
+        oneways: d.oneways,
+        goaways: d.goaways,
+        goaway,
+    }
+}
+
+fn next_one_way(d: Doors) -> Doors
+    requires { ⌜ d .oneways < 2 ^ 62 ⌝ }
+    ensures { λ r. ⌜ r ≡ nextOneWay d ⌝ }
+{
+    let goaway = d.goaway;
+    Doors {
+        code: d.code,
+        requests: d.requests,
+        oneways: d.oneways + 4,
+        goaways: d.goaways,
+        goaway,
+    }
+}
+
+// A record must be free; free is how many are.
+fn admitted(free: u64, next: Doors, d: Doors) -> Opening
+    ensures { λ r. ⌜ r ≡ admittedAs free next d ⌝ }
+{
+    if free == 0 {
+        refused(3, d)
+    } else {
+        Opening {
+            number: 0,
+            doors: next,
+        }
+    }
+}
+
+fn open_request(d: Doors, id: StreamId, free: u64) -> Opening
+    requires { ⌜ id .0 < 2 ^ 62 ⌝ }
+    ensures { λ r. ⌜ r ≡ requestOf d (id .0) free ⌝ }
+{
+    if id.0 != d.requests {
+        return refused(2, d);
+    }
+    if barred(d, id) {
+        Opening {
+            number: 0x010b,
+            doors: next_request(d),
+        }
+    } else {
+        admitted(free, next_request(d), d)
+    }
+}
+
+fn open_one_way(d: Doors, id: StreamId, free: u64) -> Opening
+    requires { ⌜ id .0 < 2 ^ 62 ⌝ }
+    ensures { λ r. ⌜ r ≡ oneWayOf d (id .0) free ⌝ }
+{
+    if id.0 != d.oneways {
+        return refused(2, d);
+    }
+    admitted(free, next_one_way(d), d)
+}
+
+// The peer opens a stream; free is how many records are.
+pub fn open(d: Doors, id: StreamId, free: u64) -> Opening
+    ensures { λ r. ⌜ r ≡ openedOf d (id .0) free ⌝ }
+{
+    if d.code != 0 {
+        return refused(d.code, d);
+    }
+    if 4611686018427387904 <= id.0 {
+        return refused(2, d);
+    }
+    if id.0 % 4 == 0 {
+        return open_request(d, id, free);
+    }
+    if id.0 % 4 == 2 {
+        return open_one_way(d, id, free);
+    }
+    refused(2, d)
+}
