@@ -1,2 +1,3 @@
 pub mod Openings
 pub mod Exactly
+pub mod Goaway

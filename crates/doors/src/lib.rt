@@ -1,7 +1,11 @@
 // Which streams a connection lets in (document 01, "Calls and the host's memory"), by value.
 use ids::StreamId;
+use varint::Wrote;
+use wire::Sent;
 ghost use mathlib.Core.Path.{_≡_};
 ghost use Prim.Native.Nat.{_<_, _^_};
+ghost use Rattle.wire.specs.Goaway.{sentOf};
+ghost use Rattle.doors.specs.Goaway.{sentIn, goneAway, Sends};
 ghost use Rattle.doors.specs.Openings.{refusal, barredAt, nextRequest, nextOneWay, admittedAs, requestOf, oneWayOf, openedOf};
 
 // code: of the connection fault, 0 while there was none. requests and oneways: the lowest ID of each kind that was not opened yet.
@@ -124,4 +128,61 @@ pub fn open(d: Doors, id: StreamId, free: u64) -> Opening
         return open_one_way(d, id, free);
     }
     refused(2, d)
+}
+
+// ---- our GOAWAY
+
+// number 0: accepted, and count bytes are written.
+pub struct Goaway {
+    pub number: u64,
+    pub count: usize,
+    pub doors: Doors,
+}
+
+fn sent(d: Doors) -> Sent
+    ensures { λ r. ⌜ sentOf r ≡ sentIn d ⌝ }
+{
+    let goaway = d.goaway;
+    if d.goaways == 0 {
+        Sent::Nothing
+    } else {
+        Sent::Up(goaway)
+    }
+}
+
+fn gone_away(d: Doors, id: StreamId) -> Doors
+    ensures { λ r. ⌜ r ≡ goneAway d id ⌝ }
+{
+    Doors {
+        code: d.code,
+        requests: d.requests,
+        oneways: d.oneways,
+        goaways: 1,
+        goaway: id,
+    }
+}
+
+// We send a GOAWAY of this ID: dead connection, 8, 7.
+pub fn send_goaway(d: Doors, id: StreamId, room: &mut [u8]) -> Goaway
+    ensures { λ r. ⌜ Sends d id (now (room .entry)) r (now (room .exit)) ⌝ }
+{
+    if d.code != 0 {
+        return Goaway {
+            number: d.code,
+            count: 0,
+            doors: d,
+        };
+    }
+    match wire::write_goaway(sent(d), id, room) {
+        Wrote::Refused(number) => Goaway {
+            number,
+            count: 0,
+            doors: d,
+        },
+        Wrote::Count(count) => Goaway {
+            number: 0,
+            count,
+            doors: gone_away(d, id),
+        },
+    }
 }
