@@ -6,11 +6,11 @@ use mathlib.Core.List.{List, [], _∷_}
 use mathlib.Core.Bool.{Bool, true, false, _||_}
 use mathlib.Core.Option.{Option, some}
 use lib.Dec.{ltb, eqb, nltb→le, lit≤}
-use borrow.Author.Tests.{lt-ltb, le-ltb, ne-eqb}
+use borrow.Author.Tests.{ltb-false, lt-ltb, le-ltb, ne-eqb}
 use lib.ListN.{length}
 use Rattle.rules.specs.Text.{isOneOf, lookup}
 use Rattle.rules.specs.Integers.{Int, cut, got, integer}
-use Rattle.rules.specs.Reading.{Kept, settings, goaway, max-push-id, cancel-push, skipped, kept, Ruling, refuse, accept, Next, stop, go}
+use Rattle.rules.specs.Reading.{Kept, settings, goaway, max-push-id, cancel-push, content, skipped, section, kept, Ruling, refuse, accept, Next, stop, go}
 use Rattle.rules.specs.Control.{Settings, set-to, reserved-identifiers, pairs, Control, unset, set, settings-limit, Kind, forbidden, one-integer, unknown, column, ruleFor, first-rule, rule, above, below, after-goaway, after-max-push}
 use Rattle.rules.specs.Legal.{Unknown}
 use Rattle.meaning.specs.TextLaws.{lookup-absent}
@@ -38,6 +38,48 @@ pub control-view : (c : Control) (t len : ℕ) → ControlView c (rule c t len)
 unfolding rule first-rule
 control-view unset t len = either (eqb t 4) (either (ltb settings-limit len) (v-refused (lit≤ tt)) v-kept) (v-refused (lit≤ tt))
 control-view (set s g m) t len = kind-view (lookup column unknown t) (set s g m) len
+
+-- ---- what is kept has an end
+
+-- a ruling that keeps a payload keeps one of this length at most
+abbrev pub KeptWithin : (most len : ℕ) → Ruling Control → Type 0
+KeptWithin most len (refuse code) = Unit {0}
+KeptWithin most len (accept content c) = Unit {0}
+KeptWithin most len (accept skipped c) = Unit {0}
+KeptWithin most len (accept (section t) c) = Unit {0}
+KeptWithin most len (accept (kept k) c) = len ≤ most
+
+limit-if : (most len : ℕ) (x : Bool) (code : ℕ) (r : Ruling Control) → (x ≡ false → KeptWithin most len r) → KeptWithin most len (elim x [ true ↦ refuse code | false ↦ r ])
+limit-if most len true code r h = tt
+limit-if most len false code r h = h refl
+
+either-false : (a b : Bool) → (a || b) ≡ false → b ≡ false
+either-false true b e = let z : _≡_ {A = ℕ} 0 1 = cc in absurd (omega arith)
+either-false false b e = e
+
+kind-limit : (k : Kind) (c : Control) (len : ℕ) → KeptWithin settings-limit len (ruleFor k c len)
+unfolding ruleFor settings-limit
+kind-limit forbidden c len = tt
+kind-limit (one-integer k) c len =
+    limit-if 256 len (eqb len 0 || ltb 8 len) 0x0106 (accept (kept k) c) (λ e. (let h = ltb-false 8 len (either-false (eqb len 0) (ltb 8 len) e) in omega arith))
+kind-limit unknown c len = tt
+
+first-limit : (t len : ℕ) (x : Bool) → KeptWithin settings-limit len (elim x [
+  | false ↦ refuse 0x010a
+  | true ↦ elim (ltb settings-limit len) [ true ↦ refuse 0x0107 | false ↦ accept (kept settings) unset ]
+])
+first-limit t len false = tt
+first-limit t len true = limit-if settings-limit len (ltb settings-limit len) 0x0107 (accept (kept settings) unset) (λ e. ltb-false settings-limit len e)
+
+-- SETTINGS OF 256 BYTES AT MOST, and one integer of 8: a control stream keeps no more
+pub control-limit : (c : Control) (t len : ℕ) → KeptWithin settings-limit len (rule c t len)
+unfolding rule first-rule
+control-limit unset t len = first-limit t len (eqb t 4)
+control-limit (set s g m) t len = kind-limit (lookup column unknown t) (set s g m) len
+
+pub settings-limit-is : settings-limit ≡ 256
+unfolding settings-limit
+settings-limit-is = refl
 
 -- ---- more laws
 

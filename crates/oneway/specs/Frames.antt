@@ -11,7 +11,7 @@ use Rattle.rules.specs.Reading.{Kept, Use, content, skipped, section, kept, Rul
 use Rattle.rules.specs.Control.{Control, unset, set, no-settings, control, judged}
 use Rattle.meaning.specs.Machine.{State, answered}
 use Rattle.meaning.specs.ControlLaws.{ControlView, v-refused, v-skipped, v-kept, control-view}
-use Rattle.meaning.specs.FeedUses.{RulesWithin, JudgesWithin, StateWithin, FeedWithin, feed-within}
+use Rattle.meaning.specs.FeedUses.{Uses, NotKept, RulesWithin, JudgesWithin, StateWithin, FeedWithin, feed-within}
 use Rattle.meaning.specs.Feed.{judged-event, Feeding, halt}
 use Rattle.meaning.specs.Feed as F
 use Rattle.meaning.specs.FeedLaws.{past}
@@ -152,32 +152,32 @@ module _ (at : ℕ) (s : List ℕ) (p : Control) (k : List ℕ) (start len used 
 
 -- ---- nothing is handed over on a control stream, and no section is ever due
 
-abbrev Unseen : Use → List ℕ → Type 0
-Unseen content k = ⊥
-Unseen skipped k = Unit {0}
-Unseen (section t) k = ⊥
-Unseen (kept f) k = Unit {0}
+abbrev Unseen : Uses
+Unseen content k l = ⊥
+Unseen skipped k l = Unit {0}
+Unseen (section t) k l = ⊥
+Unseen (kept f) k l = Unit {0}
 
-clear : (u : Use) (k : List ℕ) → Unseen u k → Unseen u []
-clear content k h = h
-clear skipped k h = h
-clear (section t) k h = h
-clear (kept f) k h = h
+clear : (u : Use) → NotKept u → (k : List ℕ) (l : ℕ) → Unseen u k l → (n : ℕ) → Unseen u [] n
+clear content i k l h n = h
+clear skipped i k l h n = h
+clear (section t) i k l h n = h
+clear (kept f) i k l h n = absurd i
 
 abbrev Any : ℕ → Type 0
 Any code = Unit {0}
 
-viewed : {c : Control} {r : Ruling Control} → ControlView c r → RulesWithin Unseen Any r
-viewed (v-refused h) = tt
-viewed v-skipped = tt
-viewed v-kept = tt
+viewed : (len : ℕ) {c : Control} {r : Ruling Control} → ControlView c r → RulesWithin Unseen Any len r
+viewed len (v-refused h) = tt
+viewed len v-skipped = tt
+viewed len v-kept = tt
 
 any-next : (n : Next Control) → JudgesWithin Any n
 any-next (stop code) = tt
 any-next (go p) = tt
 
 control-within : (n : ℕ) (s : State Control) → StateWithin Unseen s → (bs : List ℕ) → FeedWithin Unseen Any (F.feed control n s bs)
-control-within n s h bs = feed-within control Unseen Any clear (λ f k b h. h) (λ c t len. viewed (control-view c t len)) (λ k c payload. any-next (judged k c payload)) n s h bs
+control-within n s h bs = feed-within control Unseen Any clear (λ f k b l h. h) (λ c t len. viewed len (control-view c t len)) (λ k c payload. any-next (judged k c payload)) n s h bs
 
 mode-within : (mode a d t : ℕ) (p : Control) (k : List ℕ) → (3 ≤ mode → 8 ≤ mode) → StateWithin Unseen (stateAt mode a d t p k)
 unfolding stateAt headState
