@@ -28,10 +28,10 @@ unfolding prog partOf
 value-again zero a = refl
 value-again (suc d) a = refl
 
-abbrev stateBy : Numbers → Place → List ℕ → State Place
+abbrev stateBy : {P : Type 0} → Numbers → P → List ℕ → State P
 stateBy n p k = stateAt (n .mode) (n .acc) (n .due) (n .ftype) p k
 
-module _ (a d t : ℕ) (p : Place) (k : List ℕ) where
+module _ {P : Type 0} (a d t : ℕ) (p : P) (k : List ℕ) where
   due-free : (mode : ℕ) → 6 ≤ mode → mode ≤ 7 → stateAt mode 0 0 0 p k ≡ stateAt mode a d t p k
   unfolding stateAt
   due-free zero l u = absurd (omega arith)
@@ -88,7 +88,7 @@ module _ (c : Cells) where
   stands-again p st = let e = own-back in rw e (stands-as st)
 
   module _ (sane : Sane c) where
-    pub state-again : (p : Place) (k : List ℕ) → stateOf (tidied c) p k ≡ stateOf c p k
+    pub state-again : {P : Type 0} (p : P) (k : List ℕ) → stateOf (tidied c) p k ≡ stateOf c p k
     state-again p k = again (c .acc) (c .due) (c .ftype) p k (ownPlace c) (mode-view (c .mode) (sane .modes)) (sane .some)
 
     pub tidied-twice : tidied (tidied c) ≡ tidied c

@@ -79,17 +79,18 @@ module _ (a d t : ℕ) (p : Place) (k : List ℕ) where
     payload-numbers (suc (suc (suc (suc (suc (suc (suc (suc (suc (suc (suc zero))))))))))) l x y u = left 11
     payload-numbers (suc (suc (suc (suc (suc (suc (suc (suc (suc (suc (suc (suc m)))))))))))) l x y u = absurd (omega arith)
 
-  pub place-back : (mode : ℕ) → placeIn (stateAt mode a d t p k) ≡ p
-  unfolding stateAt headState placeIn
-  place-back zero = refl
-  place-back (suc zero) = refl
-  place-back (suc (suc zero)) = refl
-  place-back (suc (suc (suc zero))) = refl
-  place-back (suc (suc (suc (suc zero)))) = refl
-  place-back (suc (suc (suc (suc (suc zero))))) = refl
-  place-back (suc (suc (suc (suc (suc (suc zero)))))) = refl
-  place-back (suc (suc (suc (suc (suc (suc (suc zero))))))) = refl
-  place-back (suc (suc (suc (suc (suc (suc (suc (suc m)))))))) = refl
+-- the place of a state is the one it was made with
+pub place-back : {P : Type 0} (a d t : ℕ) (p : P) (k : List ℕ) (mode : ℕ) → placeIn (stateAt mode a d t p k) ≡ p
+unfolding stateAt headState placeIn
+place-back a d t p k zero = refl
+place-back a d t p k (suc zero) = refl
+place-back a d t p k (suc (suc zero)) = refl
+place-back a d t p k (suc (suc (suc zero))) = refl
+place-back a d t p k (suc (suc (suc (suc zero)))) = refl
+place-back a d t p k (suc (suc (suc (suc (suc zero))))) = refl
+place-back a d t p k (suc (suc (suc (suc (suc (suc zero)))))) = refl
+place-back a d t p k (suc (suc (suc (suc (suc (suc (suc zero))))))) = refl
+place-back a d t p k (suc (suc (suc (suc (suc (suc (suc (suc m)))))))) = refl
 
 -- the numbers look neither at the place nor at what was kept
 pub numbers-alike : (mode a d t : ℕ) (p q : Place) (k l : List ℕ) → numbersOf (stateAt mode a d t p k) ≡ numbersOf (stateAt mode a d t q l)

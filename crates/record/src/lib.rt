@@ -146,7 +146,7 @@ fn is_row(r: Record, c: Cells) -> bool
     same(cells_in(r), c)
 }
 
-fn is_free(r: Record) -> bool
+pub fn is_free(r: Record) -> bool
     ensures { λ b. ⌜ Decides (r ≡ free-record) b ⌝ }
 {
     if r.kind != 0 {

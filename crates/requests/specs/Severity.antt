@@ -13,11 +13,11 @@ use Rattle.requests.specs.Reply.{frees, freesRow, freedIf, leftBy}
 
 -- what holds of each row that has the number, and of none, holds of the number's row
 module _ (n : ℕ) (Q : Option Row → Type 0) where
-  abbrev Rows : List Row → Type 0
+  abbrev pub Rows : List Row → Type 0
   Rows [] = Unit {0}
   Rows (r ∷ rs) = (n ≡ r .number → Q (some r)) × Rows rs
 
-  row-view : (rs : List Row) → Rows rs → Q none → Q (rowIn rs n)
+  pub row-view : (rs : List Row) → Rows rs → Q none → Q (rowIn rs n)
   unfolding rowIn
   row-view [] x q = q
   row-view (r ∷ rs) x q = go (eqb n (r .number)) refl (row-view rs (x .1) q)
