@@ -152,3 +152,13 @@ module _ (k : Kept) (payload : List ℕ) where
       let t = same-told (keptAt which) (only (integer 0 payload)) s refl in
       let at = subst (λ x. Says k x (payloadOf (suc n) which k payload) (judged (keptAt which) (controlAt (suc n) k) payload)) t (integer-at n which) in
       subst (λ s. Says k (tells (keptAt which) payload) (payloadOf s which k payload) (judged (keptAt which) (controlAt s k) payload)) (sym e) at
+
+  -- of any payload, something is told
+  pub judged-says : (which : ℕ) → (told : Told) × Says k told (judgedOf which k payload) (judged (keptAt which) (controlOf k) payload)
+  judged-says which = by (k .set) refl
+    where
+      by : (n : ℕ) → k .set ≡ n → (told : Told) × Says k told (judgedOf which k payload) (judged (keptAt which) (controlOf k) payload)
+      by zero e = (tells settings payload, settings-judged which e)
+      by (suc n) e =
+          let told = told-in k (keptAt which) (only (integer 0 payload)) in
+          (told, subst (λ s. Says k told (payloadOf s which k payload) (judged (keptAt which) (controlAt s k) payload)) (sym e) (integer-at n which))
