@@ -1,3 +1,4 @@
 pub mod Openings
 pub mod Exactly
 pub mod Goaway
+pub mod Ways
