@@ -1,0 +1,9 @@
+pub mod Whose
+pub mod Halves
+pub mod Faults
+pub mod Turned
+pub mod Ways
+pub mod One
+pub mod Worked
+pub mod Leavings
+pub mod Pair

@@ -1,0 +1,74 @@
+-- One answer: two results of a call that meet its promise are equal. Assumes nothing.
+use mathlib.Core.Path.{_≡_, sym, ap, _∙_}
+use Prim.Native.Nat.{ℕ, _≤_, _<_}
+use native.Mathlib.Omega.{arith}
+use mathlib.Core.List.{List}
+use mathlib.Core.Logic.{_⊎_, inl, inr}
+use Rattle.requests.specs.Reply.{Open, stateIn}
+use Rattle.doors.specs.Goaway.{sends-one}
+use Rattle.oneways.specs.Heard.{Heeds, stateHere}
+use Rattle.connection.specs.declared.Connection.{Connection}
+use Rattle.connection.specs.declared.Found.{Found}
+use Rattle.connection.specs.declared.Turn.{Turn}
+use Rattle.connection.specs.declared.Gone.{Gone}
+use Rattle.connection.specs.Halves.{sideIn}
+use Rattle.connection.specs.Turned.{unaltered, openedAt, requestAs, replied, oneWayAs, overheard, Turned, other-row, dead, opens, not-open, request, one-way, goneBy, GoesAway}
+
+-- one of two that shut each other out, each with one answer
+fork-one : {P Q A B C D E : Type 0} → (P → Q → ⊥) → (A → B → E) → (C → D → E) → (P × A) ⊎ (Q × C) → (P × B) ⊎ (Q × D) → E
+fork-one n a c (inl x) (inl y) = a (x .1) (y .1)
+fork-one n a c (inl x) (inr y) = absurd (n (x .0) (y .0))
+fork-one n a c (inr x) (inl y) = absurd (n (y .0) (x .0))
+fork-one n a c (inr x) (inr y) = c (x .1) (y .1)
+
+module _ (c : Connection) (f : Found) (call id allow : ℕ) (piece : List ℕ) where
+  -- document 01's order, test by test
+  abbrev Taken : Type 0
+  Taken = (f .at < 24) × (Open (f .row) ⊎ Heeds (f .row))
+
+  abbrev OnStream : Turn → Type 0
+  OnStream t = ((f .row .kind ≡ 1) × (t ≡ replied c (requestAs call allow piece (f .row) (stateIn (f .row)))))
+      ⊎ ((2 ≤ f .row .kind) × (t ≡ overheard c (oneWayAs call allow piece (f .row) (sideIn c) (stateHere (f .row) (sideIn c)))))
+
+  abbrev OnOpen : Turn → Type 0
+  OnOpen t = ((Taken → ⊥) × (t ≡ unaltered 1 c f)) ⊎ (Taken × OnStream t)
+
+  abbrev Living : Turn → Type 0
+  Living t = ((call ≡ 0) × (t ≡ openedAt c f id)) ⊎ ((call ≡ 0 → ⊥) × OnOpen t)
+
+  abbrev On24 : Turn → Type 0
+  On24 t = ((c .code ≡ 0 → ⊥) × (t ≡ unaltered (c .code) c f)) ⊎ ((c .code ≡ 0) × Living t)
+
+  abbrev Tested : Turn → Type 0
+  Tested t = ((f .len ≡ 24 → ⊥) × (t ≡ unaltered 9 c f)) ⊎ ((f .len ≡ 24) × On24 t)
+
+  tested : {t : Turn} → Turned c f call id allow piece t → Tested t
+  tested (other-row n q) = inl (n, q)
+  tested (dead l n q) = inr (l, inl (n, q))
+  tested (opens v e q) = inr (v .long, inr (v .alive, inl (e, q)))
+  tested (not-open v n s q) = inr (v .long, inr (v .alive, inr (n, inl ((λ x. s (x .0) (x .1)), q))))
+  tested (request v n l o q s) = inr (v .long, inr (v .alive, inr (n, inr ((l, inl o), inl (o .kind, q)))))
+  tested (one-way v n l h q) = inr (v .long, inr (v .alive, inr (n, inr ((l, inr h), inr (h .kind, q)))))
+
+  -- A CALL HAS ONE ANSWER, and leaves one connection and one record
+  pub one-turn : {t u : Turn} → Turned c f call id allow piece t → Turned c f call id allow piece u → t ≡ u
+  one-turn {t} {u} x y = fork-one (λ n l. n l) same on24 (tested x) (tested y)
+    where
+      same : {v : Turn} → t ≡ v → u ≡ v → t ≡ u
+      same p q = p ∙ sym q
+
+      on-stream : OnStream t → OnStream u → t ≡ u
+      on-stream = fork-one (λ k l. omega arith) same same
+
+      on-open : OnOpen t → OnOpen u → t ≡ u
+      on-open = fork-one (λ n l. n l) same on-stream
+
+      living : Living t → Living u → t ≡ u
+      living = fork-one (λ e n. n e) same on-open
+
+      on24 : On24 t → On24 u → t ≡ u
+      on24 = fork-one (λ n e. n e) same living
+
+-- OUR GOAWAY HAS ONE ANSWER, and leaves one connection and one room
+pub one-goaway : {c : Connection} {id : ℕ} {l a b : List ℕ} {r q : Gone} → GoesAway c id l r a → GoesAway c id l q b → (r ≡ q) × (a ≡ b)
+one-goaway {c} x y = let s = sends-one (x .sends) (y .sends) in (x .is ∙ ap (goneBy c) (s .0) ∙ sym (y .is), s .1)

@@ -1,0 +1,212 @@
+-- Laws of the calls: a law for each way out. Assumes nothing.
+use mathlib.Core.Path.{_≡_, refl, sym, ap, _∙_}
+use Prim.Native.Nat.{ℕ, zero, suc, _%_, _≤_, _<_}
+use native.Mathlib.Omega.{arith}
+use mathlib.Core.List.{List}
+use mathlib.Core.Logic.{_⊎_, inl, inr}
+use borrow.Author.Tests.{eq-eqb, ne-eqb, lt-ltb, le-ltb}
+use Rattle.rules.specs.Reading.{Verdict, whole, fault, waits}
+use Rattle.rules.specs.Message.{Message}
+use Rattle.rules.specs.Request.{document}
+use Rattle.rules.specs.Request as rules
+use Rattle.rules.specs.Numbers.{numbers, rowIn, rowOf}
+use Rattle.meaning.specs.Machine.{State, finish}
+use Rattle.meaning.specs.Hom.{map-state}
+use Rattle.meaning.specs.OneWayFeed.{OneState}
+use Rattle.varint.specs.ByByte.{partOf}
+use Rattle.record.specs.declared.Record.{Record}
+use Rattle.record.specs.Row.{phaseOf, statedIn, isStated, lengthOf, sumIn, numbersOf, placeIn, recordAt, oneWayRecord, no-cells, free-record}
+use Rattle.requests.specs.declared.Reply.{Reply}
+use Rattle.requests.specs.Reply.{Open, stateIn, fedAs, givenAs, endedAs, endedBy, resetAs, freesRow, freedIf, Answered, shut, opened, Keeps}
+use Rattle.doors.specs.declared.Doors.{Doors}
+use Rattle.doors.specs.declared.Opening.{Opening}
+use Rattle.doors.specs.declared.Goaway.{Goaway}
+use Rattle.doors.specs.Openings.{openedOf}
+use Rattle.doors.specs.Goaway.{Sends}
+use Rattle.oneways.specs.declared.Side.{Side}
+use Rattle.oneways.specs.declared.Heard.{Heard}
+use Rattle.oneways.specs.Heard as side
+use Rattle.oneways.specs.Heard.{Heeds, HeardAs, stateHere, fedHere, givenHere, closedHere}
+use Rattle.connection.specs.declared.Connection.{Connection}
+use Rattle.connection.specs.declared.Report.{Report}
+use Rattle.connection.specs.declared.Found.{Found}
+use Rattle.connection.specs.declared.Turn.{Turn}
+use Rattle.connection.specs.Whose.{Vacant}
+use Rattle.connection.specs.Halves.{stream-id, doorsIn, withDoors, sideIn}
+use Rattle.connection.specs.Faults.{kept-none}
+use Rattle.connection.specs.Turned.{fresh-connection, numbered, turn, unaltered, firstAs, firstRecord, takenBy, freeAt, let-in, openedAt, byCall, requestAs, Asks, replied, oneWayAs, overheard, Alive, Turned, not-open, request, one-way, begunOf, sweptOf, GoesAway}
+
+-- ---- start
+
+pub begun-fresh : (c : Connection) (len : ℕ) {d : Connection} → len ≡ 24 → d ≡ fresh-connection → record { number = 0; conn = d } ≡ begunOf c len
+unfolding begunOf
+begun-fresh c len e q = let x = eq-eqb len 24 e in ap (λ y. record { number = 0; conn = y }) q ∙ rw (x, begunOf) refl
+
+pub begun-other : (c : Connection) (len : ℕ) → (len ≡ 24 → ⊥) → record { number = 9; conn = c } ≡ begunOf c len
+unfolding begunOf
+begun-other c len n = let x = ne-eqb len 24 n in rw (x, begunOf) refl
+
+module _ (len : ℕ) (r : Record) {q : Record} where
+  pub swept-free : len ≡ 24 → q ≡ free-record → q ≡ sweptOf len r
+  unfolding sweptOf
+  swept-free e f = let x = eq-eqb len 24 e in f ∙ rw (x, sweptOf) refl
+
+  pub swept-other : (len ≡ 24 → ⊥) → q ≡ r → q ≡ sweptOf len r
+  unfolding sweptOf
+  swept-other n f = let x = ne-eqb len 24 n in f ∙ rw (x, sweptOf) refl
+
+-- ---- an opening
+
+pub some-at : (at : ℕ) → at < 24 → 1 ≡ freeAt at
+unfolding freeAt
+some-at at l = let x = lt-ltb at 24 l in rw (x, freeAt) refl
+
+pub none-at : (at : ℕ) → 24 ≤ at → 0 ≡ freeAt at
+unfolding freeAt
+none-at at l = let x = le-ltb at 24 l in rw (x, freeAt) refl
+
+module _ (id : ℕ) {r : Record} where
+  pub first-request : id % 4 ≡ 0 → r ≡ recordAt 1 id no-cells → r ≡ firstRecord id
+  unfolding firstAs numbersOf placeIn map-state phaseOf statedIn isStated lengthOf sumIn partOf
+  first-request e q = q ∙ rw e refl
+
+  pub first-one-way : (id % 4 ≡ 0 → ⊥) → r ≡ recordAt 2 id no-cells → r ≡ firstRecord id
+  unfolding firstAs oneWayRecord numbersOf placeIn phaseOf statedIn isStated lengthOf sumIn partOf
+  first-one-way n q = q ∙ by (id % 4) n
+    where
+      by : (k : ℕ) → (k ≡ 0 → ⊥) → recordAt 2 id no-cells ≡ firstAs k id
+      by zero z = absurd (z refl)
+      by (suc k) z = refl
+
+module _ (id : ℕ) (r : Record) {q : Record} where
+  pub taken-first : (n : ℕ) → n ≡ 0 → q ≡ firstRecord id → q ≡ takenBy n id r
+  unfolding takenBy
+  taken-first zero e f = f
+  taken-first (suc n) e f = absurd (omega arith)
+
+  pub taken-none : (n : ℕ) → (n ≡ 0 → ⊥) → q ≡ r → q ≡ takenBy n id r
+  unfolding takenBy
+  taken-none zero e f = absurd (e refl)
+  taken-none (suc n) e f = f
+
+module _ (c : Connection) (f : Found) (id : ℕ) where
+  pub opened-so : {d : Doors} {n : ℕ} {o : Opening} {w : Connection} {q : Record} {p : Report} → d ≡ doorsIn c → n ≡ freeAt (f .at) → o ≡ openedOf d id n
+      → w ≡ withDoors c (o .doors) → q ≡ takenBy (o .number) id (f .row) → p ≡ numbered (o .number) → turn w q p ≡ openedAt c f id
+  opened-so {d} {n} {o} {w} {q} {p} ed en eo ew eq ep =
+      ap (λ x. turn x q p) ew ∙ ap (λ x. turn (withDoors c (o .doors)) x p) eq ∙ ap (turn (withDoors c (o .doors)) (takenBy (o .number) id (f .row))) ep
+      ∙ ap (let-in c f id) (eo ∙ ap (λ x. openedOf x id n) ed ∙ ap (openedOf (doorsIn c) id) en)
+
+-- ---- a call on an open stream
+
+module _ {A : Type 0} (f g e r : A) where
+  pub by-feed : (call : ℕ) → call ≡ 1 → f ≡ byCall call f g e r
+  unfolding byCall
+  by-feed call q = rw q refl
+
+  pub by-give : (call : ℕ) → call ≡ 2 → g ≡ byCall call f g e r
+  unfolding byCall
+  by-give call q = rw q refl
+
+  pub by-end : (call : ℕ) → call ≡ 3 → e ≡ byCall call f g e r
+  unfolding byCall
+  by-end call q = rw q refl
+
+  pub by-reset : (call : ℕ) → (call ≡ 1 → ⊥) → (call ≡ 2 → ⊥) → (call ≡ 3 → ⊥) → r ≡ byCall call f g e r
+  unfolding byCall
+  by-reset zero x y z = refl
+  by-reset (suc zero) x y z = absurd (x refl)
+  by-reset (suc (suc zero)) x y z = absurd (y refl)
+  by-reset (suc (suc (suc zero))) x y z = absurd (z refl)
+  by-reset (suc (suc (suc (suc n)))) x y z = refl
+
+-- where the end and a reset are alike
+module _ {A : Type 0} (f g r : A) where
+  pub by-close : (call : ℕ) → (call ≡ 1 → ⊥) → (call ≡ 2 → ⊥) → r ≡ byCall call f g r r
+  unfolding byCall
+  by-close zero x y = refl
+  by-close (suc zero) x y = absurd (x refl)
+  by-close (suc (suc zero)) x y = absurd (y refl)
+  by-close (suc (suc (suc zero))) x y = refl
+  by-close (suc (suc (suc (suc n)))) x y = refl
+
+module _ (r : Record) (call allow : ℕ) (piece : List ℕ) {a : Reply} where
+  answered-as : {want : State Message → Reply} → want (stateIn r) ≡ requestAs call allow piece r (stateIn r) → Answered r want a → Answered r (requestAs call allow piece r) a
+  answered-as e (shut n q) = shut n q
+  answered-as e (opened o q) = opened o (q ∙ e)
+
+  -- accepted, it is still open
+  keeps-on : {want : State Message → Reply} → want (stateIn r) ≡ requestAs call allow piece r (stateIn r) → Keeps r want a → Asks r call allow piece a
+  keeps-on e k = record { answers = answered-as e (k .answers); stays = λ z. inl (k .stays z) }
+
+  pub asks-feed : call ≡ 1 → Keeps r (fedAs r allow piece) a → Asks r call allow piece a
+  asks-feed e = keeps-on (by-feed _ _ _ _ call e)
+
+  pub asks-give : call ≡ 2 → Keeps r (givenAs r piece) a → Asks r call allow piece a
+  asks-give e = keeps-on (by-give _ _ _ _ call e)
+
+  pub asks-end : call ≡ 3 → Answered r (endedAs r) a → Asks r call allow piece a
+  unfolding endedBy freesRow freedIf numbers rowIn rowOf
+  asks-end e x = record { answers = answered-as (by-end _ _ _ _ call e) x; stays = left x }
+    where
+      whole-free : Open r → (v : Verdict) → endedBy r v .number ≡ 0 → Open (endedBy r v .row) ⊎ Vacant (endedBy r v .row)
+      whole-free o whole z = inr refl
+      whole-free o (fault code place) z = inl (rw z o)
+      whole-free o (waits place) z = absurd (omega arith)
+
+      left : Answered r (endedAs r) a → a .number ≡ 0 → Open (a .row) ⊎ Vacant (a .row)
+      left (shut n q) z = let y : a .number ≡ 1 = ap (λ x. x .number) q in absurd (omega arith)
+      left (opened o q) z = rw q (whole-free o (finish (rules.request document) 0 (stateIn r)) (rw q at z))
+
+  pub asks-reset : (call ≡ 1 → ⊥) → (call ≡ 2 → ⊥) → (call ≡ 3 → ⊥) → Answered r (resetAs r) a → Asks r call allow piece a
+  asks-reset x y z w = record { answers = answered-as (by-reset _ _ _ _ call x y z) w; stays = left w }
+    where
+      left : Answered r (resetAs r) a → a .number ≡ 0 → Open (a .row) ⊎ Vacant (a .row)
+      left (shut n q) z = let y : a .number ≡ 1 = ap (λ x. x .number) q in absurd (omega arith)
+      left (opened o q) z = inr (ap (λ x. x .row) q)
+
+module _ (r : Record) (d : Side) (call allow : ℕ) (piece : List ℕ) {a : Heard} where
+  heard-as : {want : OneState → Heard} → want (stateHere r d) ≡ oneWayAs call allow piece r d (stateHere r d) → HeardAs r d want a → HeardAs r d (oneWayAs call allow piece r d) a
+  heard-as e (side.shut n q) = side.shut n q
+  heard-as e (side.opened o q) = side.opened o (q ∙ e)
+
+  pub hears-feed : call ≡ 1 → HeardAs r d (fedHere r d allow piece) a → HeardAs r d (oneWayAs call allow piece r d) a
+  hears-feed e = heard-as (by-feed _ _ _ _ call e)
+
+  pub hears-give : call ≡ 2 → HeardAs r d (givenHere r d) a → HeardAs r d (oneWayAs call allow piece r d) a
+  hears-give e = heard-as (by-give _ _ _ _ call e)
+
+  pub hears-close : (call ≡ 1 → ⊥) → (call ≡ 2 → ⊥) → HeardAs r d (closedHere r d) a → HeardAs r d (oneWayAs call allow piece r d) a
+  hears-close x y = heard-as (by-close _ _ _ call x y)
+
+module _ {c : Connection} {f : Found} {call : ℕ} (id allow : ℕ) {piece : List ℕ} {t : Turn} (live : Alive c f) (n : call ≡ 0 → ⊥) where
+  pub past-row : 24 ≤ f .at → t ≡ unaltered 1 c f → Turned c f call id allow piece t
+  past-row l q = not-open live n (λ w x. absurd (omega arith)) q
+
+  module _ (w : f .at < 24) where
+    pub on-request : {a : Reply} → f .row .kind ≡ 1 → Asks (f .row) call allow piece a → t ≡ replied c a → Turned c f call id allow piece t
+    on-request {a} k m q = by (m .answers)
+      where
+        none : (Open (f .row) → ⊥) → f .at < 24 → Open (f .row) ⊎ Heeds (f .row) → ⊥
+        none s x (inl o) = s o
+        none s x (inr h) = let z = h .kind in omega arith
+
+        by : Answered (f .row) (requestAs call allow piece (f .row)) a → Turned c f call id allow piece t
+        by (shut s e) = not-open live n (none s) (q ∙ ap (replied c) e ∙ ap (λ x. turn x (f .row) (numbered 1)) (sym (kept-none c 1 (λ x. omega arith))))
+        by (opened o e) = request live n w o (q ∙ ap (replied c) e) (rw q (m .stays))
+
+    pub on-one-way : {d : Side} {a : Heard} → (f .row .kind ≡ 1 → ⊥) → d ≡ sideIn c → HeardAs (f .row) d (oneWayAs call allow piece (f .row) d) a → t ≡ overheard c a → Turned c f call id allow piece t
+    on-one-way {d} {a} k e h q = by (rw e at h)
+      where
+        none : (Heeds (f .row) → ⊥) → f .at < 24 → Open (f .row) ⊎ Heeds (f .row) → ⊥
+        none s x (inl o) = k (o .kind)
+        none s x (inr h) = s h
+
+        by : HeardAs (f .row) (sideIn c) (oneWayAs call allow piece (f .row) (sideIn c)) a → Turned c f call id allow piece t
+        by (side.shut s x) = not-open live n (none s) (q ∙ ap (overheard c) x ∙ ap (λ x. turn x (f .row) (numbered 1)) (sym (kept-none c 1 (λ x. omega arith))))
+        by (side.opened o x) = one-way live n w o (q ∙ ap (overheard c) x)
+
+-- ---- our GOAWAY
+
+pub goes-so : {c w : Connection} {id : ℕ} {before after : List ℕ} {e : Doors} {g : Goaway} → e ≡ doorsIn c → Sends e (stream-id id) before g after → w ≡ withDoors c (g .doors)
+    → GoesAway c id before (record { conn = w; written = record { number = g .number; count = g .count } }) after
+goes-so {g = g} q s x = record { sent = g; sends = rw q at s; is = ap (λ y. record { conn = y; written = record { number = g .number; count = g .count } }) x }
