@@ -1,0 +1,5 @@
+pub mod Layout
+pub mod Lent
+pub mod Rows
+pub mod Search
+pub mod Once

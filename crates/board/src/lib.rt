@@ -1,0 +1,185 @@
+// Every call, lent the connection's record and the host's row of stream records (document 01, "Calls and the host's memory").
+// One record is found, stepped by value and stored back; the others are not touched.
+use connection::Connection;
+use connection::Found;
+use connection::Report;
+use connection::Written;
+use record::Record;
+ghost use mathlib.Core.Path.{_≡_};
+ghost use mathlib.Core.List.{[], map};
+ghost use lib.ListN.{length, set, getD};
+ghost use Rattle.connection.specs.Whose.{FoundIn};
+ghost use Rattle.connection.specs.Turned.{sweptOf};
+ghost use Rattle.board.specs.Layout.{connectionSize, recordSize, reportSize, writtenSize};
+ghost use Rattle.board.specs.Lent.{FirstIn, Stepped, Started, SaidGoaway};
+
+// ---- the row
+
+// Where the first record is that a call is about, and the length if there is none.
+fn find(row: &[Record], call: u64, id: u64) -> usize
+    ensures { λ r. ⌜ FirstIn call id (now (row .entry)) r ⌝ }
+{
+    let mut i = 0;
+    while i < row.len() {
+        if connection::wanted(call, id, row[i]) {
+            break;
+        }
+        i = i + 1;
+    }
+    i
+}
+
+// The record at i, and `or` past the end.
+fn fetch(row: &[Record], i: usize, or: Record) -> Record
+    ensures { λ r. ⌜ r ≡ getD (now (row .entry)) i or ⌝ }
+{
+    if i < row.len() { row[i] } else { or }
+}
+
+// Nothing is stored past the end.
+fn store(row: &mut [Record], i: usize, r: Record)
+    ensures { λ _. ⌜ now (row .exit) ≡ set (now (row .entry)) i r ⌝ }
+{
+    if i < row.len() {
+        row[i] = r;
+    }
+}
+
+fn seek(row: &[Record], call: u64, id: u64) -> Found
+    ensures { λ r. ⌜ FoundIn call id (now (row .entry)) r ⌝ }
+{
+    let at = find(row, call, id);
+    let r = fetch(row, at, record::free());
+    Found {
+        len: row.len(),
+        at,
+        row: r,
+    }
+}
+
+// Every record, as start leaves it.
+fn empty(row: &mut [Record])
+    ensures { λ _. ⌜ now (row .exit) ≡ map (sweptOf (length (now (row .entry)))) (now (row .entry)) ⌝ }
+{
+    let mut i = 0;
+    while i < row.len() {
+        row[i] = connection::swept(row.len(), row[i]);
+        i = i + 1;
+    }
+}
+
+// ---- a call on one stream
+
+fn step(
+    conn: &mut Connection,
+    row: &mut [Record],
+    call: u64,
+    id: u64,
+    allow: u64,
+    piece: &[u8],
+) -> Report
+    ensures { λ r. ⌜ Stepped (now (conn .entry)) (now (row .entry)) call id allow (now (piece .entry)) (now (conn .exit)) (now (row .exit)) r ⌝ }
+{
+    let f = seek(&*row, call, id);
+    let t = connection::decide(*conn, f, call, id, allow, piece);
+    *conn = t.conn;
+    store(row, f.at, t.row);
+    t.report
+}
+
+// ---- what a host calls
+
+#[no_mangle]
+pub extern "C" fn eistulko_start(conn: &mut Connection, row: &mut [Record]) -> u64
+    ensures { λ r. ⌜ Started (now (conn .entry)) (now (row .entry)) (now (conn .exit)) (now (row .exit)) r ⌝ }
+{
+    let b = connection::begin(*conn, row.len());
+    *conn = b.conn;
+    empty(row);
+    b.number
+}
+
+#[no_mangle]
+pub extern "C" fn eistulko_open(conn: &mut Connection, row: &mut [Record], id: u64) -> Report
+    ensures { λ r. ⌜ Stepped (now (conn .entry)) (now (row .entry)) 0 id 0 [] (now (conn .exit)) (now (row .exit)) r ⌝ }
+{
+    step(conn, row, 0, id, 0, b"")
+}
+
+#[no_mangle]
+pub extern "C" fn eistulko_feed(
+    conn: &mut Connection,
+    row: &mut [Record],
+    id: u64,
+    piece: &[u8],
+    allow: u64,
+) -> Report
+    ensures { λ r. ⌜ Stepped (now (conn .entry)) (now (row .entry)) 1 id allow (now (piece .entry)) (now (conn .exit)) (now (row .exit)) r ⌝ }
+{
+    step(conn, row, 1, id, allow, piece)
+}
+
+#[no_mangle]
+pub extern "C" fn eistulko_give(
+    conn: &mut Connection,
+    row: &mut [Record],
+    id: u64,
+    block: &[u8],
+) -> Report
+    ensures { λ r. ⌜ Stepped (now (conn .entry)) (now (row .entry)) 2 id 0 (now (block .entry)) (now (conn .exit)) (now (row .exit)) r ⌝ }
+{
+    step(conn, row, 2, id, 0, block)
+}
+
+#[no_mangle]
+pub extern "C" fn eistulko_end(conn: &mut Connection, row: &mut [Record], id: u64) -> Report
+    ensures { λ r. ⌜ Stepped (now (conn .entry)) (now (row .entry)) 3 id 0 [] (now (conn .exit)) (now (row .exit)) r ⌝ }
+{
+    step(conn, row, 3, id, 0, b"")
+}
+
+#[no_mangle]
+pub extern "C" fn eistulko_reset(conn: &mut Connection, row: &mut [Record], id: u64) -> Report
+    ensures { λ r. ⌜ Stepped (now (conn .entry)) (now (row .entry)) 4 id 0 [] (now (conn .exit)) (now (row .exit)) r ⌝ }
+{
+    step(conn, row, 4, id, 0, b"")
+}
+
+#[no_mangle]
+pub extern "C" fn eistulko_goaway(conn: &mut Connection, id: u64, room: &mut [u8]) -> Written
+    ensures { λ r. ⌜ SaidGoaway (now (conn .entry)) id (now (room .entry)) (now (conn .exit)) (now (room .exit)) r ⌝ }
+{
+    let g = connection::say_goaway(*conn, id, room);
+    *conn = g.conn;
+    g.written
+}
+
+// ---- how many bytes a host lends, to compare with its header
+
+#[no_mangle]
+pub extern "C" fn eistulko_connection_size() -> usize
+    ensures { λ r. ⌜ r ≡ connectionSize ⌝ }
+{
+    400
+}
+
+#[no_mangle]
+pub extern "C" fn eistulko_record_size() -> usize
+    ensures { λ r. ⌜ r ≡ recordSize ⌝ }
+{
+    48
+}
+
+#[no_mangle]
+pub extern "C" fn eistulko_report_size() -> usize
+    ensures { λ r. ⌜ r ≡ reportSize ⌝ }
+{
+    56
+}
+
+#[no_mangle]
+pub extern "C" fn eistulko_written_size() -> usize
+    ensures { λ r. ⌜ r ≡ writtenSize ⌝ }
+{
+    16
+}
