@@ -1,6 +1,6 @@
 -- What a call leaves of a record: the same, a free one, or one of the same stream. Assumes nothing.
 use mathlib.Core.Path.{_≡_, refl, ap, _∙_}
-use Prim.Native.Nat.{ℕ, zero, suc, _≤_}
+use Prim.Native.Nat.{ℕ, zero, suc, _%_, _≤_, _<_, _^_}
 use native.Mathlib.Omega.{arith}
 use mathlib.Core.List.{List, [], _∷_}
 use mathlib.Core.Bool.{Bool, true, false}
@@ -11,13 +11,18 @@ use Rattle.rules.specs.Message.{Message}
 use Rattle.rules.specs.Request.{document, request}
 use Rattle.rules.specs.Control.{Control}
 use Rattle.rules.specs.OneWay.{Qpack, encoder, decoder, a-control, a-qpack, skipped, Typed, refuse, is, typeRule}
-use Rattle.meaning.specs.Machine.{Prog, Fed, going, value, fed, State, in-type, in-length, in-payload, due, Outcome, lives, dies, given, finish}
+use Rattle.meaning.specs.Machine.{Prog, fresh, Fed, going, value, fed, State, in-type, in-length, in-payload, due, Outcome, lives, dies, given, finish}
 use Rattle.meaning.specs.Feed as F
 use Rattle.meaning.specs.OneWayFeed as one
 use Rattle.meaning.specs.OneWayFeed.{OneState, in-stream-type, in-control, in-qpack, in-skipped, OneOutcome, OneEvent, of-frames, qpack-bytes}
 use Rattle.streams.specs.declared.Cells.{Cells}
 use Rattle.record.specs.declared.Record.{Record}
-use Rattle.record.specs.Row.{oneWayRecord}
+use Rattle.varint.specs.ByByte.{prog, partOf, fresh-good}
+use Rattle.streams.specs.Uses.{placeOf}
+use Rattle.streams.specs.Heads.{headState}
+use Rattle.streams.specs.Answers.{stateAt}
+use Rattle.record.specs.Row.{phaseOf, statedIn, isStated, lengthOf, sumIn, numbersOf, placeIn, oneWayRecord}
+use Rattle.record.specs.Tests.{bare-shape, sane-with}
 use Rattle.requests.specs.declared.Reply.{Reply}
 use Rattle.requests.specs.Reply as reply
 use Rattle.requests.specs.Reply.{freedIf}
@@ -29,19 +34,19 @@ use Rattle.oneways.specs.declared.Side.{Side}
 use Rattle.oneways.specs.declared.Heard.{Heard}
 use Rattle.oneways.specs.Mirror.{sideAfter}
 use Rattle.oneways.specs.Heard as heard
-use Rattle.oneways.specs.Heard.{closedBy}
+use Rattle.oneways.specs.Heard.{Heeds, feeding, closedBy}
 use Rattle.connection.specs.Whose.{Vacant}
 use Rattle.connection.specs.Turned.{byCall, requestAs, oneWayAs}
 
 -- what holds of each call's answer holds of any call's
 module _ {A : Type 0} (P : A → Type 0) {f g e r : A} where
-  by-any : P f → P g → P e → P r → (call : ℕ) → P (byCall call f g e r)
+  by-any : (call : ℕ) → (call ≡ 1 → P f) → P g → P e → P r → P (byCall call f g e r)
   unfolding byCall
-  by-any x y z w zero = w
-  by-any x y z w (suc zero) = x
-  by-any x y z w (suc (suc zero)) = y
-  by-any x y z w (suc (suc (suc zero))) = z
-  by-any x y z w (suc (suc (suc (suc n)))) = w
+  by-any zero x y z w = w
+  by-any (suc zero) x y z w = x refl
+  by-any (suc (suc zero)) x y z w = y
+  by-any (suc (suc (suc zero))) x y z w = z
+  by-any (suc (suc (suc (suc n)))) x y z w = w
 
 -- ---- of a request's
 
@@ -95,38 +100,40 @@ module _ (r : Record) where
   pub request-left : (call allow : ℕ) (piece : List ℕ) (s : State Message) → Left r (requestAs call allow piece r s)
   request-left call allow piece s =
       let f = F.feed (request document) allow s piece in
-      by-any (Left r)
-      (due-left (same refl) (said-left (f .used) (f .heads) (f .event) (f .after)) s)
+      by-any (Left r) call
+      (λ z. due-left (same refl) (said-left (f .used) (f .heads) (f .event) (f .after)) s)
       (due-left (read-left s (lines piece)) (same refl) s)
       (end-left (finish (request document) 0 s))
       (freed refl)
-      call
 
 -- ---- of a one-way stream's: a stream that goes on stands where the definition's feed leaves it
 
-pub data Heeded (r : Record) (d : Side) (allow : ℕ) (piece : List ℕ) (s : OneState) (a : Heard) : Type 0 where
-  goes-on : (after : OneState) → one.feed (typesOf (d .control) (d .encoder) (d .decoder)) allow s piece .after ≡ one.lives after
-      → a .number ≡ 0 → a .row ≡ oneWayRecord (r .id) after → a .side ≡ sideAfter d after → Heeded r d allow piece s a
-  same : a .row ≡ r → a .side ≡ d → Heeded r d allow piece s a
-  freed : Vacant (a .row) → a .side ≡ d → Heeded r d allow piece s a
+pub data Heeded (r : Record) (d : Side) (call allow : ℕ) (piece : List ℕ) (s : OneState) (a : Heard) : Type 0 where
+  goes-on : call ≡ 1 → (after : OneState) → feeding d allow piece s .after ≡ one.lives after → a .row ≡ oneWayRecord (r .id) after → a .side ≡ sideAfter d after → Heeded r d call allow piece s a
+  same : a .row ≡ r → a .side ≡ d → Heeded r d call allow piece s a
+  freed : Vacant (a .row) → a .side ≡ d → Heeded r d call allow piece s a
 
-module _ (r : Record) (d : Side) (allow : ℕ) (piece : List ℕ) (s : OneState) where
-  said-heeded : (u h : ℕ) (e : OneEvent) (o : OneOutcome) → one.feed (typesOf (d .control) (d .encoder) (d .decoder)) allow s piece .after ≡ o → Heeded r d allow piece s (heard.saidBy r d u h e o)
+module _ (r : Record) (d : Side) (call allow : ℕ) (piece : List ℕ) (s : OneState) where
+  said-heeded : call ≡ 1 → (u h : ℕ) (e : OneEvent) (o : OneOutcome) → feeding d allow piece s .after ≡ o → Heeded r d call allow piece s (heard.saidBy r d u h e o)
   unfolding heard.saidBy
-  said-heeded u h (of-frames e) (one.dies code) q = same refl refl
-  said-heeded u h (qpack-bytes k len) (one.dies code) q = same refl refl
-  said-heeded u h (of-frames e) (one.lives x) q = goes-on x q refl refl refl
-  said-heeded u h (qpack-bytes k len) (one.lives x) q = goes-on x q refl refl refl
+  said-heeded z u h (of-frames e) (one.dies code) q = same refl refl
+  said-heeded z u h (qpack-bytes k len) (one.dies code) q = same refl refl
+  said-heeded z u h (of-frames e) (one.lives x) q = goes-on z x q refl refl
+  said-heeded z u h (qpack-bytes k len) (one.lives x) q = goes-on z x q refl refl
 
-  close-heeded : (n : ℕ) → Heeded r d allow piece s (closedBy r d n)
+  close-heeded : (n : ℕ) → Heeded r d call allow piece s (closedBy r d n)
   unfolding closedBy
   close-heeded zero = freed refl refl
   close-heeded (suc n) = same refl refl
 
-  pub one-way-left : (call : ℕ) → Heeded r d allow piece s (oneWayAs call allow piece r d s)
-  one-way-left call =
-      let f = one.feed (typesOf (d .control) (d .encoder) (d .decoder)) allow s piece in
-      by-any (Heeded r d allow piece s) (said-heeded (f .used) (f .heads) (f .event) (f .after) refl) (same refl refl) (close-heeded (closes s)) (close-heeded (closes s)) call
+  pub one-way-left : Heeded r d call allow piece s (oneWayAs call allow piece r d s)
+  one-way-left =
+      let f = feeding d allow piece s in
+      by-any (Heeded r d call allow piece s) call
+      (λ z. said-heeded z (f .used) (f .heads) (f .event) (f .after) refl)
+      (same refl refl)
+      (close-heeded (closes s))
+      (close-heeded (closes s))
 
 -- its record is a one-way stream's, of the same ID
 pub data Standing (id : ℕ) (r : Record) : OneState → Type 0 where
@@ -204,3 +211,18 @@ control-kind c p k (suc (suc (suc zero))) e = refl
 control-kind c p k (suc (suc (suc (suc zero)))) e = let z : _≡_ {A = ℕ} 0 1 = cc in absurd (omega arith)
 control-kind c p k (suc (suc (suc (suc (suc zero))))) e = let z : _≡_ {A = ℕ} 0 1 = cc in absurd (omega arith)
 control-kind c p k (suc (suc (suc (suc (suc (suc n)))))) e = let z : _≡_ {A = ℕ} 0 1 = cc in absurd (omega arith)
+
+-- A ONE-WAY STREAM BEGINS OPEN, with nothing read
+pub begins-heeding : (id : ℕ) → id < 2 ^ 62 → id % 4 ≡ 2 → Heeds (oneWayRecord id (in-stream-type fresh))
+unfolding oneWayRecord numbersOf placeIn partOf phaseOf statedIn isStated lengthOf sumIn stateAt headState prog placeOf
+begins-heeding id l e = record {
+  sound = record {
+    fit = record {
+      sane = sane-with _ (omega arith) (omega arith) (omega arith) (omega arith) (omega arith) (λ m. fresh-good) (λ a b d. absurd (omega arith));
+      shaped = bare-shape id _ l 2 (omega arith) (omega arith) (λ x. omega arith) e refl refl (λ x. refl);
+    };
+    own = refl;
+  };
+  kind = omega arith;
+  room = λ x. absurd (omega arith);
+}

@@ -48,7 +48,7 @@ module _ (c : Connection) (f : Found) (call id allow : ℕ) (piece : List ℕ) w
   tested (opens v e q) = inr (v .long, inr (v .alive, inl (e, q)))
   tested (not-open v n s q) = inr (v .long, inr (v .alive, inr (n, inl ((λ x. s (x .0) (x .1)), q))))
   tested (request v n l o q s) = inr (v .long, inr (v .alive, inr (n, inr ((l, inl o), inl (o .kind, q)))))
-  tested (one-way v n l h q) = inr (v .long, inr (v .alive, inr (n, inr ((l, inr h), inr (h .kind, q)))))
+  tested (one-way v n l h q s) = inr (v .long, inr (v .alive, inr (n, inr ((l, inr h), inr (h .kind, q)))))
 
   -- A CALL HAS ONE ANSWER, and leaves one connection and one record
   pub one-turn : {t u : Turn} → Turned c f call id allow piece t → Turned c f call id allow piece u → t ≡ u

@@ -15,7 +15,6 @@ use Rattle.rules.specs.Numbers.{rowOf}
 use Rattle.rules.specs.Writer.{Write, refused, wrote}
 use Rattle.meaning.specs.Machine.{State, between, fresh}
 use Rattle.meaning.specs.OneWayFeed.{OneState, in-stream-type, in-control, in-qpack, in-skipped, lives}
-use Rattle.meaning.specs.OneWayFeed as one
 use Rattle.record.specs.declared.Record.{Record}
 use Rattle.record.specs.Row.{requestRecord, oneWayRecord, free-record}
 use Rattle.record.specs.Sound.{cellsIn}
@@ -27,30 +26,29 @@ use Rattle.doors.specs.Openings.{nextRequest, nextOneWay}
 use Rattle.doors.specs.Ways.{Went, barred, a-request, a-one-way, went}
 use Rattle.doors.specs.Ways as doors
 use Rattle.doors.specs.Goaway.{sendingOf, writeOf}
-use Rattle.oneway.specs.Types.{typesOf}
 use Rattle.oneways.specs.declared.Side.{Side}
 use Rattle.oneways.specs.declared.Heard.{Heard}
 use Rattle.oneways.specs.Mirror.{sideAfter}
-use Rattle.oneways.specs.Heard.{placeHere, sofarHere, stateHere}
+use Rattle.oneways.specs.Heard.{Heeds, placeHere, sofarHere, stateHere, feeding}
 use Rattle.connection.specs.declared.Connection.{Connection}
 use Rattle.connection.specs.declared.Found.{Found}
 use Rattle.connection.specs.declared.Turn.{Turn}
 use Rattle.connection.specs.declared.Gone.{Gone}
-use Rattle.connection.specs.Whose.{Vacant, FoundIn}
+use Rattle.connection.specs.Whose.{Vacant, Belongs, FoundIn, wanted-belongs}
 use Rattle.connection.specs.Halves.{stream-id, doorsIn, withDoors, sideIn, withSide}
 use Rattle.connection.specs.Faults.{keepsRow, keptIf, codeKept}
-use Rattle.connection.specs.Turned.{unaltered, firstAs, takenBy, freeAt, requestAs, oneWayAs, Turned, other-row, dead, opens, not-open, request, one-way, begunOf, sweptOf, GoesAway}
+use Rattle.connection.specs.Turned.{unaltered, firstAs, takenBy, freeAt, requestAs, oneWayAs, StaysOn, Turned, other-row, dead, opens, not-open, request, one-way, begunOf, sweptOf, GoesAway}
 use Rattle.connection.specs.Ways.{begun-fresh, swept-free, taken-none}
 use Rattle.connection.specs.Leavings as left
-use Rattle.connection.specs.Leavings.{Left, request-left, Heeded, one-way-left, Standing, controls, others, standing, control-once, control-kind}
+use Rattle.connection.specs.Leavings.{Left, request-left, Heeded, one-way-left, Standing, controls, others, standing, control-once, control-kind, begins-heeding}
 
 -- past the row's end there is no stream
 abbrev pub at : List Record → ℕ → Record
 at rows i = getD rows i free-record
 
--- free, an open request, or a one-way stream's
+-- free, an open request, or an open one-way stream
 abbrev pub Known : Record → Type 0
-Known r = Vacant r ⊎ (Open r ⊎ (2 ≤ r .kind))
+Known r = Vacant r ⊎ (Open r ⊎ Heeds r)
 
 -- its ID is one of its kind, and was opened
 pub record Spent (c : Connection) (r : Record) : Type 0 where
@@ -194,8 +192,8 @@ module _ {c : Connection} {rows : List Record} (p : Paired c rows) (k : ℕ) {d 
           single = λ j n z b. omega arith;
         })
 
-    next-one-way : 2 ≤ at rows k .kind → 2 ≤ q .kind → (q .kind ≡ 3 → (d .control ≡ 0 → ⊥) × ((c .control ≡ 0) ⊎ (at rows k .kind ≡ 3))) → Paired d (set rows k q)
-    next-one-way w m t =
+    next-one-way : 2 ≤ at rows k .kind → Heeds q → (q .kind ≡ 3 → (d .control ≡ 0 → ⊥) × ((c .control ≡ 0) ⊎ (at rows k .kind ≡ 3))) → Paired d (set rows k q)
+    next-one-way w m t = let two = m .kind in
         leave (record {
           known = inr (inr m);
           spent = record { request = λ z. absurd (omega arith); one-way = λ z. (let h = later-spent l (p .spent k) .one-way w in rw i h) };
@@ -252,15 +250,14 @@ module _ {c : Connection} {rows : List Record} (p : Paired c rows) (id : ℕ) wh
           control = λ z y. omega arith;
           single = λ j n z b. omega arith;
         }))
-    after-opening (a-one-way m e l f) =
-        by (oneWayRecord id (in-stream-type fresh)) (first-is-one-way id r m) (standing id (in-stream-type fresh))
+    after-opening (a-one-way m e l f) = by (oneWayRecord id (in-stream-type fresh)) (first-is-one-way id r m) (begins-heeding id l m) (standing id (in-stream-type fresh))
       where
-        by : (q : Record) → takenBy 0 id r ≡ q → Standing id q (in-stream-type fresh) → Paired (withDoors c (nextOneWay (doorsIn c))) (set rows k (takenBy 0 id r))
-        by q x (others i w n3) =
+        by : (q : Record) → takenBy 0 id r ≡ q → Heeds q → Standing id q (in-stream-type fresh) → Paired (withDoors c (nextOneWay (doorsIn c))) (set rows k (takenBy 0 id r))
+        by q x h (others i w n3) =
             leave p k spent-one-way _ (rw x (record {
-              known = inr (inr w);
+              known = inr (inr h);
               spent = record { request = λ z. absurd (omega arith); one-way = λ z. (rw i m, omega arith) };
-              apart = λ j n a b h. not-taken (inr (m, e)) j b (h ∙ i);
+              apart = λ j n a b y. not-taken (inr (m, e)) j b (y ∙ i);
               control = λ z y. n3 z;
               single = λ j n z b. n3 z;
             }))
@@ -288,20 +285,21 @@ side-later d in-skipped e = e
 later-side : {c : Connection} (d : Side) → (d .control ≡ 0 → c .control ≡ 0) → Later c (withSide c d)
 later-side d h = record { requests = omega arith; oneways = omega arith; control = h }
 
-module _ {c : Connection} {rows : List Record} (p : Paired c rows) (k : ℕ) {r : Record} (was : r ≡ at rows k) (two : 2 ≤ r .kind) (allow : ℕ) (piece : List ℕ) (a : Heard) where
+module _ {c : Connection} {rows : List Record} (p : Paired c rows) (k : ℕ) {r : Record} (was : r ≡ at rows k) (two : 2 ≤ r .kind) (call allow : ℕ) (piece : List ℕ) (a : Heard) where
   abbrev after : Connection
   after = codeKept (withSide c (a .side)) (a .number)
 
   later-heard : (a .side .control ≡ 0 → c .control ≡ 0) → Later c after
   later-heard h = later-code (a .number) (later-side (a .side) h)
 
-  next-standing : (x : OneState) → one.feed (typesOf (c .control) (c .encoder) (c .decoder)) allow (stateHere r (sideIn c)) piece .after ≡ lives x → a .side ≡ sideAfter (sideIn c) x
+  next-standing : (x : OneState) → feeding (sideIn c) allow piece (stateHere r (sideIn c)) .after ≡ lives x → a .side ≡ sideAfter (sideIn c) x → Heeds (a .row)
       → Standing (r .id) (a .row) x → Paired after (set rows k (a .row))
   unfolding sideAfter
-  next-standing x f g (others i w n) =
-      next-one-way p k (later-heard (λ z. side-later (sideIn c) x (rw g at z))) (a .row) (i ∙ ap (λ y. y .id) was) (rw was at two) w (λ z. absurd (n z))
-  next-standing (in-control s) f g (controls i w) =
-      next-one-way p k (later-heard (λ z. side-later (sideIn c) (in-control s) (rw g at z))) (a .row) (i ∙ ap (λ y. y .id) was) (rw was at two) (omega arith) (λ z. (come, was-one (control-once (c .control) (c .encoder) (c .decoder) allow (stateHere r (sideIn c)) piece f)))
+  next-standing x f g h (others i w n) =
+      next-one-way p k (later-heard (λ z. side-later (sideIn c) x (rw g at z))) (a .row) (i ∙ ap (λ y. y .id) was) (rw was at two) h (λ z. absurd (n z))
+  next-standing (in-control s) f g h (controls i w) =
+      next-one-way p k (later-heard (λ z. side-later (sideIn c) (in-control s) (rw g at z))) (a .row) (i ∙ ap (λ y. y .id) was) (rw was at two) h
+      (λ z. (come, was-one (control-once (c .control) (c .encoder) (c .decoder) allow (stateHere r (sideIn c)) piece f)))
     where
       come : after .control ≡ 0 → ⊥
       come z = let y = later-code {c = withSide c (a .side)} (a .number) later-same .control z in let m : _≡_ {A = ℕ} 1 0 = sym (ap (λ x. x .control) g) ∙ y in omega arith
@@ -310,10 +308,10 @@ module _ {c : Connection} {rows : List Record} (p : Paired c rows) (k : ℕ) {r 
       was-one (inl e) = inl e
       was-one (inr y) = inr (sym (ap (λ x. x .kind) was) ∙ control-kind (cellsIn r) (placeHere r (sideIn c)) (sofarHere r (sideIn c)) (r .kind) (y .1))
 
-  after-one-way : Heeded r (sideIn c) allow piece (stateHere r (sideIn c)) a → Paired after (set rows k (a .row))
-  after-one-way (left.same e s) = same-record p k (later-heard (λ z. rw s at z)) _ (e ∙ was)
-  after-one-way (left.freed e s) = free-one p k (later-heard (λ z. rw s at z)) _ e
-  after-one-way (left.goes-on x f z e s) = next-standing x f s (rw e (standing (r .id) x))
+  after-one-way : Heeded r (sideIn c) call allow piece (stateHere r (sideIn c)) a → StaysOn call allow piece r (sideIn c) a → Paired after (set rows k (a .row))
+  after-one-way (left.same e s) t = same-record p k (later-heard (λ z. rw s at z)) _ (e ∙ was)
+  after-one-way (left.freed e s) t = free-one p k (later-heard (λ z. rw s at z)) _ e
+  after-one-way (left.goes-on o x f e s) t = next-standing x f s (t o x f .0) (rw e (standing (r .id) x))
 
 -- ---- EVERY CALL KEEPS IT
 
@@ -328,8 +326,19 @@ module _ {c : Connection} {rows : List Record} {f : Found} {call id : ℕ} (foun
   kept-pair (not-open v n s q) = unaltered-pair 1 q
   kept-pair {allow} {piece} (request v n l o q s) = let r = f .row in
       rw q (after-request p (f .at) (found .row) o (requestAs call allow piece r (stateIn r)) (request-left r call allow piece (stateIn r)) (rw q at s))
-  kept-pair {allow} {piece} (one-way v n l h q) = let r = f .row in let d = sideIn c in
-      rw q (after-one-way p (f .at) (found .row) (h .kind) allow piece (oneWayAs call allow piece r d (stateHere r d)) (one-way-left r d allow piece (stateHere r d) call))
+  kept-pair {allow} {piece} (one-way v n l h q s) = let r = f .row in let d = sideIn c in
+      rw q (after-one-way p (f .at) (found .row) (h .kind) call allow piece (oneWayAs call allow piece r d (stateHere r d)) (one-way-left r d call allow piece (stateHere r d)) s)
+
+  -- A STREAM THAT IS FOUND IS OPEN: 1 is for those that are not
+  pub found-open : (call ≡ 0 → ⊥) → f .at < 24 → Open (f .row) ⊎ Heeds (f .row)
+  found-open n l = by (p .known (f .at))
+    where
+      taken : Belongs id (at rows (f .at))
+      taken = wanted-belongs id (at rows (f .at)) call n (found .there (let e = p .long in omega arith))
+
+      by : Known (at rows (f .at)) → Open (f .row) ⊎ Heeds (f .row)
+      by (inl v) = absurd (taken .taken (ap (λ x. x .kind) v))
+      by (inr o) = rw (found .row) o
 
 -- our GOAWAY
 gone-later : (c : Connection) (id : ℕ) (w : Write) → Later c (withDoors c (sendingOf (doorsIn c) (stream-id id) w .doors))

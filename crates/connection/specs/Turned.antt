@@ -20,7 +20,7 @@ use Rattle.doors.specs.Openings.{openedOf}
 use Rattle.doors.specs.Goaway.{Sends}
 use Rattle.oneways.specs.declared.Side.{Side}
 use Rattle.oneways.specs.declared.Heard.{Heard}
-use Rattle.oneways.specs.Heard.{Heeds, stateHere, fedHere, givenHere, closedHere}
+use Rattle.oneways.specs.Heard.{Heeds, stateHere, feeding, fedHere, Stays, givenHere, closedHere, HeardAs}
 use Rattle.connection.specs.declared.Connection.{Connection}
 use Rattle.connection.specs.declared.Report.{Report}
 use Rattle.connection.specs.declared.Found.{Found}
@@ -119,6 +119,14 @@ replied c a = turn (codeKept c (a .number)) (a .row) (told (a .number) (a .event
 abbrev pub oneWayAs : (call allow : ℕ) → (piece : List ℕ) → Record → Side → OneState → Heard
 oneWayAs call allow piece r d s = byCall call (fedHere r d allow piece s) (givenHere r d s) (closedHere r d s) (closedHere r d s)
 
+-- and what a feed leaves, if it is accepted, is an open stream in the state after
+abbrev pub StaysOn : (call allow : ℕ) → (piece : List ℕ) → Record → Side → Heard → Type 0
+StaysOn call allow piece r d a = call ≡ 1 → Stays (a .row) (a .side) (feeding d allow piece (stateHere r d))
+
+pub record Hears (r : Record) (d : Side) (call allow : ℕ) (piece : List ℕ) (a : Heard) : Type 0 where
+  pub answers : HeardAs r d (oneWayAs call allow piece r d) a
+  pub stays : Heeds r → StaysOn call allow piece r d a
+
 abbrev pub overheard : Connection → Heard → Turn
 overheard c a = turn (codeKept (withSide c (a .side)) (a .number)) (a .row) (told (a .number) (a .event) (a .start) (a .len) (a .used) (a .heads) (a .value))
 
@@ -130,13 +138,20 @@ pub record Alive (c : Connection) (f : Found) : Type 0 where
   pub alive : c .code ≡ 0
 
 pub data Turned (c : Connection) (f : Found) (call id allow : ℕ) (piece : List ℕ) (t : Turn) : Type 0 where
+  -- 9
   other-row : (f .len ≡ 24 → ⊥) → t ≡ unaltered 9 c f → Turned c f call id allow piece t
+  -- the code of a dead connection
   dead : f .len ≡ 24 → (c .code ≡ 0 → ⊥) → t ≡ unaltered (c .code) c f → Turned c f call id allow piece t
+  -- an opening: 2; 0x010b; 3; accepted
   opens : Alive c f → call ≡ 0 → t ≡ openedAt c f id → Turned c f call id allow piece t
+  -- 1
   not-open : Alive c f → (call ≡ 0 → ⊥) → (f .at < 24 → Open (f .row) ⊎ Heeds (f .row) → ⊥) → t ≡ unaltered 1 c f → Turned c f call id allow piece t
+  -- 4 or 5; 6; protocol
   request : Alive c f → (call ≡ 0 → ⊥) → f .at < 24 → Open (f .row) → t ≡ replied c (requestAs call allow piece (f .row) (stateIn (f .row)))
       → (t .report .number ≡ 0 → Open (t .row) ⊎ Vacant (t .row)) → Turned c f call id allow piece t
-  one-way : Alive c f → (call ≡ 0 → ⊥) → f .at < 24 → Heeds (f .row) → t ≡ overheard c (oneWayAs call allow piece (f .row) (sideIn c) (stateHere (f .row) (sideIn c))) → Turned c f call id allow piece t
+  -- 5; protocol
+  one-way : Alive c f → (call ≡ 0 → ⊥) → f .at < 24 → Heeds (f .row) → t ≡ overheard c (oneWayAs call allow piece (f .row) (sideIn c) (stateHere (f .row) (sideIn c)))
+      → StaysOn call allow piece (f .row) (sideIn c) (oneWayAs call allow piece (f .row) (sideIn c) (stateHere (f .row) (sideIn c))) → Turned c f call id allow piece t
 
 -- ---- start
 

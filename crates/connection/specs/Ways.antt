@@ -22,11 +22,13 @@ use Rattle.doors.specs.declared.Doors.{Doors}
 use Rattle.doors.specs.declared.Opening.{Opening}
 use Rattle.doors.specs.declared.Goaway.{Goaway}
 use Rattle.doors.specs.Openings.{openedOf}
+use Rattle.doors.specs.Ways as doors
+use Rattle.doors.specs.Ways.{Went, barred, a-request, a-one-way, went}
 use Rattle.doors.specs.Goaway.{Sends}
 use Rattle.oneways.specs.declared.Side.{Side}
 use Rattle.oneways.specs.declared.Heard.{Heard}
 use Rattle.oneways.specs.Heard as side
-use Rattle.oneways.specs.Heard.{Heeds, HeardAs, stateHere, fedHere, givenHere, closedHere}
+use Rattle.oneways.specs.Heard.{Heeds, HeardAs, FedAs, stateHere, givenHere, closedHere}
 use Rattle.connection.specs.declared.Connection.{Connection}
 use Rattle.connection.specs.declared.Report.{Report}
 use Rattle.connection.specs.declared.Found.{Found}
@@ -34,7 +36,7 @@ use Rattle.connection.specs.declared.Turn.{Turn}
 use Rattle.connection.specs.Whose.{Vacant}
 use Rattle.connection.specs.Halves.{stream-id, doorsIn, withDoors, sideIn}
 use Rattle.connection.specs.Faults.{kept-none}
-use Rattle.connection.specs.Turned.{fresh-connection, numbered, turn, unaltered, firstAs, firstRecord, takenBy, freeAt, let-in, openedAt, byCall, requestAs, Asks, replied, oneWayAs, overheard, Alive, Turned, not-open, request, one-way, begunOf, sweptOf, GoesAway}
+use Rattle.connection.specs.Turned.{fresh-connection, numbered, turn, unaltered, firstAs, firstRecord, takenBy, freeAt, let-in, openedAt, byCall, requestAs, Asks, replied, oneWayAs, Hears, overheard, Alive, Turned, not-open, request, one-way, begunOf, sweptOf, GoesAway}
 
 -- ---- start
 
@@ -95,6 +97,16 @@ module _ (c : Connection) (f : Found) (id : ℕ) where
   opened-so {d} {n} {o} {w} {q} {p} ed en eo ew eq ep =
       ap (λ x. turn x q p) ew ∙ ap (λ x. turn (withDoors c (o .doors)) x p) eq ∙ ap (turn (withDoors c (o .doors)) (takenBy (o .number) id (f .row))) ep
       ∙ ap (let-in c f id) (eo ∙ ap (λ x. openedOf x id n) ed ∙ ap (openedOf (doorsIn c) id) en)
+
+  -- AN OPENING THAT IS REFUSED ALTERS NOTHING, unless it was barred
+  pub opening-refused : let n = openedAt c f id .report .number in (n ≡ 0 → ⊥) → (n ≡ 0x010b → ⊥) → openedAt c f id ≡ unaltered n c f
+  opening-refused = by (went (doorsIn c) id (freeAt (f .at)))
+    where
+      by : {o : Opening} → Went (doorsIn c) id (freeAt (f .at)) o → (o .number ≡ 0 → ⊥) → (o .number ≡ 0x010b → ⊥) → let-in c f id o ≡ unaltered (o .number) c f
+      by (doors.refused n z) x y = ap (λ q. turn c q (numbered n)) (sym (taken-none id (f .row) n z refl))
+      by (barred k e) x y = absurd (y refl)
+      by (a-request k e l r) x y = absurd (x refl)
+      by (a-one-way k e l r) x y = absurd (x refl)
 
 -- ---- a call on an open stream
 
@@ -169,14 +181,14 @@ module _ (r : Record) (d : Side) (call allow : ℕ) (piece : List ℕ) {a : Hear
   heard-as e (side.shut n q) = side.shut n q
   heard-as e (side.opened o q) = side.opened o (q ∙ e)
 
-  pub hears-feed : call ≡ 1 → HeardAs r d (fedHere r d allow piece) a → HeardAs r d (oneWayAs call allow piece r d) a
-  hears-feed e = heard-as (by-feed _ _ _ _ call e)
+  pub hears-feed : call ≡ 1 → FedAs r d allow piece a → Hears r d call allow piece a
+  hears-feed e x = record { answers = heard-as (by-feed _ _ _ _ call e) (x .answers); stays = λ h z. x .stays h }
 
-  pub hears-give : call ≡ 2 → HeardAs r d (givenHere r d) a → HeardAs r d (oneWayAs call allow piece r d) a
-  hears-give e = heard-as (by-give _ _ _ _ call e)
+  pub hears-give : call ≡ 2 → HeardAs r d (givenHere r d) a → Hears r d call allow piece a
+  hears-give e x = record { answers = heard-as (by-give _ _ _ _ call e) x; stays = λ h z. absurd (omega arith) }
 
-  pub hears-close : (call ≡ 1 → ⊥) → (call ≡ 2 → ⊥) → HeardAs r d (closedHere r d) a → HeardAs r d (oneWayAs call allow piece r d) a
-  hears-close x y = heard-as (by-close _ _ _ call x y)
+  pub hears-close : (call ≡ 1 → ⊥) → (call ≡ 2 → ⊥) → HeardAs r d (closedHere r d) a → Hears r d call allow piece a
+  hears-close n m x = record { answers = heard-as (by-close _ _ _ call n m) x; stays = λ h z. absurd (n z) }
 
 module _ {c : Connection} {f : Found} {call : ℕ} (id allow : ℕ) {piece : List ℕ} {t : Turn} (live : Alive c f) (n : call ≡ 0 → ⊥) where
   pub past-row : 24 ≤ f .at → t ≡ unaltered 1 c f → Turned c f call id allow piece t
@@ -194,16 +206,19 @@ module _ {c : Connection} {f : Found} {call : ℕ} (id allow : ℕ) {piece : Lis
         by (shut s e) = not-open live n (none s) (q ∙ ap (replied c) e ∙ ap (λ x. turn x (f .row) (numbered 1)) (sym (kept-none c 1 (λ x. omega arith))))
         by (opened o e) = request live n w o (q ∙ ap (replied c) e) (rw q (m .stays))
 
-    pub on-one-way : {d : Side} {a : Heard} → (f .row .kind ≡ 1 → ⊥) → d ≡ sideIn c → HeardAs (f .row) d (oneWayAs call allow piece (f .row) d) a → t ≡ overheard c a → Turned c f call id allow piece t
+    pub on-one-way : {d : Side} {a : Heard} → (f .row .kind ≡ 1 → ⊥) → d ≡ sideIn c → Hears (f .row) d call allow piece a → t ≡ overheard c a → Turned c f call id allow piece t
     on-one-way {d} {a} k e h q = by (rw e at h)
       where
         none : (Heeds (f .row) → ⊥) → f .at < 24 → Open (f .row) ⊎ Heeds (f .row) → ⊥
         none s x (inl o) = k (o .kind)
         none s x (inr h) = s h
 
-        by : HeardAs (f .row) (sideIn c) (oneWayAs call allow piece (f .row) (sideIn c)) a → Turned c f call id allow piece t
-        by (side.shut s x) = not-open live n (none s) (q ∙ ap (overheard c) x ∙ ap (λ x. turn x (f .row) (numbered 1)) (sym (kept-none c 1 (λ x. omega arith))))
-        by (side.opened o x) = one-way live n w o (q ∙ ap (overheard c) x)
+        by : Hears (f .row) (sideIn c) call allow piece a → Turned c f call id allow piece t
+        by m = go (m .answers)
+          where
+            go : HeardAs (f .row) (sideIn c) (oneWayAs call allow piece (f .row) (sideIn c)) a → Turned c f call id allow piece t
+            go (side.shut s x) = not-open live n (none s) (q ∙ ap (overheard c) x ∙ ap (λ x. turn x (f .row) (numbered 1)) (sym (kept-none c 1 (λ x. omega arith))))
+            go (side.opened o x) = one-way live n w o (q ∙ ap (overheard c) x) (rw x at (m .stays o))
 
 -- ---- our GOAWAY
 

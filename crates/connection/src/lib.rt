@@ -12,10 +12,9 @@ ghost use lib.ListN.{length};
 ghost use Rattle.record.specs.Sound.{Decides};
 ghost use Rattle.connection.specs.Whose.{Wanted};
 ghost use Rattle.record.specs.Row.{recordAt, no-cells};
-ghost use Rattle.oneways.specs.Heard.{HeardAs};
 ghost use Rattle.connection.specs.Halves.{doorsIn, withDoors, sideIn, withSide};
 ghost use Rattle.connection.specs.Faults.{codeKept};
-ghost use Rattle.connection.specs.Turned.{fresh-connection, numbered, unaltered, firstRecord, takenBy, freeAt, openedAt, Asks, replied, oneWayAs, overheard, Turned, begunOf, sweptOf, GoesAway};
+ghost use Rattle.connection.specs.Turned.{fresh-connection, numbered, unaltered, firstRecord, takenBy, freeAt, openedAt, Asks, replied, Hears, overheard, Turned, begunOf, sweptOf, GoesAway};
 
 // What a host lends for a connection: integers alone, and each value means something.
 // code: of the connection fault, 0 while there was none. requests and oneways: the lowest ID of each kind that was not opened yet.
@@ -277,6 +276,7 @@ pub fn wanted(call: u64, id: u64, r: Record) -> bool
 
 // ---- an opening
 
+// Nothing was read yet.
 fn begun_row(kind: u8, id: u64) -> Record
     ensures { λ r. ⌜ r ≡ recordAt kind id no-cells ⌝ }
 {
@@ -307,12 +307,14 @@ fn first_record(id: StreamId) -> Record
     }
 }
 
+// An opening that is accepted takes the record.
 fn taken_by(number: u64, id: StreamId, r: Record) -> Record
     ensures { λ q. ⌜ q ≡ takenBy number (id .0) r ⌝ }
 {
     if number == 0 { first_record(id) } else { r }
 }
 
+// How many free records a search for one has found.
 fn free_at(at: usize) -> u64
     ensures { λ r. ⌜ r ≡ freeAt at ⌝ }
 {
@@ -334,6 +336,7 @@ fn open_stream(c: Connection, f: Found, id: StreamId) -> Turn
 
 // ---- a call on an open stream
 
+// What a request answers, and what that makes of connection and record: a connection fault's code is kept.
 fn ask(r: Record, call: u64, allow: u64, piece: &[u8]) -> Reply
     ensures { λ a. ⌜ Asks r call allow (now (piece .entry)) a ⌝ }
 {
@@ -368,8 +371,9 @@ fn reply_turn(c: Connection, a: Reply) -> Turn
     }
 }
 
+// What a one-way stream answers, and what that makes of both: it alters its side of the connection too.
 fn heed(r: Record, d: Side, call: u64, allow: u64, piece: &[u8]) -> Heard
-    ensures { λ a. ⌜ HeardAs r d (oneWayAs call allow (now (piece .entry)) r d) a ⌝ }
+    ensures { λ a. ⌜ Hears r d call allow (now (piece .entry)) a ⌝ }
 {
     if call == 1 {
         return oneways::feed(r, d, piece, allow);
@@ -417,6 +421,7 @@ pub fn decide(c: Connection, f: Found, call: u64, id: u64, allow: u64, piece: &[
         return refused(1, c, f);
     }
     let row = f.row;
+    // Either answers 1 to a record that is not an open stream's.
     if row.kind == 1 {
         return reply_turn(c, ask(row, call, allow, piece));
     }

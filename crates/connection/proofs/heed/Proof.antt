@@ -14,7 +14,7 @@ feed-requires c κs = search needs
 
 -- src/lib.rt:375:9
 returns : tie.Need-returns
-returns c = hears-feed _ _ _ _ _ (c .before .if1 .taken) (c .feed .ensures .answers)
+returns c = hears-feed _ _ _ _ _ (c .before .if1 .taken) (c .feed .ensures)
 
 -- src/lib.rt:378:9
 give-requires : tie.Need-give-requires
