@@ -70,7 +70,7 @@ fn empty(row: &mut [Record])
 
 // ---- a call on one stream
 
-fn step(
+pub fn step(
     conn: &mut Connection,
     row: &mut [Record],
     call: u64,

@@ -24,7 +24,7 @@ use Rattle.listing.specs.declared.Usage.the-variants.{Skipped, Content, 
 pub record Put (room : List ℕ) (to : ℕ) (text : List ℕ) (after : List ℕ) (r : ℕ) : Type 0 where
   pub is : after ≡ sets room to text
   pub next : r ≡ to + length text
-  pub within : r ≤ 80
+  pub within : r ≤ 2048
 
 sets-append : (l : List ℕ) (i : ℕ) (u v : List ℕ) → sets (sets l i u) (i + length u) v ≡ sets l i (u ++ v)
 sets-append l i [] v = let e : i + 0 ≡ i = omega arith in rw e refl
@@ -95,7 +95,7 @@ short n h = few 19 n (omega arith)
 
 -- ---- one law for each way out
 
-pub end-put : (room : List ℕ) (to i : ℕ) (w x : List ℕ) → i ≤ length w → length w ≤ i → to + length w ≤ 80 → x ≡ sets room to (take i w) → Put room to w x (to + i)
+pub end-put : (room : List ℕ) (to i : ℕ) (w x : List ℕ) → i ≤ length w → length w ≤ i → to + length w ≤ 2048 → x ≡ sets room to (take i w) → Put room to w x (to + i)
 end-put room to i w x h g b e =
     let n : i ≡ length w = omega arith in
     record { is = e ∙ ap (sets room to) (take-all i w g); next = omega arith; within = omega arith }

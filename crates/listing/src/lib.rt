@@ -179,8 +179,8 @@ pub fn next(s: &[u8], p: Place) -> Line
 
 // ---- the text of a line, put into a room that any line fits
 
-fn put(room: &mut [u8; 80], to: usize, word: &[u8]) -> usize
-    requires { ⌜ to + length (now word) ≤ 80 ⌝ }
+pub fn put(room: &mut [u8; 2048], to: usize, word: &[u8]) -> usize
+    requires { ⌜ to + length (now word) ≤ 2048 ⌝ }
     ensures { λ r. ⌜ Put (now (room .entry)) to (now (word .entry)) (now (room .exit)) r ⌝ }
 {
     let mut i = 0;
@@ -191,16 +191,16 @@ fn put(room: &mut [u8; 80], to: usize, word: &[u8]) -> usize
     to + i
 }
 
-fn put_digit(room: &mut [u8; 80], to: usize, digit: u64) -> usize
-    requires { ⌜ (to < 80) × (digit < 10) ⌝ }
+fn put_digit(room: &mut [u8; 2048], to: usize, digit: u64) -> usize
+    requires { ⌜ (to < 2048) × (digit < 10) ⌝ }
     ensures { λ r. ⌜ Put (now (room .entry)) to ((48 + digit) ∷ []) (now (room .exit)) r ⌝ }
 {
     room[to] = 48 + digit as u8;
     to + 1
 }
 
-fn put_decimal(room: &mut [u8; 80], to: usize, n: u64) -> usize
-    requires { ⌜ to + length (decimal n) ≤ 80 ⌝ }
+pub fn put_decimal(room: &mut [u8; 2048], to: usize, n: u64) -> usize
+    requires { ⌜ to + length (decimal n) ≤ 2048 ⌝ }
     ensures { λ r. ⌜ Put (now (room .entry)) to (decimal n) (now (room .exit)) r ⌝ }
 {
     if n < 10 {
@@ -211,16 +211,16 @@ fn put_decimal(room: &mut [u8; 80], to: usize, n: u64) -> usize
 }
 
 // A number and a blank.
-fn put_spaced(room: &mut [u8; 80], to: usize, n: u64) -> usize
-    requires { ⌜ to + 21 ≤ 80 ⌝ }
+pub fn put_spaced(room: &mut [u8; 2048], to: usize, n: u64) -> usize
+    requires { ⌜ to + 21 ≤ 2048 ⌝ }
     ensures { λ r. ⌜ Put (now (room .entry)) to (spaced n) (now (room .exit)) r ⌝ }
 {
     let blank = put_decimal(room, to, n);
     put(room, blank, b" ")
 }
 
-fn put_usage(room: &mut [u8; 80], to: usize, usage: Usage) -> usize
-    requires { ⌜ to + 14 ≤ 80 ⌝ }
+fn put_usage(room: &mut [u8; 2048], to: usize, usage: Usage) -> usize
+    requires { ⌜ to + 14 ≤ 2048 ⌝ }
     ensures { λ r. ⌜ Put (now (room .entry)) to (word (useOf usage)) (now (room .exit)) r ⌝ }
 {
     match usage {
@@ -231,7 +231,7 @@ fn put_usage(room: &mut [u8; 80], to: usize, usage: Usage) -> usize
     }
 }
 
-fn frame_text(at: u64, ftype: u64, len: u64, usage: Usage, room: &mut [u8; 80]) -> usize
+fn frame_text(at: u64, ftype: u64, len: u64, usage: Usage, room: &mut [u8; 2048]) -> usize
     ensures { λ r. ⌜ Put (now (room .entry)) 0 (textOf (frame at ftype len (useOf usage))) (now (room .exit)) r ⌝ }
 {
     let second = put_spaced(room, 0, at);
@@ -241,7 +241,7 @@ fn frame_text(at: u64, ftype: u64, len: u64, usage: Usage, room: &mut [u8; 80]) 
     put(room, end, b"\n")
 }
 
-fn whole_text(total: u64, room: &mut [u8; 80]) -> usize
+fn whole_text(total: u64, room: &mut [u8; 2048]) -> usize
     ensures { λ r. ⌜ Put (now (room .entry)) 0 (textOf (whole total)) (now (room .exit)) r ⌝ }
 {
     let second = put(room, 0, b"end ");
@@ -249,7 +249,7 @@ fn whole_text(total: u64, room: &mut [u8; 80]) -> usize
     put(room, last, b"whole\n")
 }
 
-fn refused_text(bytes: u64, code: u64, room: &mut [u8; 80]) -> usize
+fn refused_text(bytes: u64, code: u64, room: &mut [u8; 2048]) -> usize
     ensures { λ r. ⌜ Put (now (room .entry)) 0 (textOf (refused bytes code)) (now (room .exit)) r ⌝ }
 {
     let second = put(room, 0, b"refused ");
@@ -260,7 +260,7 @@ fn refused_text(bytes: u64, code: u64, room: &mut [u8; 80]) -> usize
 
 // The text of a line at the start of the room, and how many bytes it has; the rest of the room stays. One behind the other, the texts of the lines
 // are what is printed (specs, Put, `prints`).
-pub fn text(line: Line, room: &mut [u8; 80]) -> usize
+pub fn text(line: Line, room: &mut [u8; 2048]) -> usize
     ensures { λ r. ⌜ Put (now (room .entry)) 0 (textOf (entryOf line)) (now (room .exit)) r ⌝ }
 {
     match line {

@@ -11,7 +11,7 @@ use Rattle.lister.proofs.print.Tie as tie
 
 -- the text lies within the room
 within : (c : tie.After-text) → c .text .result ≤ length (c .text .last .1 .0)
-within c = let k : length (c .text .last .1 .0) ≡ 80 = same-room (c .text .ensures) in omega (arith, c .text .ensures .within)
+within c = let k : length (c .text .last .1 .0) ≡ 2048 = same-room (c .text .ensures) in omega (arith, c .text .ensures .within)
 
 text-requires : tie.Need-text-requires
 text-requires c κs = search needs

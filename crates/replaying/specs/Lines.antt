@@ -1,0 +1,118 @@
+-- The lines that `replay` prints, byte by byte. Assumes nothing.
+use Prim.Native.Nat.{ℕ, suc, _+_}
+use mathlib.Core.List.{List, [], _∷_, _++_}
+use mathlib.Core.Bool.{Bool, true, false}
+use lib.Dec.{eqb}
+use lib.ListN.{length}
+use Rattle.rules.specs.Text.{ascii}
+use Rattle.rules.specs.Integers.{Int, cut, got}
+use Rattle.rules.specs.Writer.{Write, refused, wrote, write-integer, write-header, write-integer-frame, write-opening}
+use Rattle.varint.specs.Write.{leftIn}
+use Rattle.listing.specs.Text.{decimal}
+use Rattle.script.specs.Words.{hexWord}
+use Rattle.record.specs.declared.Record.{Record}
+use Rattle.connection.specs.declared.Connection.{Connection}
+use Rattle.connection.specs.declared.Report.{Report}
+
+unfoldable pub pick : Bool → List ℕ → List ℕ → List ℕ
+pick true a b = a
+pick false a b = b
+
+-- a blank, and a number
+unfoldable pub blank : ℕ → List ℕ
+blank n = ascii " " ++ decimal n
+
+-- a blank, and a number or `-`
+unfoldable pub maybe : (there n : ℕ) → List ℕ
+maybe there n = pick (eqb there 0) (ascii " -") (blank n)
+
+-- the section size, the QPACK table's capacity and the blocked streams
+unfoldable pub settingsText : Connection → List ℕ
+settingsText c = pick (eqb (c .set) 0) (ascii " - 0 0") (maybe (c .limited) (c .size) ++ blank (c .capacity) ++ blank (c .blocked))
+
+-- the number, the bytes consumed, the headers finished
+unfoldable pub headText : (number used heads : ℕ) → List ℕ
+headText number used heads = decimal number ++ blank used ++ blank heads ++ ascii " "
+
+-- what the call gave
+unfoldable pub eventText : Connection → Report → List ℕ
+eventText c r =
+    pick (eqb (r .event) 1) (ascii "content" ++ blank (r .start) ++ blank (r .len))
+    (pick (eqb (r .event) 2) (ascii "section" ++ blank (r .start) ++ blank (r .len) ++ ascii " 0")
+    (pick (eqb (r .event) 3) (ascii "section" ++ blank (r .start) ++ blank (r .len) ++ ascii " 1")
+    (pick (eqb (r .event) 7) (ascii "qpack" ++ blank (r .value) ++ blank (r .start) ++ blank (r .len))
+    (pick (eqb (r .event) 8) (ascii "settings" ++ settingsText c)
+    (pick (eqb (r .event) 9) (ascii "goaway" ++ blank (r .value))
+    (pick (eqb (r .event) 10) (ascii "maxpush" ++ blank (r .value))
+    (pick (eqb (r .event) 11) (ascii "whole")
+    (pick (eqb (r .event) 12) (ascii "freed") (ascii "-")))))))))
+
+abbrev pub line-feed : List ℕ
+line-feed = 10 ∷ []
+
+-- THE LINE OF A CALL ON A STREAM, with the connection's record as it is left
+unfoldable pub reportLine : Connection → Report → List ℕ
+reportLine c r = headText (r .number) (r .used) (r .heads) ++ eventText c r ++ line-feed
+
+-- of a start
+unfoldable pub startLine : (number : ℕ) → List ℕ
+startLine number = headText number 0 0 ++ (ascii "-" ++ line-feed)
+
+-- of a write, with the whole buffer
+unfoldable pub writtenLine : (number count : ℕ) (buffer : List ℕ) → List ℕ
+writtenLine number count buffer = headText number 0 0 ++ ascii "written" ++ blank count ++ ascii " " ++ hexWord buffer ++ line-feed
+
+-- which write a letter stands for
+unfoldable pub pickWrite : Bool → Write → Write → Write
+pickWrite true a b = a
+pickWrite false a b = b
+
+unfoldable pub writeOf : (letter a b room : ℕ) → Write
+writeOf letter a b room =
+    pickWrite (eqb letter 87) (write-header room a b) (pickWrite (eqb letter 73) (write-integer-frame room a b) (pickWrite (eqb letter 78) (write-integer room a) (write-opening room)))
+
+unfoldable pub writeLine : Write → (before : List ℕ) → List ℕ
+writeLine (refused number) before = writtenLine number 0 (leftIn (refused number) before)
+writeLine (wrote bytes) before = writtenLine 0 (length bytes) (leftIn (wrote bytes) before)
+
+-- of an integer read
+unfoldable pub valueLine : (value size : ℕ) → List ℕ
+valueLine value size = ascii "0 0 0 value" ++ blank value ++ blank size ++ line-feed
+
+abbrev pub cutLine : List ℕ
+cutLine = ascii "0 0 0 cut" ++ line-feed
+
+unfoldable pub readLine : Int → List ℕ
+readLine cut = cutLine
+readLine (got value next rest) = valueLine value next
+
+-- of the state
+
+unfoldable pub kindText : ℕ → List ℕ
+kindText kind =
+    pick (eqb kind 1) (ascii "request")
+    (pick (eqb kind 2) (ascii "untyped") (pick (eqb kind 3) (ascii "control") (pick (eqb kind 4) (ascii "encoder") (pick (eqb kind 5) (ascii "decoder") (ascii "skipped")))))
+
+-- a section is due of a request in mode 6 or 7
+unfoldable pub dueText : Record → List ℕ
+dueText r = pick (eqb (r .kind) 1) (pick (eqb (r .mode) 6) (ascii "+") (pick (eqb (r .mode) 7) (ascii "+") [])) []
+
+unfoldable pub recordText : ℕ → Record → List ℕ
+recordText index r = pick (eqb (r .kind) 0) [] (blank index ++ ascii ":" ++ decimal (r .id) ++ ascii ":" ++ kindText (r .kind) ++ dueText r)
+
+unfoldable pub rowsText : ℕ → List Record → List ℕ
+rowsText index [] = []
+rowsText index (r ∷ rs) = recordText index r ++ rowsText (suc index) rs
+
+unfoldable pub connText : Connection → List ℕ
+connText c =
+    ascii "0 0 0 state" ++ blank (c .code) ++ blank (c .requests) ++ blank (c .oneways) ++ maybe (c .sent) (c .ours) ++ maybe (c .goaways) (c .theirs) ++ maybe (c .pushes) (c .push) ++ settingsText c
+
+unfoldable pub stateLine : Connection → List Record → List ℕ
+stateLine c rows = connText c ++ rowsText 0 rows ++ line-feed
+
+abbrev pub badLine : List ℕ
+badLine = ascii "bad line" ++ line-feed
+
+abbrev pub longLine : List ℕ
+longLine = ascii "too long" ++ line-feed
