@@ -17,20 +17,6 @@ pub record Puts (room : List ℕ) (to : ℕ) (text : List ℕ) (most : ℕ) (aft
   pub put : Put room to text after r
   pub few : length text ≤ most
 
--- a line at the start of the room
-pub record Prints (room after : List ℕ) (count : ℕ) : Type 0 where
-  pub text : List ℕ
-  pub put : Put room 0 text after count
-
-pub prints : {room text after : List ℕ} {most r : ℕ} → Puts room 0 text most after r → Prints room after r
-prints p = record { text = _; put = p .put }
-
-pub prints-word : {room text after : List ℕ} {r : ℕ} → Put room 0 text after r → Prints room after r
-prints-word p = record { text = _; put = p }
-
-pub printed-room : {room after : List ℕ} {r : ℕ} → Prints room after r → length after ≡ length room
-printed-room p = same-room (p .put)
-
 -- the place behind a text
 pub behind : {room text after : List ℕ} {to most r : ℕ} → Puts room to text most after r → r ≤ to + most
 behind p = let n = p .put .next in let f = p .few in omega arith
@@ -101,6 +87,3 @@ puts-dash (b ∷ bs) h p = absurd (omega arith)
 
 pub puts-bytes : {room x : List ℕ} {to m r : ℕ} (bytes : List ℕ) (i : ℕ) → length bytes ≤ i → (length bytes ≡ 0 → ⊥) → Puts room to (hexes (take i bytes)) m x r → Puts room to (hexWord bytes) m x r
 puts-bytes bytes i h w p = puts-as (sym (some-bytes bytes (hexes (take i bytes)) (omega arith) (ap hexes (take-all i bytes h)))) p
-
-pub prints-none : (room : List ℕ) → Prints room room 0
-prints-none room = record { text = []; put = puts-none room 0 (omega arith) .put }

@@ -14,7 +14,8 @@ ghost use Rattle.varint.specs.Write.{Meets};
 ghost use Rattle.listing.specs.Text.{decimal};
 ghost use Rattle.script.specs.Words.{hexDigit, hexes, hexWord};
 ghost use Rattle.replaying.specs.Lines.{blank, maybe as maybeText, settingsText, headText, eventText, reportLine, startLine, writtenLine, valueLine, kindText, dueText, recordText, rowsText, connText, stateLine, writeOf, writeLine, readLine};
-ghost use Rattle.replaying.specs.Puts.{Puts, Prints};
+ghost use Rattle.replaying.specs.Puts.{Puts};
+ghost use Rattle.replaying.specs.Plays.{Lined, Starts, Steps, Says, Writes, Plays};
 ghost use Rattle.replaying.specs.Runs.{StepAt};
 
 // ---- parts of a printed line, from a place of the room on
@@ -311,7 +312,7 @@ struct Played {
 
 fn started(room: &mut [u8; 2048], pair: Pair, n: u64) -> Played
     requires { ⌜ n ≤ 32 ⌝ }
-    ensures { λ r. ⌜ Prints (now (room .entry)) (now (room .exit)) (r .count) ⌝ }
+    ensures { λ r. ⌜ Lined (Starts pair n (r .pair)) (now (room .entry)) (now (room .exit)) (r .count) ⌝ }
 {
     let conn = pair.conn;
     let rows = pair.rows;
@@ -339,9 +340,17 @@ fn started(room: &mut [u8; 2048], pair: Pair, n: u64) -> Played
 }
 
 // A call on one stream, lent the kept row or another of n free records. call 0: open, 1: feed, 2: give a section, 3: end, 4: reset.
-fn streamed(room: &mut [u8; 2048], pair: Pair, n: u64, call: u64, id: u64, allow: u64, piece: &[u8]) -> Played
+fn streamed(
+    room: &mut [u8; 2048],
+    pair: Pair,
+    n: u64,
+    call: u64,
+    id: u64,
+    allow: u64,
+    piece: &[u8],
+) -> Played
     requires { ⌜ n ≤ 32 ⌝ }
-    ensures { λ r. ⌜ Prints (now (room .entry)) (now (room .exit)) (r .count) ⌝ }
+    ensures { λ r. ⌜ Lined (Steps pair n call id allow (now (piece .entry)) (r .pair)) (now (room .entry)) (now (room .exit)) (r .count) ⌝ }
 {
     let conn = pair.conn;
     let rows = pair.rows;
@@ -373,7 +382,7 @@ fn streamed(room: &mut [u8; 2048], pair: Pair, n: u64, call: u64, id: u64, allow
 // Our GOAWAY, into a buffer.
 fn told_goaway(room: &mut [u8; 2048], pair: Pair, id: u64, buffer: &mut [u8]) -> Played
     requires { ⌜ length (now buffer) ≤ 64 ⌝ }
-    ensures { λ r. ⌜ Prints (now (room .entry)) (now (room .exit)) (r .count) ⌝ }
+    ensures { λ r. ⌜ Lined (Says pair id (now (buffer .entry)) (r .pair)) (now (room .entry)) (now (room .exit)) (r .count) ⌝ }
 {
     let conn = pair.conn;
     let rows = pair.rows;
@@ -423,7 +432,7 @@ fn filled() -> [u8; 64]
 // A write into a buffer.
 fn buffered(room: &mut [u8; 2048], pair: Pair, l: Line) -> Played
     requires { ⌜ l .room ≤ 64 ⌝ }
-    ensures { λ r. ⌜ Prints (now (room .entry)) (now (room .exit)) (r .count) ⌝ }
+    ensures { λ r. ⌜ Lined (Writes pair l (r .pair)) (now (room .entry)) (now (room .exit)) (r .count) ⌝ }
 {
     let mut buffer = filled();
     let n = l.room;
@@ -446,7 +455,7 @@ fn value(room: &mut [u8; 2048], bytes: &[u8]) -> usize
 // The call of a line.
 fn play(room: &mut [u8; 2048], pair: Pair, l: Line, piece: &[u8]) -> Played
     requires { ⌜ (l .row ≤ 32) × (l .room ≤ 64) ⌝ }
-    ensures { λ r. ⌜ Prints (now (room .entry)) (now (room .exit)) (r .count) ⌝ }
+    ensures { λ r. ⌜ Lined (Plays pair l (now (piece .entry)) (r .pair)) (now (room .entry)) (now (room .exit)) (r .count) ⌝ }
 {
     if l.letter == b'S' {
         return started(room, pair, l.row);
@@ -500,7 +509,7 @@ pub fn start() -> Pair {
 
 // The line at a place of the script: its call is made, and what it prints stands at the start of the room.
 pub fn next(script: &[u8], at: usize, pair: Pair, scratch: &mut [u8], room: &mut [u8; 2048]) -> Step
-    ensures { λ r. ⌜ StepAt (now (script .entry)) at (now (scratch .entry)) (now (room .entry)) r (now (scratch .exit)) (now (room .exit)) ⌝ }
+    ensures { λ r. ⌜ StepAt (now (script .entry)) at pair (now (scratch .entry)) (now (room .entry)) r (now (scratch .exit)) (now (room .exit)) ⌝ }
 {
     if 1048576 < script.len() {
         let count = listing::put(room, 0, b"too long\n");

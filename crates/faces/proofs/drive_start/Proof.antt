@@ -72,7 +72,7 @@ slice = sliceTy (tyRef erased mut (pointee (R .written)))
 abbrev CallC : {M : Type 1} (𝓤 : URA M) (H : Heap 𝓤) (A : Atoms 𝓤) (at-mem : Memory → SProp 𝓤) (run : Routine → Fun 𝓤) → Contract 𝓤
 CallC 𝓤 H A at-mem run = tripleOf 𝓤 H A callee.signature (callee.spec 𝓤 H A at-mem run)
 
-module _ {M : Type 1} (𝓤 : URA M) (H : Heap 𝓤) (A : Atoms 𝓤) (W : Given 𝓤 H A) (at-mem : Memory → SProp 𝓤) (run : Routine → Fun 𝓤) (c : Connection) (rs : List Record) (n  : ℕ) (is-c : Is C.the-row c (conn-vals c)) (is-rs : Is Rows rs (rows-vals rs)) (n-fits : n < 2 ^ 64) (within : n ≤ 32) where
+module _ {M : Type 1} (𝓤 : URA M) (H : Heap 𝓤) (A : Atoms 𝓤) (W : Given 𝓤 H A) (at-mem : Memory → SProp 𝓤) (run : Routine → Fun 𝓤) (c : Connection) (rs : List Record) (n : ℕ) (is-c : Is C.the-row c (conn-vals c)) (is-rs : Is Rows rs (rows-vals rs)) (n-fits : n < 2 ^ 64) (within : n ≤ 32) where
   abbrev Arg : Type 0
   Arg = Connection × (List Record × (ℕ × Unit {0}))
 
@@ -114,7 +114,7 @@ module _ {M : Type 1} (𝓤 : URA M) (H : Heap 𝓤) (A : Atoms 𝓤) (W : Given
       let e′ = subst (λ (zs : List Record). Started c (take n rs) (ws .0) zs r) (sym (take-at (ws .1 .0) (from-on n rs) n k)) e in
       qed W (‵ ftrue ∷ []) ∵
       suffices ! _ (ends-at 𝓤 H A self.ended stayed (self.clauses 𝓤 H A at-mem run) W ((tt, tt, tt, a, at), tt) (driven-val ws r) (driven ws r) (tt, (tt, (tt, tt))) (tt, (tt, (tt, tt)))) $ says ! (e′, drop-at (ws .1 .0) (from-on n rs) n k) $ frame ! $
-      nothing ! $  owned ! usize (Is usize) (uint-makes 𝓤 H A W w64) n _ (refl, n-fits) $ fjoin ! $ owned ! Rows (Is Rows) (rows-makes 𝓤 H A W) rs _ is-rs $ fjoin ! $
+      nothing ! $ owned ! usize (Is usize) (uint-makes 𝓤 H A W w64) n _ (refl, n-fits) $ fjoin ! $ owned ! Rows (Is Rows) (rows-makes 𝓤 H A W) rs _ is-rs $ fjoin ! $
       owned ! C.the-row (Is C.the-row) (conn-makes 𝓤 H A) c _ is-c $ fjoin ! $ frame ! $ owned ! D.the-row (Is D.the-row) (LL.makes D.the-type D′.the-plain 𝓤 H A) (driven ws r) _ is $ done !
 
   module _ (Cs : Calls 𝓤 H) (Λ : Loops 𝓤 H) (fm : FmC 𝓤 H (W .laws) Cs) (known : Triple 𝓤 (Cs #callee) (CallC 𝓤 H A at-mem run)) where

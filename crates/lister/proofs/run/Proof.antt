@@ -1,60 +1,44 @@
+-- `lister::run` is safe and ends: what came lies within the room. Assumes nothing.
 use mathlib.Core.Path.{sym}
 use lib.Seq.{length-take-le}
 use Rattle.input.specs.Came.{fits}
 use borrow.Author.Needs.{needs}
 use Rattle.lister.proofs.run.Statement.{statement}
 use Rattle.lister.proofs.run.Tie as tie
-use Rattle.lister.proofs.run.Reads as reads
-use Rattle.lister.proofs.run.Lts as lts
-use Rattle.input.proofs.read_all.Reads as read-all-reads
-use Rattle.io.proofs.write_all.Reads as write-all-reads
-use Rattle.lister.proofs.list.Reads as list-reads
 
--- src/main.rt:36:11
 read-all-requires : tie.Need-read-all-requires
 read-all-requires c κs = search needs
 
--- src/main.rt:37:22
 enum-known-n : tie.Need-enum-known-n
 enum-known-n c = search needs
 
--- src/main.rt:37:33
 slice-reshare-prefix-list : tie.Need-slice-reshare-prefix-list
 slice-reshare-prefix-list c = fits (c .before .before .before .before .before .read-all .ensures) (c .before .n .given .1)
 
--- src/main.rt:37:33
 slice-aggregate-list : tie.Need-slice-aggregate-list
 slice-aggregate-list c = sym (length-take-le _ _ (fits (c .before .before .before .before .before .before .read-all .ensures) (c .before .before .n .given .1)))
 
--- src/main.rt:37:28
 list-requires : tie.Need-list-requires
 list-requires c κs = search needs
 
--- src/main.rt:39:42
 enum-told : tie.Need-enum-told
 enum-told c = search needs
 
--- src/main.rt:39:42
 slice-aggregate-write-all : tie.Need-slice-aggregate-write-all
 slice-aggregate-write-all c = search needs
 
--- src/main.rt:39:13
 write-all-requires : tie.Need-write-all-requires
 write-all-requires c κs = search needs
 
--- src/main.rt:35:1
 same-length : tie.Need-same-length
 same-length c = search needs
 
--- src/main.rt:35:1
 returns : tie.Need-returns
 returns c = search needs
 
--- src/main.rt:35:1
 same-length-2 : tie.Need-same-length-2
 same-length-2 c = search needs
 
--- src/main.rt:35:1
 returns-2 : tie.Need-returns-2
 returns-2 c = search needs
 

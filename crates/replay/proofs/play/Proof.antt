@@ -1,17 +1,13 @@
+-- `replay::play` is safe and ends: each line that leads on leaves less of the script, and a line lies within the room. Assumes nothing.
 use Prim.Native.Nat.{_-_}
 use mathlib.Core.Path.{_≡_, refl, sym, _∙_}
-use Rattle.replaying.specs.Puts.{printed-room}
+use Rattle.listing.specs.Put.{same-room}
 use native.Mathlib.Omega.{arith}
 use lib.ListN.{length}
 use lib.Seq.{length-take-le}
 use borrow.Author.Needs.{needs}
 use Rattle.replay.proofs.play.Statement.{statement}
 use Rattle.replay.proofs.play.Tie as tie
-use Rattle.replay.proofs.play.Reads as reads
-use Rattle.replay.proofs.play.Lts as lts
-use Rattle.io.proofs.write_all.Reads as write-all-reads
-use Rattle.replaying.proofs.next.Reads as next-reads
-use Rattle.replaying.proofs.start.Reads as start-reads
 
 abbrev Inv-loop : tie.InvT-loop
 Inv-loop script scratch₀ room₀ pair₀ at₀ scratch room pair at = (length scratch ≡ 524288) × (length room ≡ 2048)
@@ -19,43 +15,33 @@ Inv-loop script scratch₀ room₀ pair₀ at₀ scratch room pair at = (length 
 abbrev μ-loop : tie.MeasureT-loop
 μ-loop script scratch₀ room₀ pair₀ at₀ scratch room pair at = length script - at
 
--- src/main.rt:9:9
 start-requires : tie.Need-start-requires Inv-loop μ-loop
 start-requires c κs = search needs
 
--- src/main.rt:11:5
 loop-holds : tie.Need-loop-holds Inv-loop μ-loop
 loop-holds c = (refl, refl)
 
--- src/main.rt:12:54
 slice-aggregate-next : tie.Need-slice-aggregate-next Inv-loop μ-loop
 slice-aggregate-next c = search needs
 
--- src/main.rt:12:13
 next-requires : tie.Need-next-requires Inv-loop μ-loop
 next-requires c κs = search needs
 
--- src/main.rt:14:38
 array-share-prefix-room : tie.Need-array-share-prefix-room Inv-loop μ-loop
-array-share-prefix-room c = let e = c .before .next .ensures in let k = printed-room (e .prints) in omega (arith, e .prints .put .within, c .before .before .before .before .loop .inv .1)
+array-share-prefix-room c = let e = c .before .next .ensures in let k = same-room (e .line .put) in omega (arith, e .line .put .within, c .before .before .before .before .loop .inv .1)
 
--- src/main.rt:14:38
 slice-aggregate-write-all : tie.Need-slice-aggregate-write-all Inv-loop μ-loop
-slice-aggregate-write-all c = let e = c .before .before .next .ensures in let k = printed-room (e .prints) in sym (length-take-le _ _ (omega (arith, e .prints .put .within, c .before .before .before .before .before .loop .inv .1)))
+slice-aggregate-write-all c = let e = c .before .before .next .ensures in let k = same-room (e .line .put) in sym (length-take-le _ _ (omega (arith, e .line .put .within, c .before .before .before .before .before .loop .inv .1)))
 
--- src/main.rt:14:9
 write-all-requires : tie.Need-write-all-requires Inv-loop μ-loop
 write-all-requires c κs = search needs
 
--- src/main.rt:11:5
 loop-less : tie.Need-loop-less Inv-loop μ-loop
 loop-less c = let e = c .before .before .before .before .before .next .ensures in omega (arith, e .inside (c .before .if1 .taken), e .leads (c .before .if1 .taken))
 
--- src/main.rt:11:5
 loop-again : tie.Need-loop-again Inv-loop μ-loop
-loop-again c = let e = c .before .before .before .before .before .next .ensures in let l = c .before .before .before .before .before .before .before .before .loop in (e .same ∙ l .inv .0, printed-room (e .prints) ∙ l .inv .1)
+loop-again c = let e = c .before .before .before .before .before .next .ensures in let l = c .before .before .before .before .before .before .before .before .loop in (e .same ∙ l .inv .0, same-room (e .line .put) ∙ l .inv .1)
 
--- src/main.rt:20:13
 returns : tie.Need-returns Inv-loop μ-loop
 returns c = search needs
 

@@ -1,47 +1,37 @@
+-- `replaying::due` meets its contract: a sign where a section is due. Assumes nothing.
 use native.Mathlib.Omega.{arith}
 use Rattle.rules.specs.Text.{ascii}
-use Rattle.replaying.specs.Puts.{Puts, behind, puts-word, more, puts-decimal, then-puts, puts-as, puts-none}
+use Rattle.replaying.specs.Puts.{puts-word, more, puts-none}
 use borrow.Author.Tests.{eq-eqb, ne-eqb}
 use Rattle.replaying.specs.Lines.{dueText, pick}
 use borrow.Author.Needs.{needs}
 use Rattle.replaying.proofs.due.Statement.{statement}
 use Rattle.replaying.proofs.due.Tie as tie
-use Rattle.replaying.proofs.due.Reads as reads
-use Rattle.replaying.proofs.due.Lts as lts
-use Rattle.listing.proofs.put.Reads as put-reads
 
--- src/lib.rt:234:9
 returns : tie.Need-returns
 unfolding dueText pick
 returns c = simp (ne-eqb _ _ (c .if1 .taken)) (more (puts-none _ _ (omega arith)) (omega arith))
 
--- src/lib.rt:237:39
 slice-aggregate-put : tie.Need-slice-aggregate-put
 slice-aggregate-put c = search needs
 
--- src/lib.rt:237:9
 put-requires : tie.Need-put-requires
 put-requires c κs = search needs
 
--- src/lib.rt:237:9
 returns-2 : tie.Need-returns-2
 unfolding dueText pick ascii
 returns-2 c = simp (eq-eqb _ _ (c .before .before .before .before .before .if1 .left), eq-eqb _ _ (c .before .before .before .if2 .taken)) (puts-word (c .put .ensures))
 
--- src/lib.rt:240:39
 slice-aggregate-put-2 : tie.Need-slice-aggregate-put-2
 slice-aggregate-put-2 c = search needs
 
--- src/lib.rt:240:9
 put-requires-2 : tie.Need-put-requires-2
 put-requires-2 c κs = search needs
 
--- src/lib.rt:240:9
 returns-3 : tie.Need-returns-3
 unfolding dueText pick ascii
 returns-3 c = simp (eq-eqb _ _ (c .before .before .before .before .before .before .before .if1 .left), ne-eqb _ _ (c .before .before .before .before .before .if2 .left), eq-eqb _ _ (c .before .before .before .if3 .taken)) (puts-word (c .put2 .ensures))
 
--- src/lib.rt:229:1
 returns-4 : tie.Need-returns-4
 unfolding dueText pick
 returns-4 c = simp (eq-eqb _ _ (c .before .before .before .before .if1 .left), ne-eqb _ _ (c .before .before .if2 .left), ne-eqb _ _ (c .if3 .left)) (more (puts-none _ _ (omega arith)) (omega arith))

@@ -1,3 +1,4 @@
+-- `replaying::value` meets its contract: a line for each answer. Assumes nothing.
 use denote.Ref.{now}
 use native.Mathlib.Omega.{arith}
 use Rattle.rules.specs.Text.{ascii}
@@ -6,42 +7,29 @@ use Rattle.replaying.specs.Puts.{puts-as, more, puts-word}
 use borrow.Author.Needs.{needs}
 use Rattle.replaying.proofs.value.Statement.{statement}
 use Rattle.replaying.proofs.value.Tie as tie
-use Rattle.replaying.proofs.value.Reads as reads
-use Rattle.replaying.proofs.value.Lts as lts
-use Rattle.listing.proofs.put.Reads as put-reads
-use Rattle.replaying.proofs.value_line.Reads as value-line-reads
-use Rattle.varint.proofs.read.Reads as read-reads
 
--- src/lib.rt:433:11
 read-requires : tie.Need-read-requires
 read-requires c κs = search needs
 
--- src/lib.rt:434:38
 enum-told : tie.Need-enum-told
 enum-told c = search needs
 
--- src/lib.rt:434:47
 slice-aggregate-put : tie.Need-slice-aggregate-put
 slice-aggregate-put c = search needs
 
--- src/lib.rt:434:25
 put-requires : tie.Need-put-requires
 put-requires c κs = search needs
 
--- src/lib.rt:435:31
 enum-known-v : tie.Need-enum-known-v
 enum-known-v c = search needs
 
--- src/lib.rt:435:44
 value-line-requires : tie.Need-value-line-requires
 value-line-requires c κs = search needs
 
--- src/lib.rt:430:1
 returns : tie.Need-returns
 unfolding ascii
 returns c = let a = c .before .before .before .before .before .before .before .args in puts-as (read-cut (now (a .bytes)) (c .before .before .before .before .before .read .ensures) (c .before .before .before .enum-told .given .1)) (more (puts-word (c .put .ensures)) (omega arith))
 
--- src/lib.rt:430:1
 returns-2 : tie.Need-returns-2
 returns-2 c = let a = c .before .before .before .before .before .before .before .args in puts-as (read-value (now (a .bytes)) (c .before .before .before .before .before .read .ensures) (c .before .before .before .v .given .1)) (c .value-line .ensures)
 

@@ -1,53 +1,38 @@
+-- `replaying::written_line` meets its contract: its parts, one behind the other, within the room. Assumes nothing.
 use Rattle.rules.specs.Text.{ascii}
 use Rattle.replaying.specs.Lines.{writtenLine}
 use Rattle.replaying.specs.Puts.{then-puts, puts-word}
 use borrow.Author.Needs.{needs}
 use Rattle.replaying.proofs.written_line.Statement.{statement}
 use Rattle.replaying.proofs.written_line.Tie as tie
-use Rattle.replaying.proofs.written_line.Reads as reads
-use Rattle.replaying.proofs.written_line.Lts as lts
-use Rattle.listing.proofs.put.Reads as put-reads
-use Rattle.replaying.proofs.head.Reads as head-reads
-use Rattle.replaying.proofs.spaced.Reads as spaced-reads
-use Rattle.replaying.proofs.spelt.Reads as spelt-reads
 
--- src/lib.rt:187:9
 head-requires : tie.Need-head-requires
 head-requires c κs = search needs
 
--- src/lib.rt:188:35
 slice-aggregate-put : tie.Need-slice-aggregate-put
 slice-aggregate-put c = search needs
 
--- src/lib.rt:188:9
 put-requires : tie.Need-put-requires
 put-requires c κs = search needs
 
--- src/lib.rt:189:9
 spaced-requires : tie.Need-spaced-requires
 spaced-requires c κs = search needs
 
--- src/lib.rt:190:35
 slice-aggregate-put-2 : tie.Need-slice-aggregate-put-2
 slice-aggregate-put-2 c = search needs
 
--- src/lib.rt:190:9
 put-requires-2 : tie.Need-put-requires-2
 put-requires-2 c κs = search needs
 
--- src/lib.rt:191:9
 spelt-requires : tie.Need-spelt-requires
 spelt-requires c κs = search needs
 
--- src/lib.rt:192:27
 slice-aggregate-put-3 : tie.Need-slice-aggregate-put-3
 slice-aggregate-put-3 c = search needs
 
--- src/lib.rt:192:5
 put-requires-3 : tie.Need-put-requires-3
 put-requires-3 c κs = search needs
 
--- src/lib.rt:183:1
 returns : tie.Need-returns
 unfolding writtenLine ascii
 returns c = then-puts (then-puts (then-puts (then-puts (then-puts (c .before .before .before .before .before .before .before .before .before .before .before .before .before .head .ensures) (puts-word (c .before .before .before .before .before .before .before .before .before .before .put .ensures))) (c .before .before .before .before .before .before .before .before .spaced .ensures)) (puts-word (c .before .before .before .before .before .put2 .ensures))) (c .before .before .before .spelt .ensures)) (puts-word (c .put3 .ensures))

@@ -1,7 +1,8 @@
-use lib.ListN.{length, take, drop, length-set}
+-- `script::bytes_at` meets its contract: the invariant is that the digits so far spell the bytes stored. Assumes nothing.
+use lib.ListN.{length, take, length-set}
 use lib.Seq.{length-take-le}
 use Rattle.script.specs.Laws.{next-byte, some-bytes, no-bytes, dash}
-use Prim.Native.Nat.{_+_, _≤_, _<_, _-_}
+use Prim.Native.Nat.{_+_, _≤_, _-_}
 use mathlib.Core.Path.{_≡_, refl}
 use native.Mathlib.Omega.{arith}
 use borrow.Author.Needs.{needs}
@@ -9,10 +10,6 @@ use denote.Ref.{now}
 use Rattle.script.specs.Words.{between, hexes}
 use Rattle.script.proofs.bytes_at.Statement.{statement}
 use Rattle.script.proofs.bytes_at.Tie as tie
-use Rattle.script.proofs.bytes_at.Reads as reads
-use Rattle.script.proofs.bytes_at.Lts as lts
-use Rattle.script.proofs.byte.Reads as byte-reads
-use Rattle.script.proofs.half.Reads as half-reads
 
 abbrev Inv-loop : tie.InvT-loop
 Inv-loop s at room₀ n₀ i₀ room n i = (at ≤ i) × (i ≤ length s) × (n ≤ length room) × (length room ≡ length room₀) × (i ≡ at + (n + n)) × (between s at i ≡ hexes (take n room))

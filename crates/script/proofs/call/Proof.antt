@@ -1,132 +1,95 @@
+-- `script::call` meets its contract: a line read, or none. Assumes nothing.
 use mathlib.Core.Path.{refl}
 use native.Mathlib.Omega.{arith}
 use Rattle.script.specs.Laws.{nothing-at, ended-at, decoded}
 use borrow.Author.Needs.{needs}
 use Rattle.script.proofs.call.Statement.{statement}
 use Rattle.script.proofs.call.Tie as tie
-use Rattle.script.proofs.call.Reads as reads
-use Rattle.script.proofs.call.Lts as lts
-use Rattle.script.proofs.ended.Reads as ended-reads
-use Rattle.script.proofs.has_bytes.Reads as has-bytes-reads
-use Rattle.script.proofs.none.Reads as none-reads
-use Rattle.script.proofs.numbers.Reads as numbers-reads
-use Rattle.script.proofs.room_of.Reads as room-of-reads
-use Rattle.script.proofs.spelt.Reads as spelt-reads
-use Rattle.script.proofs.values_at.Reads as values-at-reads
 
--- src/lib.rt:309:9
 none-requires : tie.Need-none-requires
 none-requires c κs = search needs
 
--- src/lib.rt:309:9
 returns : tie.Need-returns
 returns c = nothing-at (c .none .ensures) refl
 
--- src/lib.rt:311:18
 shared-slice-read-letter : tie.Need-shared-slice-read-letter
 shared-slice-read-letter c = search needs
 
--- src/lib.rt:312:9
 numbers-requires : tie.Need-numbers-requires
 numbers-requires c κs = search needs
 
--- src/lib.rt:314:9
 none-requires-2 : tie.Need-none-requires-2
 none-requires-2 c κs = search needs
 
--- src/lib.rt:314:9
 returns-2 : tie.Need-returns-2
 returns-2 c = nothing-at (c .none2 .ensures) refl
 
--- src/lib.rt:316:26
 add-values-at : tie.Need-add-values-at
 add-values-at c = search needs
 
--- src/lib.rt:316:9
 values-at-requires : tie.Need-values-at-requires
 values-at-requires c κs = search needs
 
--- src/lib.rt:318:9
 none-requires-3 : tie.Need-none-requires-3
 none-requires-3 c κs = search needs
 
--- src/lib.rt:318:9
 returns-3 : tie.Need-returns-3
 returns-3 c = nothing-at (c .none3 .ensures) refl
 
--- src/lib.rt:321:9
 room-of-requires : tie.Need-room-of-requires
 room-of-requires c κs = search needs
 
--- src/lib.rt:323:9
 none-requires-4 : tie.Need-none-requires-4
 none-requires-4 c κs = search needs
 
--- src/lib.rt:323:9
 returns-4 : tie.Need-returns-4
 returns-4 c = nothing-at (c .none4 .ensures) refl
 
--- src/lib.rt:325:8
 has-bytes-requires : tie.Need-has-bytes-requires
 has-bytes-requires c κs = search needs
 
--- src/lib.rt:326:15
 spelt-requires : tie.Need-spelt-requires
 spelt-requires c κs = search needs
 
--- src/lib.rt:327:31
 enum-told : tie.Need-enum-told
 enum-told c = search needs
 
--- src/lib.rt:327:31
 none-requires-5 : tie.Need-none-requires-5
 none-requires-5 c κs = search needs
 
--- src/lib.rt:328:26
 enum-known-count : tie.Need-enum-known-count
 enum-known-count c = search needs
 
--- src/lib.rt:333:24
 array-read-t25 : tie.Need-array-read-t25
 array-read-t25 c = search needs
 
--- src/lib.rt:334:24
 array-read-t28 : tie.Need-array-read-t28
 array-read-t28 c = search needs
 
--- src/lib.rt:328:43
 ended-requires : tie.Need-ended-requires
 ended-requires c κs = let w = decoded (c .before .before .before .before .before .spelt .ensures) (c .before .count .given .1) in (w .within, c .before .before .before .before .before .before .before .before .before .before .before .before .before .before .before .before .before .before .before .before .before .pre)
 
--- src/lib.rt:347:20
 array-read-t33 : tie.Need-array-read-t33
 array-read-t33 c = search needs
 
--- src/lib.rt:348:20
 array-read-t36 : tie.Need-array-read-t36
 array-read-t36 c = search needs
 
--- src/lib.rt:342:9
 ended-requires-2 : tie.Need-ended-requires-2
 ended-requires-2 c κs = search needs
 
--- src/lib.rt:304:1
 same-length : tie.Need-same-length
 same-length c = search needs
 
--- src/lib.rt:304:1
 returns-5 : tie.Need-returns-5
 returns-5 c = nothing-at (c .none5 .ensures) (c .before .before .before .before .before .spelt .ensures .same)
 
--- src/lib.rt:304:1
 same-length-2 : tie.Need-same-length-2
 same-length-2 c = search needs
 
--- src/lib.rt:304:1
 returns-6 : tie.Need-returns-6
 returns-6 c = let w = decoded (c .before .before .before .before .before .before .spelt .ensures) (c .before .before .count .given .1) in ended-at (c .ended .ensures) (omega (arith, w .on, c .before .before .before .before .before .before .before .before .before .before .before .before .before .before .before .values-at .ensures .on)) (omega (arith, c .before .before .before .before .before .before .before .before .before .before .if4 .left)) (w .fits) (c .before .before .before .before .before .before .spelt .ensures .same)
 
--- src/lib.rt:304:1
 returns-7 : tie.Need-returns-7
 returns-7 c = ended-at (c .ended2 .ensures) (omega (arith, c .before .before .before .before .before .before .before .before .values-at .ensures .on)) (omega (arith, c .before .before .before .if4 .left)) (omega arith) refl
 

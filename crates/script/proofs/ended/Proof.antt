@@ -1,29 +1,21 @@
+-- `script::ended` meets its contract: a line whose end does not stand there is none. Assumes nothing.
 use native.Mathlib.Omega.{arith}
 use borrow.Author.Needs.{needs}
 use Rattle.script.proofs.ended.Statement.{statement}
 use Rattle.script.proofs.ended.Tie as tie
-use Rattle.script.proofs.ended.Reads as reads
-use Rattle.script.proofs.ended.Lts as lts
-use Rattle.script.proofs.ends.Reads as ends-reads
-use Rattle.script.proofs.none.Reads as none-reads
 
--- src/lib.rt:288:8
 ends-requires : tie.Need-ends-requires
 ends-requires c κs = search needs
 
--- src/lib.rt:296:19
 add-t5 : tie.Need-add-t5
 add-t5 c = search needs
 
--- src/lib.rt:299:9
 none-requires : tie.Need-none-requires
 none-requires c κs = search needs
 
--- src/lib.rt:284:1
 returns : tie.Need-returns
 returns c = search needs
 
--- src/lib.rt:284:1
 returns-2 : tie.Need-returns-2
 returns-2 c = let e = c .none .ensures in rw e (record { row = omega arith; room = omega arith; count = omega arith; on = λ h. absurd (omega arith) })
 

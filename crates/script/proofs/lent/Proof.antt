@@ -1,80 +1,59 @@
+-- `script::lent` meets its contract: a line read, or none. Assumes nothing.
 use mathlib.Core.Path.{refl}
 use native.Mathlib.Omega.{arith}
 use Rattle.script.specs.Laws.{nothing-at, from-at}
 use borrow.Author.Needs.{needs}
 use Rattle.script.proofs.lent.Statement.{statement}
 use Rattle.script.proofs.lent.Tie as tie
-use Rattle.script.proofs.lent.Reads as reads
-use Rattle.script.proofs.lent.Lts as lts
-use Rattle.script.proofs.call.Reads as call-reads
-use Rattle.script.proofs.has_row.Reads as has-row-reads
-use Rattle.script.proofs.none.Reads as none-reads
 
--- src/lib.rt:362:9
 none-requires : tie.Need-none-requires
 none-requires c κs = search needs
 
--- src/lib.rt:362:9
 returns : tie.Need-returns
 returns c = nothing-at (c .none .ensures) refl
 
--- src/lib.rt:365:9
 none-requires-2 : tie.Need-none-requires-2
 none-requires-2 c κs = search needs
 
--- src/lib.rt:365:9
 returns-2 : tie.Need-returns-2
 returns-2 c = nothing-at (c .none2 .ensures) refl
 
--- src/lib.rt:368:9
 none-requires-3 : tie.Need-none-requires-3
 none-requires-3 c κs = search needs
 
--- src/lib.rt:368:9
 returns-3 : tie.Need-returns-3
 returns-3 c = nothing-at (c .none3 .ensures) refl
 
--- src/lib.rt:370:8
 shared-slice-read-if4 : tie.Need-shared-slice-read-if4
 shared-slice-read-if4 c = search needs
 
--- src/lib.rt:371:9
 none-requires-4 : tie.Need-none-requires-4
 none-requires-4 c κs = search needs
 
--- src/lib.rt:371:9
 returns-4 : tie.Need-returns-4
 returns-4 c = nothing-at (c .none4 .ensures) refl
 
--- src/lib.rt:373:21
 add-call : tie.Need-add-call
 add-call c = search needs
 
--- src/lib.rt:373:9
 call-requires : tie.Need-call-requires
 call-requires c κs = search needs
 
--- src/lib.rt:374:8
 has-row-requires : tie.Need-has-row-requires
 has-row-requires c κs = search needs
 
--- src/lib.rt:374:39
 none-requires-5 : tie.Need-none-requires-5
 none-requires-5 c κs = search needs
 
--- src/lib.rt:358:1
 same-length : tie.Need-same-length
 same-length c = search needs
 
--- src/lib.rt:358:1
 returns-5 : tie.Need-returns-5
 returns-5 c = from-at (c .before .before .before .before .call .ensures) (omega arith)
 
--- src/lib.rt:358:1
 same-length-2 : tie.Need-same-length-2
 same-length-2 c = search needs
 
--- src/lib.rt:358:1
 returns-6 : tie.Need-returns-6
 returns-6 c = nothing-at (c .none5 .ensures) (c .before .before .before .before .before .call .ensures .same)
 

@@ -1,7 +1,8 @@
-use mathlib.Core.Path.{_≡_, refl, sym}
-use Prim.Native.Nat.{_+_, _≤_, _<_, _-_}
+-- `script::number_at` meets its contract: the invariant is that the digits so far spell the value. Assumes nothing.
+use mathlib.Core.Path.{_≡_, sym}
+use Prim.Native.Nat.{_≤_, _<_, _-_}
 use native.Mathlib.Omega.{arith}
-use lib.ListN.{length, take, drop}
+use lib.ListN.{length}
 use borrow.Author.Needs.{needs}
 use denote.Ref.{now}
 use Rattle.listing.specs.Text.{decimal}
@@ -9,9 +10,6 @@ use Rattle.script.specs.Words.{between}
 use Rattle.script.specs.Laws.{first-digit, next-digit}
 use Rattle.script.proofs.number_at.Statement.{statement}
 use Rattle.script.proofs.number_at.Tie as tie
-use Rattle.script.proofs.number_at.Reads as reads
-use Rattle.script.proofs.number_at.Lts as lts
-use Rattle.script.proofs.digit.Reads as digit-reads
 
 abbrev Inv-loop : tie.InvT-loop
 Inv-loop s at first value₀ i₀ value i = (at < i) × (i ≤ length s) × (0 < value) × (value ≤ 18446744073709551615) × (between s at i ≡ decimal value)

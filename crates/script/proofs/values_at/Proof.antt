@@ -1,3 +1,4 @@
+-- `script::values_at` meets its contract: each number leads on. Assumes nothing.
 use Prim.Native.Nat.{_≤_, _-_}
 use native.Mathlib.Omega.{arith}
 use lib.ListN.{length}
@@ -5,9 +6,6 @@ use borrow.Author.Needs.{needs}
 use Rattle.script.specs.Laws.{spelt-out}
 use Rattle.script.proofs.values_at.Statement.{statement}
 use Rattle.script.proofs.values_at.Tie as tie
-use Rattle.script.proofs.values_at.Reads as reads
-use Rattle.script.proofs.values_at.Lts as lts
-use Rattle.script.proofs.spaced.Reads as spaced-reads
 
 abbrev Inv-loop : tie.InvT-loop
 Inv-loop s at k a₀ j₀ i₀ a j i = (j ≤ k) × (at ≤ i) × (i ≤ length s)
