@@ -41,7 +41,7 @@ unfolding someIf isStated lengthOf
 some-back none = refl
 some-back (some n) = refl
 
-set-back : (s : Settings) (g m : Option ℕ) → controlOf (keptIn 4 (keptNumbers (set s g m))) ≡ set s g m
+pub set-back : (s : Settings) (g m : Option ℕ) → controlOf (keptIn 4 (keptNumbers (set s g m))) ≡ set s g m
 unfolding controlAt keptNumbers
 set-back s g m = let a = some-back (s .section-size) in let b = some-back g in let c = some-back m in rw (a, b, c) refl
 

@@ -1,0 +1,449 @@
+-- DEMAND 2 for one-way streams over traces: whatever the trace, what a control stream has told, what was handed over of a QPACK stream, and
+-- the headers counted are what the bytes consumed mean (rules, OneWay), and so is the stream's fate. Assumes nothing.
+use mathlib.Core.Path.{_≡_, refl, sym, ap, ap₂, _∙_, subst}
+use Prim.Native.Nat.{ℕ, zero, suc, _+_, _-_, _≤_}
+use native.Mathlib.Omega.{arith}
+use mathlib.Core.List.{List, [], _∷_, _++_, map, append-nil, append-assoc, map-append}
+use mathlib.Core.Option.{Option, none, some}
+use lib.ListN.{length, take, drop}
+use Rattle.rules.specs.Reading as R
+use Rattle.rules.specs.Control.{Control, control, Told, told-settings, told-goaway, told-max-push-id, told-nothing, tells}
+use Rattle.rules.specs.OneWay as W
+use Rattle.rules.specs.OneWay.{Qpack}
+use Rattle.meaning.specs.Machine as M
+use Rattle.meaning.specs.Feed as F
+use Rattle.meaning.specs.Feeds.{unheaded, headersIn}
+use Rattle.meaning.specs.EveryFeed.{ReadsOn, feed-silent}
+use Rattle.meaning.specs.OneWayFeed as O
+use Rattle.meaning.specs.OneWays.{Came, still-untyped, type-refused, a-control-stream, a-qpack-stream, a-skipped-stream, calls-read, always-reads, ReadsOnOne}
+use Rattle.traces.specs.Stream.{ConnCode, creation, Code, of-connection, Notice, toldBy, noticesIn, ofType, partBy, qpackIn, Event, contentIn, sectionIn, Fed, goes, faults}
+use Rattle.traces.specs.Board.{one-way, kindOf, Pair, Call, fresh, run, trace}
+use Rattle.traces.specs.View.{Shown, Fate, unopened, spent, running, ended, dropped, refused, lost, View, nothing, plusFeed, plusBytes, view}
+use Rattle.traces.specs.Follow.{Agrees, open-still, over}
+use Rattle.traces.specs.Oneways.{Reached₁, at-first, by-feed, Story₁, not-yet, never, cut-off, closed, closed-critical, bad-feed, second-of-type, Says, says, follows₁}
+use Rattle.demands.specs.Streams.{pick, connCode, noticeOf, framesEvent, oneEvent, typeOf, closeOf, streams}
+use Rattle.demands.specs.Reads.{part-is}
+use Rattle.demands.specs.Moves.{aloneBy, aloneOf, alone}
+
+-- ---- DEFINITION: what the bytes of a one-way stream tell, count and come to
+
+-- what kept frames tell, in order
+unfoldable pub noticesOf : List R.Saying → List Notice
+noticesOf [] = []
+noticesOf (R.header h u ∷ xs) = noticesOf xs
+noticesOf (R.refused h ∷ xs) = noticesOf xs
+noticesOf (R.section-byte b ∷ xs) = noticesOf xs
+noticesOf (R.content-byte b ∷ xs) = noticesOf xs
+noticesOf (R.frame-kept k p ∷ xs) = noticesIn (noticeOf (tells k p)) ++ noticesOf xs
+
+unfoldable pub noticesBy : W.OneWay → List Notice
+noticesBy W.untyped = []
+noticesBy (W.refused code place) = []
+noticesBy (W.of-control r) = noticesOf (r .said)
+noticesBy (W.of-qpack q bytes) = []
+noticesBy W.passed-over = []
+
+-- the bytes behind the type
+unfoldable pub qpackBy : W.OneWay → List (ℕ × ℕ)
+qpackBy W.untyped = []
+qpackBy (W.refused code place) = []
+qpackBy (W.of-control r) = []
+qpackBy (W.of-qpack q bytes) = ofType (typeOf q) bytes
+qpackBy W.passed-over = []
+
+unfoldable pub headsBy : W.OneWay → ℕ
+headsBy W.untyped = 0
+headsBy (W.refused code place) = 0
+headsBy (W.of-control r) = headersIn (r .said)
+headsBy (W.of-qpack q bytes) = 0
+headsBy W.passed-over = 0
+
+unfoldable pub named : Option ℕ → Option Code
+named none = none
+named (some code) = some (of-connection (connCode code))
+
+-- the fault that the bytes bring, or else the one of closing
+unfoldable pub faultBy : W.OneWay → Option Code
+faultBy m = named (W.closed m)
+
+-- ---- what events tell, and what is said
+
+notices-append : (x y : List R.Saying) → noticesOf (x ++ y) ≡ noticesOf x ++ noticesOf y
+unfolding noticesOf
+notices-append [] y = refl
+notices-append (R.header h u ∷ x) y = notices-append x y
+notices-append (R.refused h ∷ x) y = notices-append x y
+notices-append (R.section-byte b ∷ x) y = notices-append x y
+notices-append (R.content-byte b ∷ x) y = notices-append x y
+notices-append (R.frame-kept k p ∷ x) y = let t = noticesIn (noticeOf (tells k p)) in ap (λ l. t ++ l) (notices-append x y) ∙ sym (append-assoc t (noticesOf x) (noticesOf y))
+
+-- headers tell nothing
+notices-unheaded : (x : List R.Saying) → noticesOf (unheaded x) ≡ noticesOf x
+unfolding noticesOf unheaded
+notices-unheaded [] = refl
+notices-unheaded (R.header h u ∷ x) = notices-unheaded x
+notices-unheaded (R.refused h ∷ x) = notices-unheaded x
+notices-unheaded (R.section-byte b ∷ x) = notices-unheaded x
+notices-unheaded (R.content-byte b ∷ x) = notices-unheaded x
+notices-unheaded (R.frame-kept k p ∷ x) = ap (λ l. noticesIn (noticeOf (tells k p)) ++ l) (notices-unheaded x)
+
+-- nor do section bytes and content
+no-notices : (p : List ℕ) → (noticesOf (map R.section-byte p) ≡ []) × (noticesOf (map R.content-byte p) ≡ [])
+unfolding noticesOf
+no-notices [] = (refl, refl)
+no-notices (b ∷ p) = no-notices p
+
+event-tells : (e : O.OneEvent) (u : ℕ) (piece : List ℕ) → noticesIn (oneEvent u e) ≡ noticesOf (O.shows e u piece .frames)
+unfolding noticesIn oneEvent framesEvent O.shows F.shows noticesOf toldBy
+event-tells (O.of-frames F.quiet) u piece = refl
+event-tells (O.of-frames (F.section-bytes len last)) u piece = sym (no-notices (drop (u - len) (take u piece)) .0)
+event-tells (O.of-frames (F.content-bytes len)) u piece = sym (no-notices (drop (u - len) (take u piece)) .1)
+event-tells (O.of-frames (F.taken k p)) u piece = sym (append-nil (noticesIn (noticeOf (tells k p))))
+event-tells (O.qpack-bytes q len) u piece = refl
+
+-- a one-way stream hands over neither content nor section bytes; frames are no part of a QPACK stream
+told-bare : (t : Told) (piece : List ℕ) → (contentIn (noticeOf t) piece ≡ []) × (sectionIn (noticeOf t) piece ≡ []) × (qpackIn (noticeOf t) piece ≡ [])
+unfolding noticeOf contentIn sectionIn qpackIn partBy
+told-bare (told-settings s) piece = (refl, refl, refl)
+told-bare (told-goaway id) piece = (refl, refl, refl)
+told-bare (told-max-push-id id) piece = (refl, refl, refl)
+told-bare told-nothing piece = (refl, refl, refl)
+
+frames-bare : (e : F.Event) (piece : List ℕ) → (contentIn (framesEvent e) piece ≡ []) × (sectionIn (framesEvent e) piece ≡ []) × (qpackIn (framesEvent e) piece ≡ [])
+unfolding framesEvent contentIn sectionIn qpackIn
+frames-bare F.quiet piece = (refl, refl, refl)
+frames-bare (F.section-bytes len last) piece = (refl, refl, refl)
+frames-bare (F.content-bytes len) piece = (refl, refl, refl)
+frames-bare (F.taken k p) piece = unfold contentIn sectionIn qpackIn in told-bare (tells k p) piece
+
+event-bare : (e : O.OneEvent) (u : ℕ) (piece : List ℕ) → (contentIn (oneEvent u e) piece ≡ []) × (sectionIn (oneEvent u e) piece ≡ [])
+unfolding oneEvent contentIn sectionIn
+event-bare (O.of-frames e) u piece = unfold contentIn sectionIn in (frames-bare e piece .0, frames-bare e piece .1)
+event-bare (O.qpack-bytes q len) u piece = (refl, refl)
+
+-- ---- what a feed names: an event of frames, or a part of the QPACK stream that it then is
+
+abbrev SameType : O.OneState → O.OneOutcome → Type 0
+SameType (O.in-stream-type g) o = Unit {0}
+SameType (O.in-control s) o = Unit {0}
+SameType (O.in-qpack q) o = o ≡ O.lives (O.in-qpack q)
+SameType O.in-skipped o = Unit {0}
+
+data Names (w : O.OneState) (u : ℕ) : O.OneEvent → O.OneOutcome → Type 0 where
+  frames-only : {e : F.Event} {o : O.OneOutcome} → SameType w o → ((code : ℕ) → o ≡ O.dies code → e ≡ F.quiet) → Names w u (O.of-frames e) o
+  a-part : {q : Qpack} {len : ℕ} → len ≤ u → SameType w (O.lives (O.in-qpack q)) → Names w u (O.qpack-bytes q len) (O.lives (O.in-qpack q))
+
+abbrev NamesIn : O.OneState → O.OneFeeding → Type 0
+NamesIn w f = Names w (f .used) (f .event) (f .after)
+
+more : {w : O.OneState} {u : ℕ} {e : O.OneEvent} {o : O.OneOutcome} → Names w u e o → Names w (suc u) e o
+more (frames-only s q) = frames-only s q
+more {u = u} (a-part {len = len} l s) = a-part (let z : len ≤ suc u = omega arith in z) s
+
+also-names : (w : O.OneState) (f : O.OneFeeding) → NamesIn w f → NamesIn w (O.also f)
+unfolding O.also
+also-names w f n = more n
+
+controlled-dies : (o : M.Outcome Control) (code : ℕ) → O.controlled o ≡ O.dies code → o ≡ M.dies code
+unfolding O.controlled
+controlled-dies (M.lives s) code e = let z : _≡_ {A = ℕ} 0 1 = cc in absurd (omega arith)
+controlled-dies (M.dies c) code e = cc
+
+control-names : (w : O.OneState) (allow : ℕ) (s : M.State Control) (piece : List ℕ) → ((o : O.OneOutcome) → SameType w o) → NamesIn w (O.of-control (F.feed control allow s piece))
+unfolding O.of-control
+control-names w allow s piece t =
+    let f = F.feed control allow s piece in frames-only (t (O.controlled (f .after))) (λ code e. feed-silent control allow s piece code (controlled-dies (f .after) code e))
+
+qpack-names : (w : O.OneState) (q : Qpack) (piece : List ℕ) → SameType w (O.lives (O.in-qpack q)) → NamesIn w (O.qpack-feed q piece)
+unfolding O.qpack-feed O.halt
+qpack-names w q [] s = frames-only s (λ code e. refl)
+qpack-names w q (b ∷ bs) s = let z : length (b ∷ bs) ≤ length (b ∷ bs) = omega arith in a-part z s
+
+module _ (g₀ : M.Prog) (allow : ℕ) where
+  abbrev From : O.OneFeeding → Type 0
+  From f = NamesIn (O.in-stream-type g₀) f
+
+  typed-names : (x : W.Typed) (piece : List ℕ) → From (O.typed-feed allow x piece)
+  unfolding O.typed-feed O.kind-feed O.halt
+  typed-names (W.refuse code) piece = frames-only tt (λ code e. refl)
+  typed-names (W.is W.a-control) piece = control-names (O.in-stream-type g₀) allow _ piece (λ o. tt)
+  typed-names (W.is (W.a-qpack q)) piece = qpack-names (O.in-stream-type g₀) q piece tt
+  typed-names (W.is W.skipped) piece = frames-only tt (λ code e. refl)
+
+  byte-names : (bs : List ℕ) → ((g : M.Prog) → From (O.type-feed [] allow g bs)) → (x : M.Fed)
+      → From (elim x as (λ y. O.OneFeeding) [ M.going g ↦ O.type-feed [] allow g bs | M.value t ↦ O.typed-feed allow (W.typeRule [] t) bs ])
+  byte-names bs ih (M.going g) = ih g
+  byte-names bs ih (M.value t) = typed-names (W.typeRule [] t) bs
+
+  type-names : (piece : List ℕ) (g : M.Prog) → From (O.type-feed [] allow g piece)
+  unfolding O.type-feed O.halt
+  type-names [] g = frames-only tt (λ code e. refl)
+  type-names (b ∷ bs) g = also-names _ _ (byte-names bs (type-names bs) (M.fed g b))
+
+feed-names : (allow : ℕ) (w : O.OneState) (piece : List ℕ) → NamesIn w (O.feed [] allow w piece)
+unfolding O.feed O.kind-feed
+feed-names allow (O.in-stream-type g) piece = type-names g allow piece g
+feed-names allow (O.in-control s) piece = control-names (O.in-control s) allow s piece (λ o. tt)
+feed-names allow (O.in-qpack q) piece = qpack-names (O.in-qpack q) q piece refl
+feed-names allow O.in-skipped piece = frames-only tt (λ code e. refl)
+
+-- a fault is silent
+silent : {w : O.OneState} {u : ℕ} {e : O.OneEvent} {o : O.OneOutcome} {code : ℕ} → Names w u e o → o ≡ O.dies code → e ≡ O.of-frames F.quiet
+silent {code = code} (frames-only s q) d = ap O.of-frames (q code d)
+silent (a-part l s) d = let z : _≡_ {A = ℕ} 0 1 = cc in absurd (omega arith)
+
+-- ---- QPACK bytes are told with the type of the stream that they came on
+
+abbrev Tagged : List (ℕ × ℕ) → List ℕ → O.OneOutcome → Type 0
+Tagged t raw (O.lives (O.in-stream-type g)) = (t ≡ []) × (raw ≡ [])
+Tagged t raw (O.lives (O.in-control s)) = (t ≡ []) × (raw ≡ [])
+Tagged t raw (O.lives (O.in-qpack q)) = t ≡ ofType (typeOf q) raw
+Tagged t raw (O.lives O.in-skipped) = (t ≡ []) × (raw ≡ [])
+Tagged t raw (O.dies code) = (t ≡ []) × (raw ≡ [])
+
+none-tagged : (t : List (ℕ × ℕ)) (raw : List ℕ) (o : O.OneOutcome) → t ≡ [] → raw ≡ [] → Tagged t raw o
+unfolding ofType
+none-tagged t raw (O.lives (O.in-stream-type g)) a b = (a, b)
+none-tagged t raw (O.lives (O.in-control s)) a b = (a, b)
+none-tagged t raw (O.lives (O.in-qpack q)) a b = rw (a, b) refl
+none-tagged t raw (O.lives O.in-skipped) a b = (a, b)
+none-tagged t raw (O.dies code) a b = (a, b)
+
+tagged-none : (t : List (ℕ × ℕ)) (raw : List ℕ) (o : O.OneOutcome) → Tagged t raw o → raw ≡ [] → t ≡ []
+unfolding ofType
+tagged-none t raw (O.lives (O.in-stream-type g)) h e = h .0
+tagged-none t raw (O.lives (O.in-control s)) h e = h .0
+tagged-none t raw (O.lives (O.in-qpack q)) h e = h ∙ ap (map (λ b. (typeOf q, b))) e
+tagged-none t raw (O.lives O.in-skipped) h e = h .0
+tagged-none t raw (O.dies code) h e = h .0
+
+still-tagged : (w : O.OneState) (t : List (ℕ × ℕ)) (raw : List ℕ) (o : O.OneOutcome) → SameType w o → Tagged t raw (O.lives w) → Tagged t raw o
+still-tagged (O.in-stream-type g) t raw o s h = none-tagged t raw o (h .0) (h .1)
+still-tagged (O.in-control c) t raw o s h = none-tagged t raw o (h .0) (h .1)
+still-tagged (O.in-qpack q) t raw o s h = subst (Tagged t raw) (sym s) h
+still-tagged O.in-skipped t raw o s h = none-tagged t raw o (h .0) (h .1)
+
+of-append : (n : ℕ) (x y : List ℕ) → ofType n (x ++ y) ≡ ofType n x ++ ofType n y
+unfolding ofType
+of-append n x y = map-append (λ b. (n, b)) x y
+
+tagged-fed : (w : O.OneState) (t : List (ℕ × ℕ)) (raw piece : List ℕ) (u : ℕ) {e : O.OneEvent} {o : O.OneOutcome} → Names w u e o → Tagged t raw (O.lives w)
+    → Tagged (t ++ qpackIn (oneEvent u e) piece) (raw ++ O.shows e u piece .qpack) o
+unfolding oneEvent O.shows qpackIn partBy
+tagged-fed w t raw piece u (frames-only {e = e} {o = o} s q) h =
+    let x : t ++ qpackIn (framesEvent e) piece ≡ t = ap (λ l. t ++ l) (frames-bare e piece .2) ∙ append-nil t in
+    subst (λ l. Tagged l (raw ++ []) o) (sym x) (subst (λ l. Tagged t l o) (sym (append-nil raw)) (still-tagged w t raw o s h))
+tagged-fed w t raw piece u (a-part {q = q} {len = len} l s) h =
+    ap₂ _++_ (still-tagged w t raw (O.lives (O.in-qpack q)) s h) (ap (ofType (typeOf q)) (part-is len u piece l)) ∙ sym (of-append (typeOf q) raw (drop (u - len) (take u piece)))
+
+-- ---- what a stream shows is what some feeds came to
+
+abbrev doneOf : Shown streams → List R.Saying → List ℕ → O.OneOutcome → O.Done
+doneOf s frames raw o = record { bytes = s .bytes; frames = frames; qpack = raw; heads = s .heads; after = o }
+
+record Been (s : Shown streams) (o : O.OneOutcome) : Type 0 where
+  made : List O.Call
+  frames : List R.Saying
+  raw : List ℕ
+  came : O.calls [] O.nothing-done made ≡ doneOf s frames raw o
+  notices : s .notices ≡ noticesOf frames
+  tagged : Tagged (s .qpack) raw o
+  content : s .content ≡ []
+  blocks : s .blocks ≡ []
+
+calls-then : (d : O.Done) (cs : List O.Call) (c : O.Call) → O.calls [] d (cs ++ (c ∷ [])) ≡ O.called [] (O.calls [] d cs) c (O.calls [] d cs .after)
+unfolding O.calls
+calls-then d [] c = refl
+calls-then d (x ∷ cs) c = calls-then (O.called [] d x (d .after)) cs c
+
+been-first : Been nothing (O.lives (O.in-stream-type M.fresh))
+unfolding nothing
+been-first = record {
+  made = [];
+  frames = [];
+  raw = [];
+  came = unfold O.calls O.nothing-done in refl;
+  notices = unfold noticesOf in refl;
+  tagged = (refl, refl);
+  content = refl;
+  blocks = refl;
+}
+
+been-fed : (s : Shown streams) (w : O.OneState) (allow : ℕ) (piece : List ℕ) → Been s (O.lives w)
+    → let f = O.feed [] allow w piece in Been (plusFeed (f .used) (f .heads) (oneEvent (f .used) (f .event)) piece s) (f .after)
+unfolding plusFeed
+been-fed s w allow piece b =
+    let f = O.feed [] allow w piece in
+    let shown = O.shows (f .event) (f .used) piece in
+    let x = event-bare (f .event) (f .used) piece in
+    record {
+      made = b .made ++ (O.feed-call allow piece ∷ []);
+      frames = b .frames ++ shown .frames;
+      raw = b .raw ++ shown .qpack;
+      came = calls-then O.nothing-done (b .made) (O.feed-call allow piece)
+          ∙ ap (λ d. O.called [] d (O.feed-call allow piece) (d .after)) (b .came) ∙ unfold O.called O.done-then in refl;
+      notices = ap₂ _++_ (b .notices) (event-tells (f .event) (f .used) piece) ∙ sym (notices-append (b .frames) (shown .frames));
+      tagged = tagged-fed w (s .qpack) (b .raw) piece (f .used) (feed-names allow w piece) (b .tagged);
+      content = ap₂ _++_ (b .content) (x .0);
+      blocks = ap₂ _++_ (b .blocks) (x .1);
+    }
+
+alone-goes : (u₀ h₀ : ℕ) (e₀ : O.OneEvent) (o : O.OneOutcome) {u h : ℕ} {e : Event} {w : O.OneState} → aloneBy u₀ h₀ e₀ o ≡ goes u h e w
+    → (o ≡ O.lives w) × (u₀ ≡ u) × (h₀ ≡ h) × (oneEvent u₀ e₀ ≡ e)
+unfolding aloneBy
+alone-goes u₀ h₀ e₀ (O.lives s) q = (cc, cc, cc, cc)
+alone-goes u₀ h₀ e₀ (O.dies code) q = let z : _≡_ {A = ℕ} 0 1 = cc in absurd (omega arith)
+
+alone-faults : (u₀ h₀ : ℕ) (e₀ : O.OneEvent) (o : O.OneOutcome) {u h : ℕ} {k : Code} → aloneBy u₀ h₀ e₀ o ≡ faults k u h
+    → (code : ℕ) × (o ≡ O.dies code) × (u₀ ≡ u) × (h₀ ≡ h) × (of-connection (connCode code) ≡ k)
+unfolding aloneBy
+alone-faults u₀ h₀ e₀ (O.lives s) q = let z : _≡_ {A = ℕ} 0 1 = cc in absurd (omega arith)
+alone-faults u₀ h₀ e₀ (O.dies code) q = (code, refl, cc, cc, cc)
+
+been-goes : (s : Shown streams) (w w′ : O.OneState) (allow u h : ℕ) (piece : List ℕ) (e : Event) → Been s (O.lives w) → aloneOf w allow piece ≡ goes u h e w′
+    → Been (plusFeed u h e piece s) (O.lives w′)
+been-goes s w w′ allow u h piece e b q =
+    let f = O.feed [] allow w piece in
+    let g = alone-goes (f .used) (f .heads) (f .event) (f .after) q in
+    rw (← g .1, ← g .2, ← g .3, ← g .0) (been-fed s w allow piece b)
+
+been : {s : Shown streams} {w : O.OneState} → Reached₁ alone s w → Been s (O.lives w)
+been at-first = been-first
+been (by-feed {s = s} {w = w} {w′ = w′} {allow = allow} {u = u} {h = h} {piece = piece} {e = e} t q) = been-goes s w w′ allow u h piece e (been t) q
+
+-- so the bytes up to it are all that a fault adds
+been-dead : (s : Shown streams) (w : O.OneState) (allow u h code : ℕ) (piece : List ℕ) → Been s (O.lives w) → let f = O.feed [] allow w piece in
+    f .after ≡ O.dies code → f .used ≡ u → f .heads ≡ h → Been (plusBytes u h piece s) (O.dies code)
+unfolding plusBytes
+been-dead s w allow u h code piece b e x y =
+    let z = silent (feed-names allow w piece) e in
+    let v = rw (z, e, x, y) at (been-fed s w allow piece b) in
+    unfold plusFeed oneEvent framesEvent contentIn sectionIn noticesIn qpackIn in
+    (rw (append-nil (s .content), append-nil (s .blocks), append-nil (s .notices), append-nil (s .qpack)) at v)
+
+-- ---- in the words of the definition
+
+came-of : (s : Shown streams) (o : O.OneOutcome) (b : Been s o) → Came [] (doneOf s (b .frames) (b .raw) o) (W.oneWay [] (s .bytes))
+came-of s o b = subst (λ d. Came [] d (W.oneWay [] (d .bytes))) (b .came) (calls-read [] (b .made))
+
+-- what a one-way stream has shown is what the bytes consumed tell
+pub record Hears (s : Shown streams) : Type 0 where
+  pub notices : s .notices ≡ noticesBy (W.oneWay [] (s .bytes))
+  pub qpack : s .qpack ≡ qpackBy (W.oneWay [] (s .bytes))
+  pub heads : s .heads ≡ headsBy (W.oneWay [] (s .bytes))
+  pub content : s .content ≡ []
+  pub blocks : s .blocks ≡ []
+
+abbrev HearsBy : Shown streams → W.OneWay → Type 0
+HearsBy s m = (s .notices ≡ noticesBy m) × (s .qpack ≡ qpackBy m) × (s .heads ≡ headsBy m)
+
+hears-none : (s : Shown streams) (o : O.OneOutcome) (b : Been s o) → b .frames ≡ [] → s .notices ≡ []
+hears-none s o b f = b .notices ∙ ap noticesOf f ∙ unfold noticesOf in refl
+
+hears-by : (s : Shown streams) (o : O.OneOutcome) (b : Been s o) {m : W.OneWay} → Came [] (doneOf s (b .frames) (b .raw) o) m → HearsBy s m
+unfolding noticesBy qpackBy headsBy
+hears-by s o b (still-untyped a f q n) = (hears-none s o b f, tagged-none (s .qpack) (b .raw) o (b .tagged) q, n)
+hears-by s o b (type-refused a f q n) = (hears-none s o b f, tagged-none (s .qpack) (b .raw) o (b .tagged) q, n)
+hears-by s o b (a-control-stream {r = r} c a f q n v) = (b .notices ∙ ap noticesOf f ∙ notices-unheaded (r .said), tagged-none (s .qpack) (b .raw) o (b .tagged) q, n)
+hears-by s o b (a-qpack-stream a f n) = (hears-none s o b f, subst (Tagged (s .qpack) (b .raw)) a (b .tagged), n)
+hears-by s o b (a-skipped-stream a f q n) = (hears-none s o b f, tagged-none (s .qpack) (b .raw) o (b .tagged) q, n)
+
+hears : (s : Shown streams) (o : O.OneOutcome) → Been s o → Hears s
+hears s o b = let h = hears-by s o b (came-of s o b) in record { notices = h .0; qpack = h .1; heads = h .2; content = b .content; blocks = b .blocks }
+
+-- a fault is the one that the bytes bring
+dead-by : (s : Shown streams) (code : ℕ) (b : Been s (O.dies code)) {m : W.OneWay} → Came [] (doneOf s (b .frames) (b .raw) (O.dies code)) m → W.closed m ≡ some code
+unfolding W.closed
+dead-by s code b (still-untyped a f q n) = let z : _≡_ {A = ℕ} 0 1 = cc in absurd (omega arith)
+dead-by s code b (type-refused a f q n) = ap some (cc)
+dead-by s code b (a-control-stream {r = r} c a f q n v) =
+    let e = controlled-dies c code (sym a) in
+    ap W.faultIn (v ∙ ap (λ o. M.finished control (length (s .bytes)) (M.settled control (length (s .bytes)) [] o)) e) ∙ unfold M.finished M.settled W.faultIn in refl
+dead-by s code b (a-qpack-stream a f n) = let z : _≡_ {A = ℕ} 0 1 = cc in absurd (omega arith)
+dead-by s code b (a-skipped-stream a f q n) = let z : _≡_ {A = ℕ} 0 1 = cc in absurd (omega arith)
+
+-- ---- closing
+
+-- a control stream may never end
+control-closes : (n : ℕ) (c : M.State Control) → ReadsOn c → W.faultIn (M.finished control n (M.settled control n [] (M.lives c))) ≡ some 0x0104
+unfolding M.settled M.supplied M.finished M.finish W.faultIn R.ended
+control-closes n (M.in-type M.fresh p) h = refl
+control-closes n (M.in-type (M.need k v) p) h = refl
+control-closes n (M.in-length t g p) h = refl
+control-closes n (M.in-payload u k left p) h = refl
+control-closes n (M.due t p) h = absurd h
+
+unfoldable codeFor : Option ConnCode → Option Code
+codeFor none = none
+codeFor (some c) = some (of-connection c)
+
+lived : (w w′ : O.OneState) → O.lives w ≡ O.lives w′ → w ≡ w′
+lived w w′ e = cc
+
+control-by : (w : O.OneState) (c : M.Outcome Control) (n : ℕ) (v : R.Verdict) → ReadsOnOne w → O.lives w ≡ O.controlled c → v ≡ M.finished control n (M.settled control n [] c)
+    → named (W.faultIn v) ≡ codeFor (closeOf w)
+unfolding O.controlled
+control-by w (M.lives s) n v h a e =
+    let z = lived w (O.in-control s) a in
+    let y = control-closes n s (subst ReadsOnOne z h) in
+    ap named (ap W.faultIn e ∙ y) ∙ unfold named connCode pick codeFor closeOf in (rw z refl)
+control-by w (M.dies code) n v h a e = let z : _≡_ {A = ℕ} 0 1 = cc in absurd (omega arith)
+
+close-by : (s : Shown streams) (w : O.OneState) (b : Been s (O.lives w)) {m : W.OneWay} → ReadsOnOne w → Came [] (doneOf s (b .frames) (b .raw) (O.lives w)) m
+    → named (W.closed m) ≡ codeFor (closeOf w)
+unfolding W.closed
+close-by s w b h (still-untyped {g = g} a f q n) = unfold named codeFor closeOf in (rw (lived w (O.in-stream-type g) a) refl)
+close-by s w b h (type-refused a f q n) = let z : _≡_ {A = ℕ} 0 1 = cc in absurd (omega arith)
+close-by s w b h (a-control-stream {r = r} c a f q n v) = control-by w c (length (s .bytes)) (r .verdict) h a v
+close-by s w b h (a-qpack-stream {q = q} a f n) = unfold named connCode pick codeFor closeOf in (rw (lived w (O.in-qpack q) a) refl)
+close-by s w b h (a-skipped-stream a f q n) = unfold named codeFor closeOf in (rw (lived w O.in-skipped a) refl)
+
+closes : (s : Shown streams) (w : O.OneState) → Been s (O.lives w) → faultBy (W.oneWay [] (s .bytes)) ≡ codeFor (closeOf w)
+unfolding faultBy
+closes s w b = close-by s w b (always-reads [] (b .made) w (ap (λ d. d .after) (b .came))) (came-of s (O.lives w) b)
+
+-- ---- every trace
+
+-- a fate beside what the bytes consumed mean: closed without fault, or refused with the fault that they bring or that closing is
+abbrev pub FateBy : Fate → W.OneWay → Type 0
+FateBy unopened m = Unit {0}
+FateBy spent m = Unit {0}
+FateBy running m = Unit {0}
+FateBy ended m = ⊥
+FateBy dropped m = faultBy m ≡ none
+FateBy (refused k) m = faultBy m ≡ some k
+FateBy lost m = Unit {0}
+
+pub data Heard (v : View streams) : Type 0 where
+  by-its-bytes : Hears (v .shown) → FateBy (v .fate) (W.oneWay [] (v .shown .bytes)) → Heard v
+  second : v .fate ≡ refused (of-connection creation) → Heard v
+
+fault-story : (s : Shown streams) (w : O.OneState) (allow u h : ℕ) (piece : List ℕ) (k : Code) → Been s (O.lives w) → aloneOf w allow piece ≡ faults k u h
+    → Heard (record { fate = refused k; shown = plusBytes u h piece s })
+fault-story s w allow u h piece k b q =
+    let f = O.feed [] allow w piece in
+    let g = alone-faults (f .used) (f .heads) (f .event) (f .after) q in
+    let v = been-dead s w allow u h (g .0) piece b (g .1) (g .2) (g .3) in
+    let s′ = plusBytes u h piece s in
+    let d = dead-by s′ (g .0) v (came-of s′ (O.dies (g .0)) v) in
+    by-its-bytes (hears s′ (O.dies (g .0)) v) (unfold faultBy in (ap named d ∙ unfold named in (ap some (g .4))))
+
+heard-reached : {s : Shown streams} {w : O.OneState} → Reached₁ alone s w → Hears s
+heard-reached {s} {w} t = hears s (O.lives w) (been t)
+
+heard-story : {f : Fate} {s : Shown streams} → Story₁ alone f s → Heard (record { fate = f; shown = s })
+heard-story not-yet = by-its-bytes (heard-reached at-first) tt
+heard-story never = by-its-bytes (heard-reached at-first) tt
+heard-story (cut-off t) = by-its-bytes (heard-reached t) tt
+heard-story (closed {s = s} {w = w} t e) = by-its-bytes (heard-reached t) (closes s w (been t) ∙ unfold codeFor in (rw e refl))
+heard-story (closed-critical {s = s} {w = w} t e) = by-its-bytes (heard-reached t) (closes s w (been t) ∙ unfold codeFor in (rw e refl))
+heard-story (bad-feed {s = s} {w = w} {allow = allow} {u = u} {h = h} {piece = piece} {k = k} t e) = fault-story s w allow u h piece k (been t) e
+heard-story (second-of-type u h piece t) = second refl
+
+heard-agrees : {id : ℕ} {p : Pair streams} {v : View streams} → Agrees (Says alone) (Story₁ alone) id p v → Heard v
+heard-agrees (open-still a (says t) f) = by-its-bytes (heard-reached t) tt
+heard-agrees (over t n) = heard-story t
+
+-- DEMAND 2 FOR ONE-WAY STREAMS: at every moment of every trace
+pub one-way-reads : (id : ℕ) → kindOf id ≡ some one-way → (cs : List (Call streams)) → Heard (view id (trace fresh cs))
+one-way-reads id q cs = heard-agrees (follows₁ alone id q cs)

@@ -1,0 +1,70 @@
+-- THE INVARIANT of a connection and a row that had the same start: a pair, with no code or a connection fault's, whose streams read what fits their
+-- place. Assumes nothing.
+use mathlib.Core.Path.{_≡_, refl, sym, subst}
+use Prim.Native.Nat.{ℕ, _≤_}
+use native.Mathlib.Decide.{decLe}
+use mathlib.Core.List.{List}
+use mathlib.Core.Logic.{_⊎_, inr}
+use lib.ListN.{length}
+use Rattle.rules.specs.Writer.{Write, refused, wrote}
+use Rattle.doors.specs.declared.Doors.{Doors}
+use Rattle.doors.specs.declared.Opening.{Opening}
+use Rattle.doors.specs.Ways.{Went, barred, a-request, a-one-way, went}
+use Rattle.doors.specs.Ways as doors
+use Rattle.doors.specs.Goaway.{sendingOf, writeOf}
+use Rattle.record.specs.declared.Record.{Record}
+use Rattle.requests.specs.Reply.{stateIn}
+use Rattle.oneways.specs.Heard.{stateHere}
+use Rattle.connection.specs.declared.Connection.{Connection}
+use Rattle.connection.specs.declared.Found.{Found}
+use Rattle.connection.specs.declared.Turn.{Turn}
+use Rattle.connection.specs.declared.Gone.{Gone}
+use Rattle.connection.specs.Halves.{stream-id, doorsIn, sideIn, withSide}
+use Rattle.connection.specs.Faults.{codeKept, kept-fault, kept-none}
+use Rattle.connection.specs.Turned.{freeAt, requestAs, oneWayAs, Turned, other-row, dead, opens, not-open, request, one-way, GoesAway}
+use Rattle.connection.specs.Pair.{Paired}
+use Rattle.demands.specs.Codes.{OfConnection, connection-within}
+use Rattle.demands.specs.Means.{pairOf}
+use Rattle.demands.specs.Suited.{RowSuits}
+
+-- alive, or dead of a connection fault
+abbrev pub Coded : ℕ → Type 0
+Coded n = (n ≡ 0) ⊎ OfConnection n
+
+pub record Stands (c : Connection) (rows : List Record) : Type 0 where
+  pub paired : Paired c rows
+  pub coded : Coded (c .code)
+  pub suits : RowSuits (pairOf c rows .row)
+
+-- ---- the code
+
+kept-coded : (c : Connection) (n : ℕ) → Coded (c .code) → Coded (codeKept c n .code)
+kept-coded c n h = by (decLe 0x0103 n) (decLe n 0x010a)
+  where
+    by : Dec (0x0103 ≤ n) → Dec (n ≤ 0x010a) → Coded (codeKept c n .code)
+    by (yes a) (yes b) = subst (λ x. Coded (x .code)) (kept-fault c n (a, b)) (inr (connection-within n a b))
+    by (no a) b = subst (λ x. Coded (x .code)) (kept-none c n (λ f. a (f .0))) h
+    by (yes a) (no b) = subst (λ x. Coded (x .code)) (kept-none c n (λ f. b (f .1))) h
+
+opened-code : {d : Doors} {id free : ℕ} {o : Opening} → Went d id free o → o .doors .code ≡ d .code
+opened-code (doors.refused n z) = refl
+opened-code (barred m e) = refl
+opened-code (a-request m e l f) = refl
+opened-code (a-one-way m e l f) = refl
+
+-- EVERY CALL KEEPS IT
+pub turned-coded : {c : Connection} {f : Found} {call id allow : ℕ} {piece : List ℕ} {t : Turn} → Coded (c .code) → Turned c f call id allow piece t → Coded (t .conn .code)
+turned-coded h (other-row n q) = rw q h
+turned-coded h (dead l n q) = rw q h
+turned-coded {c} {f} {id = id} h (opens v e q) = rw q (subst Coded (sym (opened-code (went (doorsIn c) id (freeAt (f .at))))) h)
+turned-coded h (not-open v n s q) = rw q h
+turned-coded {c} {f} {call} {allow = allow} {piece = piece} h (request v n l o q s) = rw q (kept-coded c (requestAs call allow piece (f .row) (stateIn (f .row)) .number) h)
+turned-coded {c} {f} {call} {allow = allow} {piece = piece} h (one-way v n l o q s) = let a = oneWayAs call allow piece (f .row) (sideIn c) (stateHere (f .row) (sideIn c)) in rw q (kept-coded (withSide c (a .side)) (a .number) h)
+
+gone-coded : (c : Connection) (id : ℕ) (w : Write) → sendingOf (doorsIn c) (stream-id id) w .doors .code ≡ c .code
+unfolding sendingOf
+gone-coded c id (refused n) = refl
+gone-coded c id (wrote bytes) = refl
+
+pub goaway-coded : {c : Connection} {id : ℕ} {before after : List ℕ} {r : Gone} → GoesAway c id before r after → Coded (c .code) → Coded (r .conn .code)
+goaway-coded {c} {id} {before} g h = rw (g .is) (rw (g .sends .answers) (subst Coded (sym (gone-coded c id (writeOf (c .code) (doorsIn c) id (length before)))) h))
