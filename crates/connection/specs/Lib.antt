@@ -7,3 +7,4 @@ pub mod One
 pub mod Worked
 pub mod Leavings
 pub mod Pair
+pub mod ToCome
