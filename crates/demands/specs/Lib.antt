@@ -5,6 +5,7 @@ pub mod InPlace
 pub mod Reading
 pub mod Reads
 pub mod LongerStreams
+pub mod Becomes
 pub mod Moves
 pub mod OneWayReads
 pub mod ToTheEnd
@@ -23,3 +24,9 @@ pub mod Steps
 pub mod Sends
 pub mod Runs
 pub mod OverTheCalls
+pub mod OneAnswer
+pub mod Only
+pub mod Parts
+pub mod Others
+pub mod Instances
+pub mod Types

@@ -67,6 +67,8 @@ callOf (suc call) id allow piece = on id (ownOf (suc call) allow piece)
 
 -- ---- the answers: events are numbered as docs/DECISIONS N13 has them
 
+-- (a report has no room for the three numbers of settings: event 8 says that they have come, and the host reads them in the connection's record, which
+-- holds those of the notice: Runs, settings-kept)
 unfoldable pub noticed : (used heads : ℕ) → Notice → Report
 noticed u h (qpack-bytes type from len) = told 0 7 from len u h type
 noticed u h (settings size capacity blocked) = told 0 8 0 0 u h 0

@@ -2,9 +2,9 @@
 -- to which the connection adds one thing only, that a second stream of a type is refused; and what is kept is what the control stream told.
 -- Assumes nothing.
 use mathlib.Core.Path.{_≡_, refl, sym, ap, _∙_, subst}
-use Prim.Native.Nat.{ℕ, zero, suc, _-_, _≤_}
+use Prim.Native.Nat.{ℕ, zero, suc, _≤_}
 use native.Mathlib.Omega.{arith}
-use mathlib.Core.List.{List, [], _∷_, _++_}
+use mathlib.Core.List.{List, [], _∷_}
 use mathlib.Core.Bool.{Bool, true, false, true≢false}
 use mathlib.Core.Option.{Option, none, some}
 use Rattle.rules.specs.Text.{lookup, isOneOf}
@@ -16,10 +16,11 @@ use Rattle.meaning.specs.Machine as M
 use Rattle.meaning.specs.Feed as F
 use Rattle.meaning.specs.EveryFeed.{ReadsOn, feed-moves}
 use Rattle.meaning.specs.OneWayFeed as O
-use Rattle.meaning.specs.TextLaws.{lookup-view, lookup-absent}
-use Rattle.traces.specs.Stream.{creation, of-connection, Event, Fed, goes, faults}
+use Rattle.meaning.specs.TextLaws.{lookup-absent}
+use Rattle.traces.specs.Stream.{of-connection, Event, Fed, goes, faults}
 use Rattle.traces.specs.Oneways.{Both, Like, goes-alike, faults-alike, second, ByItself}
 use Rattle.traces.specs.Kept.{Steps, tells-nothing, becomes, tells-on}
+use Rattle.demands.specs.Becomes.{as-control, isFor, typeNumber, Unseen, type-unseen}
 use Rattle.demands.specs.Streams.{pick, connCode, isDue, Keeps, came, typesIn, placeIn, keptBy, oneEvent, heardBy, streams}
 use Rattle.demands.specs.Reads.{fed-goes}
 
@@ -171,49 +172,13 @@ qpack-none q [] = tt
 qpack-none q (b ∷ bs) = tt
 
 -- where a control stream has come, no other is one
-module _ (seen : List ℕ) (claimed : isOneOf seen 0 ≡ true) (allow : ℕ) where
-  abbrev NoControlType : Typed → Type 0
-  NoControlType (refuse code) = Unit {0}
-  NoControlType (is a-control) = ⊥
-  NoControlType (is (a-qpack q)) = Unit {0}
-  NoControlType (is skipped) = Unit {0}
-
-  qpack-type : (t : ℕ) (q : Qpack) → NoControlType (once seen t (a-qpack q))
-  unfolding once
-  qpack-type t q = go (isOneOf seen t)
-    where
-      go : (x : Bool) → NoControlType (elim x [ true ↦ refuse 0x0103 | false ↦ is (a-qpack q) ])
-      go true = tt
-      go false = tt
-
-  control-type : NoControlType (once seen 0 a-control)
-  unfolding once
-  control-type = go (isOneOf seen 0) claimed
-    where
-      go : (x : Bool) → x ≡ true → NoControlType (elim x [ true ↦ refuse 0x0103 | false ↦ is a-control ])
-      go true e = tt
-      go false e = true≢false (sym e)
-
-  no-control-type : (t : ℕ) → NoControlType (typeRule seen t)
-  unfolding typeRule
-  no-control-type t = lookup-view t NoControlType _ (is skipped) ((λ e. control-type), ((λ e. tt), ((λ e. qpack-type 2 encoder), ((λ e. qpack-type 3 decoder), tt)))) (λ a. tt)
-
-  typed-none : (x : Typed) (piece : List ℕ) → NoControlType x → NoControl (O.typed-feed allow x piece .after)
-  unfolding O.typed-feed O.kind-feed O.halt
-  typed-none (refuse code) piece w = tt
-  typed-none (is a-control) piece w = absurd w
-  typed-none (is (a-qpack q)) piece w = qpack-none q piece
-  typed-none (is skipped) piece w = tt
-
-  byte-none : (bs : List ℕ) → ((g : M.Prog) → NoControl (O.type-feed seen allow g bs .after)) → (x : M.Fed)
-      → NoControl ((elim x as (λ y. O.OneFeeding) [ M.going g ↦ O.type-feed seen allow g bs | M.value t ↦ O.typed-feed allow (typeRule seen t) bs ]) .after)
-  byte-none bs ih (M.going g) = ih g
-  byte-none bs ih (M.value t) = typed-none (typeRule seen t) bs (no-control-type t)
-
-  type-none : (piece : List ℕ) (g : M.Prog) → NoControl (O.type-feed seen allow g piece .after)
-  unfolding O.type-feed O.halt O.also
-  type-none [] g = tt
-  type-none (b ∷ bs) g = byte-none bs (type-none bs) (M.fed g b)
+no-control : (seen : List ℕ) → isOneOf seen 0 ≡ true → (o : O.OneOutcome) → Unseen seen o → NoControl o
+unfolding isFor typeNumber
+no-control seen h (O.lives (O.in-stream-type g)) u = tt
+no-control seen h (O.lives (O.in-control s)) u = true≢false (sym h ∙ (unfold isFor typeNumber in (u as-control refl)))
+no-control seen h (O.lives (O.in-qpack q)) u = tt
+no-control seen h (O.lives O.in-skipped) u = tt
+no-control seen h (O.dies code) u = tt
 
 control-seen : (k : Keeps) → k .control ≡ true → isOneOf (typesIn k) 0 ≡ true
 unfolding typesIn came isOneOf
@@ -246,7 +211,7 @@ typed-steps k g false e O.in-skipped c = unfold keptBy in still-none k (O.in-str
 steps-by : (k : Keeps) (w : O.OneState) (allow : ℕ) (piece : List ℕ) (s : O.OneState) → O.feed (typesIn k) allow w piece .after ≡ O.lives s → StepsOn k w (keptBy k s) s
 unfolding O.feed
 steps-by k (O.in-stream-type g) allow piece s e =
-    typed-steps k g (k .control) refl s (λ c. subst NoControl e (unfold O.feed in type-none (typesIn k) (control-seen k c) allow piece g))
+    typed-steps k g (k .control) refl s (λ c. subst NoControl e (unfold O.feed in no-control (typesIn k) (control-seen k c) (O.type-feed (typesIn k) allow g piece .after) (type-unseen (typesIn k) allow piece g)))
 steps-by k (O.in-control s₀) allow piece s e = tells-more k s₀ s (subst OnlyControl e (unfold O.feed in control-only (typesIn k) allow s₀ piece))
 steps-by k (O.in-qpack q) allow piece s e = still-none k (O.in-qpack q) s (unfold toldBy in refl) (subst NoControl e (unfold O.feed in qpack-none q piece))
 steps-by k O.in-skipped allow piece s e = still-none k O.in-skipped s (unfold toldBy in refl) (subst NoControl e (unfold O.feed O.kind-feed in tt))

@@ -1,28 +1,31 @@
 -- DEMAND 2 for one-way streams over traces: whatever the trace, what a control stream has told, what was handed over of a QPACK stream, and
 -- the headers counted are what the bytes consumed mean (rules, OneWay), and so is the stream's fate. Assumes nothing.
 use mathlib.Core.Path.{_≡_, refl, sym, ap, ap₂, _∙_, subst}
-use Prim.Native.Nat.{ℕ, zero, suc, _+_, _-_, _≤_}
+use Prim.Native.Nat.{ℕ, suc, _-_, _≤_}
 use native.Mathlib.Omega.{arith}
 use mathlib.Core.List.{List, [], _∷_, _++_, map, append-nil, append-assoc, map-append}
 use mathlib.Core.Option.{Option, none, some}
+use mathlib.Core.Logic.{_⊎_, inl, inr}
 use lib.ListN.{length, take, drop}
 use Rattle.rules.specs.Reading as R
 use Rattle.rules.specs.Control.{Control, control, Told, told-settings, told-goaway, told-max-push-id, told-nothing, tells}
 use Rattle.rules.specs.OneWay as W
-use Rattle.rules.specs.OneWay.{Qpack}
+use Rattle.rules.specs.OneWay.{Qpack, encoder, decoder}
 use Rattle.meaning.specs.Machine as M
 use Rattle.meaning.specs.Feed as F
 use Rattle.meaning.specs.Feeds.{unheaded, headersIn}
 use Rattle.meaning.specs.EveryFeed.{ReadsOn, feed-silent}
 use Rattle.meaning.specs.OneWayFeed as O
 use Rattle.meaning.specs.OneWays.{Came, still-untyped, type-refused, a-control-stream, a-qpack-stream, a-skipped-stream, calls-read, always-reads, ReadsOnOne}
-use Rattle.traces.specs.Stream.{ConnCode, creation, Code, of-connection, Notice, toldBy, noticesIn, ofType, partBy, qpackIn, Event, contentIn, sectionIn, Fed, goes, faults}
-use Rattle.traces.specs.Board.{one-way, kindOf, Pair, Call, fresh, run, trace}
+use Rattle.traces.specs.Stream.{ConnCode, creation, Code, of-connection, Notice, toldBy, noticesIn, ofType, partBy, qpackIn, Event, contentIn, sectionIn, Fed, goes, faults, end, reset, ofClosed, mapOut, freed, act₁}
+use Rattle.traces.specs.Board.{one-way, kindOf, telling, Pair, Call, on, Answer, left as is-left, code as is-code, with, faulted, settle, actOn, fresh, call, run, trace}
 use Rattle.traces.specs.View.{Shown, Fate, unopened, spent, running, ended, dropped, refused, lost, View, nothing, plusFeed, plusBytes, view}
-use Rattle.traces.specs.Follow.{Agrees, open-still, over}
-use Rattle.traces.specs.Oneways.{Reached₁, at-first, by-feed, Story₁, not-yet, never, cut-off, closed, closed-critical, bad-feed, second-of-type, Says, says, follows₁}
-use Rattle.demands.specs.Streams.{pick, connCode, noticeOf, framesEvent, oneEvent, typeOf, closeOf, streams}
+use Rattle.traces.specs.Alone.{call-on}
+use Rattle.traces.specs.Follow.{Agrees, open-still, over, not-running}
+use Rattle.traces.specs.Oneways.{Both, Reached₁, at-first, by-feed, Story₁, not-yet, never, cut-off, closed, closed-critical, bad-feed, second-of-type, Says, says, story₁, follows₁}
+use Rattle.demands.specs.Streams.{pick, connCode, Keeps, typesIn, noticeOf, framesEvent, oneEvent, heardBy, typeOf, closeOf, streams}
 use Rattle.demands.specs.Reads.{part-is}
+use Rattle.demands.specs.Becomes.{Once, as-control, as-encoder, as-decoder, isFor}
 use Rattle.demands.specs.Moves.{aloneBy, aloneOf, alone}
 
 -- ---- DEFINITION: what the bytes of a one-way stream tell, count and come to
@@ -159,33 +162,34 @@ unfolding O.qpack-feed O.halt
 qpack-names w q [] s = frames-only s (λ code e. refl)
 qpack-names w q (b ∷ bs) s = let z : length (b ∷ bs) ≤ length (b ∷ bs) = omega arith in a-part z s
 
-module _ (g₀ : M.Prog) (allow : ℕ) where
-  abbrev From : O.OneFeeding → Type 0
-  From f = NamesIn (O.in-stream-type g₀) f
+module _ (seen : List ℕ) where
+  module _ (g₀ : M.Prog) (allow : ℕ) where
+    abbrev From : O.OneFeeding → Type 0
+    From f = NamesIn (O.in-stream-type g₀) f
 
-  typed-names : (x : W.Typed) (piece : List ℕ) → From (O.typed-feed allow x piece)
-  unfolding O.typed-feed O.kind-feed O.halt
-  typed-names (W.refuse code) piece = frames-only tt (λ code e. refl)
-  typed-names (W.is W.a-control) piece = control-names (O.in-stream-type g₀) allow _ piece (λ o. tt)
-  typed-names (W.is (W.a-qpack q)) piece = qpack-names (O.in-stream-type g₀) q piece tt
-  typed-names (W.is W.skipped) piece = frames-only tt (λ code e. refl)
+    typed-names : (x : W.Typed) (piece : List ℕ) → From (O.typed-feed allow x piece)
+    unfolding O.typed-feed O.kind-feed O.halt
+    typed-names (W.refuse code) piece = frames-only tt (λ code e. refl)
+    typed-names (W.is W.a-control) piece = control-names (O.in-stream-type g₀) allow _ piece (λ o. tt)
+    typed-names (W.is (W.a-qpack q)) piece = qpack-names (O.in-stream-type g₀) q piece tt
+    typed-names (W.is W.skipped) piece = frames-only tt (λ code e. refl)
 
-  byte-names : (bs : List ℕ) → ((g : M.Prog) → From (O.type-feed [] allow g bs)) → (x : M.Fed)
-      → From (elim x as (λ y. O.OneFeeding) [ M.going g ↦ O.type-feed [] allow g bs | M.value t ↦ O.typed-feed allow (W.typeRule [] t) bs ])
-  byte-names bs ih (M.going g) = ih g
-  byte-names bs ih (M.value t) = typed-names (W.typeRule [] t) bs
+    byte-names : (bs : List ℕ) → ((g : M.Prog) → From (O.type-feed seen allow g bs)) → (x : M.Fed)
+        → From (elim x as (λ y. O.OneFeeding) [ M.going g ↦ O.type-feed seen allow g bs | M.value t ↦ O.typed-feed allow (W.typeRule seen t) bs ])
+    byte-names bs ih (M.going g) = ih g
+    byte-names bs ih (M.value t) = typed-names (W.typeRule seen t) bs
 
-  type-names : (piece : List ℕ) (g : M.Prog) → From (O.type-feed [] allow g piece)
-  unfolding O.type-feed O.halt
-  type-names [] g = frames-only tt (λ code e. refl)
-  type-names (b ∷ bs) g = also-names _ _ (byte-names bs (type-names bs) (M.fed g b))
+    type-names : (piece : List ℕ) (g : M.Prog) → From (O.type-feed seen allow g piece)
+    unfolding O.type-feed O.halt
+    type-names [] g = frames-only tt (λ code e. refl)
+    type-names (b ∷ bs) g = also-names _ _ (byte-names bs (type-names bs) (M.fed g b))
 
-feed-names : (allow : ℕ) (w : O.OneState) (piece : List ℕ) → NamesIn w (O.feed [] allow w piece)
-unfolding O.feed O.kind-feed
-feed-names allow (O.in-stream-type g) piece = type-names g allow piece g
-feed-names allow (O.in-control s) piece = control-names (O.in-control s) allow s piece (λ o. tt)
-feed-names allow (O.in-qpack q) piece = qpack-names (O.in-qpack q) q piece refl
-feed-names allow O.in-skipped piece = frames-only tt (λ code e. refl)
+  feed-names : (allow : ℕ) (w : O.OneState) (piece : List ℕ) → NamesIn w (O.feed seen allow w piece)
+  unfolding O.feed O.kind-feed
+  feed-names allow (O.in-stream-type g) piece = type-names g allow piece g
+  feed-names allow (O.in-control s) piece = control-names (O.in-control s) allow s piece (λ o. tt)
+  feed-names allow (O.in-qpack q) piece = qpack-names (O.in-qpack q) q piece refl
+  feed-names allow O.in-skipped piece = frames-only tt (λ code e. refl)
 
 -- a fault is silent
 silent : {w : O.OneState} {u : ℕ} {e : O.OneEvent} {o : O.OneOutcome} {code : ℕ} → Names w u e o → o ≡ O.dies code → e ≡ O.of-frames F.quiet
@@ -241,129 +245,6 @@ tagged-fed w t raw piece u (a-part {q = q} {len = len} l s) h =
 abbrev doneOf : Shown streams → List R.Saying → List ℕ → O.OneOutcome → O.Done
 doneOf s frames raw o = record { bytes = s .bytes; frames = frames; qpack = raw; heads = s .heads; after = o }
 
-record Been (s : Shown streams) (o : O.OneOutcome) : Type 0 where
-  made : List O.Call
-  frames : List R.Saying
-  raw : List ℕ
-  came : O.calls [] O.nothing-done made ≡ doneOf s frames raw o
-  notices : s .notices ≡ noticesOf frames
-  tagged : Tagged (s .qpack) raw o
-  content : s .content ≡ []
-  blocks : s .blocks ≡ []
-
-calls-then : (d : O.Done) (cs : List O.Call) (c : O.Call) → O.calls [] d (cs ++ (c ∷ [])) ≡ O.called [] (O.calls [] d cs) c (O.calls [] d cs .after)
-unfolding O.calls
-calls-then d [] c = refl
-calls-then d (x ∷ cs) c = calls-then (O.called [] d x (d .after)) cs c
-
-been-first : Been nothing (O.lives (O.in-stream-type M.fresh))
-unfolding nothing
-been-first = record {
-  made = [];
-  frames = [];
-  raw = [];
-  came = unfold O.calls O.nothing-done in refl;
-  notices = unfold noticesOf in refl;
-  tagged = (refl, refl);
-  content = refl;
-  blocks = refl;
-}
-
-been-fed : (s : Shown streams) (w : O.OneState) (allow : ℕ) (piece : List ℕ) → Been s (O.lives w)
-    → let f = O.feed [] allow w piece in Been (plusFeed (f .used) (f .heads) (oneEvent (f .used) (f .event)) piece s) (f .after)
-unfolding plusFeed
-been-fed s w allow piece b =
-    let f = O.feed [] allow w piece in
-    let shown = O.shows (f .event) (f .used) piece in
-    let x = event-bare (f .event) (f .used) piece in
-    record {
-      made = b .made ++ (O.feed-call allow piece ∷ []);
-      frames = b .frames ++ shown .frames;
-      raw = b .raw ++ shown .qpack;
-      came = calls-then O.nothing-done (b .made) (O.feed-call allow piece)
-          ∙ ap (λ d. O.called [] d (O.feed-call allow piece) (d .after)) (b .came) ∙ unfold O.called O.done-then in refl;
-      notices = ap₂ _++_ (b .notices) (event-tells (f .event) (f .used) piece) ∙ sym (notices-append (b .frames) (shown .frames));
-      tagged = tagged-fed w (s .qpack) (b .raw) piece (f .used) (feed-names allow w piece) (b .tagged);
-      content = ap₂ _++_ (b .content) (x .0);
-      blocks = ap₂ _++_ (b .blocks) (x .1);
-    }
-
-alone-goes : (u₀ h₀ : ℕ) (e₀ : O.OneEvent) (o : O.OneOutcome) {u h : ℕ} {e : Event} {w : O.OneState} → aloneBy u₀ h₀ e₀ o ≡ goes u h e w
-    → (o ≡ O.lives w) × (u₀ ≡ u) × (h₀ ≡ h) × (oneEvent u₀ e₀ ≡ e)
-unfolding aloneBy
-alone-goes u₀ h₀ e₀ (O.lives s) q = (cc, cc, cc, cc)
-alone-goes u₀ h₀ e₀ (O.dies code) q = let z : _≡_ {A = ℕ} 0 1 = cc in absurd (omega arith)
-
-alone-faults : (u₀ h₀ : ℕ) (e₀ : O.OneEvent) (o : O.OneOutcome) {u h : ℕ} {k : Code} → aloneBy u₀ h₀ e₀ o ≡ faults k u h
-    → (code : ℕ) × (o ≡ O.dies code) × (u₀ ≡ u) × (h₀ ≡ h) × (of-connection (connCode code) ≡ k)
-unfolding aloneBy
-alone-faults u₀ h₀ e₀ (O.lives s) q = let z : _≡_ {A = ℕ} 0 1 = cc in absurd (omega arith)
-alone-faults u₀ h₀ e₀ (O.dies code) q = (code, refl, cc, cc, cc)
-
-been-goes : (s : Shown streams) (w w′ : O.OneState) (allow u h : ℕ) (piece : List ℕ) (e : Event) → Been s (O.lives w) → aloneOf w allow piece ≡ goes u h e w′
-    → Been (plusFeed u h e piece s) (O.lives w′)
-been-goes s w w′ allow u h piece e b q =
-    let f = O.feed [] allow w piece in
-    let g = alone-goes (f .used) (f .heads) (f .event) (f .after) q in
-    rw (← g .1, ← g .2, ← g .3, ← g .0) (been-fed s w allow piece b)
-
-been : {s : Shown streams} {w : O.OneState} → Reached₁ alone s w → Been s (O.lives w)
-been at-first = been-first
-been (by-feed {s = s} {w = w} {w′ = w′} {allow = allow} {u = u} {h = h} {piece = piece} {e = e} t q) = been-goes s w w′ allow u h piece e (been t) q
-
--- so the bytes up to it are all that a fault adds
-been-dead : (s : Shown streams) (w : O.OneState) (allow u h code : ℕ) (piece : List ℕ) → Been s (O.lives w) → let f = O.feed [] allow w piece in
-    f .after ≡ O.dies code → f .used ≡ u → f .heads ≡ h → Been (plusBytes u h piece s) (O.dies code)
-unfolding plusBytes
-been-dead s w allow u h code piece b e x y =
-    let z = silent (feed-names allow w piece) e in
-    let v = rw (z, e, x, y) at (been-fed s w allow piece b) in
-    unfold plusFeed oneEvent framesEvent contentIn sectionIn noticesIn qpackIn in
-    (rw (append-nil (s .content), append-nil (s .blocks), append-nil (s .notices), append-nil (s .qpack)) at v)
-
--- ---- in the words of the definition
-
-came-of : (s : Shown streams) (o : O.OneOutcome) (b : Been s o) → Came [] (doneOf s (b .frames) (b .raw) o) (W.oneWay [] (s .bytes))
-came-of s o b = subst (λ d. Came [] d (W.oneWay [] (d .bytes))) (b .came) (calls-read [] (b .made))
-
--- what a one-way stream has shown is what the bytes consumed tell
-pub record Hears (s : Shown streams) : Type 0 where
-  pub notices : s .notices ≡ noticesBy (W.oneWay [] (s .bytes))
-  pub qpack : s .qpack ≡ qpackBy (W.oneWay [] (s .bytes))
-  pub heads : s .heads ≡ headsBy (W.oneWay [] (s .bytes))
-  pub content : s .content ≡ []
-  pub blocks : s .blocks ≡ []
-
-abbrev HearsBy : Shown streams → W.OneWay → Type 0
-HearsBy s m = (s .notices ≡ noticesBy m) × (s .qpack ≡ qpackBy m) × (s .heads ≡ headsBy m)
-
-hears-none : (s : Shown streams) (o : O.OneOutcome) (b : Been s o) → b .frames ≡ [] → s .notices ≡ []
-hears-none s o b f = b .notices ∙ ap noticesOf f ∙ unfold noticesOf in refl
-
-hears-by : (s : Shown streams) (o : O.OneOutcome) (b : Been s o) {m : W.OneWay} → Came [] (doneOf s (b .frames) (b .raw) o) m → HearsBy s m
-unfolding noticesBy qpackBy headsBy
-hears-by s o b (still-untyped a f q n) = (hears-none s o b f, tagged-none (s .qpack) (b .raw) o (b .tagged) q, n)
-hears-by s o b (type-refused a f q n) = (hears-none s o b f, tagged-none (s .qpack) (b .raw) o (b .tagged) q, n)
-hears-by s o b (a-control-stream {r = r} c a f q n v) = (b .notices ∙ ap noticesOf f ∙ notices-unheaded (r .said), tagged-none (s .qpack) (b .raw) o (b .tagged) q, n)
-hears-by s o b (a-qpack-stream a f n) = (hears-none s o b f, subst (Tagged (s .qpack) (b .raw)) a (b .tagged), n)
-hears-by s o b (a-skipped-stream a f q n) = (hears-none s o b f, tagged-none (s .qpack) (b .raw) o (b .tagged) q, n)
-
-hears : (s : Shown streams) (o : O.OneOutcome) → Been s o → Hears s
-hears s o b = let h = hears-by s o b (came-of s o b) in record { notices = h .0; qpack = h .1; heads = h .2; content = b .content; blocks = b .blocks }
-
--- a fault is the one that the bytes bring
-dead-by : (s : Shown streams) (code : ℕ) (b : Been s (O.dies code)) {m : W.OneWay} → Came [] (doneOf s (b .frames) (b .raw) (O.dies code)) m → W.closed m ≡ some code
-unfolding W.closed
-dead-by s code b (still-untyped a f q n) = let z : _≡_ {A = ℕ} 0 1 = cc in absurd (omega arith)
-dead-by s code b (type-refused a f q n) = ap some (cc)
-dead-by s code b (a-control-stream {r = r} c a f q n v) =
-    let e = controlled-dies c code (sym a) in
-    ap W.faultIn (v ∙ ap (λ o. M.finished control (length (s .bytes)) (M.settled control (length (s .bytes)) [] o)) e) ∙ unfold M.finished M.settled W.faultIn in refl
-dead-by s code b (a-qpack-stream a f n) = let z : _≡_ {A = ℕ} 0 1 = cc in absurd (omega arith)
-dead-by s code b (a-skipped-stream a f q n) = let z : _≡_ {A = ℕ} 0 1 = cc in absurd (omega arith)
-
--- ---- closing
-
 -- a control stream may never end
 control-closes : (n : ℕ) (c : M.State Control) → ReadsOn c → W.faultIn (M.finished control n (M.settled control n [] (M.lives c))) ≡ some 0x0104
 unfolding M.settled M.supplied M.finished M.finish W.faultIn R.ended
@@ -373,7 +254,7 @@ control-closes n (M.in-length t g p) h = refl
 control-closes n (M.in-payload u k left p) h = refl
 control-closes n (M.due t p) h = absurd h
 
-unfoldable codeFor : Option ConnCode → Option Code
+unfoldable pub codeFor : Option ConnCode → Option Code
 codeFor none = none
 codeFor (some c) = some (of-connection c)
 
@@ -389,18 +270,173 @@ control-by w (M.lives s) n v h a e =
     ap named (ap W.faultIn e ∙ y) ∙ unfold named connCode pick codeFor closeOf in (rw z refl)
 control-by w (M.dies code) n v h a e = let z : _≡_ {A = ℕ} 0 1 = cc in absurd (omega arith)
 
-close-by : (s : Shown streams) (w : O.OneState) (b : Been s (O.lives w)) {m : W.OneWay} → ReadsOnOne w → Came [] (doneOf s (b .frames) (b .raw) (O.lives w)) m
-    → named (W.closed m) ≡ codeFor (closeOf w)
-unfolding W.closed
-close-by s w b h (still-untyped {g = g} a f q n) = unfold named codeFor closeOf in (rw (lived w (O.in-stream-type g) a) refl)
-close-by s w b h (type-refused a f q n) = let z : _≡_ {A = ℕ} 0 1 = cc in absurd (omega arith)
-close-by s w b h (a-control-stream {r = r} c a f q n v) = control-by w c (length (s .bytes)) (r .verdict) h a v
-close-by s w b h (a-qpack-stream {q = q} a f n) = unfold named connCode pick codeFor closeOf in (rw (lived w (O.in-qpack q) a) refl)
-close-by s w b h (a-skipped-stream a f q n) = unfold named codeFor closeOf in (rw (lived w O.in-skipped a) refl)
+module _ (seen : List ℕ) where
+  record Been (s : Shown streams) (o : O.OneOutcome) : Type 0 where
+    made : List O.Call
+    frames : List R.Saying
+    raw : List ℕ
+    came : O.calls seen O.nothing-done made ≡ doneOf s frames raw o
+    notices : s .notices ≡ noticesOf frames
+    tagged : Tagged (s .qpack) raw o
+    content : s .content ≡ []
+    blocks : s .blocks ≡ []
 
-closes : (s : Shown streams) (w : O.OneState) → Been s (O.lives w) → faultBy (W.oneWay [] (s .bytes)) ≡ codeFor (closeOf w)
-unfolding faultBy
-closes s w b = close-by s w b (always-reads [] (b .made) w (ap (λ d. d .after) (b .came))) (came-of s (O.lives w) b)
+  calls-then : (d : O.Done) (cs : List O.Call) (c : O.Call) → O.calls seen d (cs ++ (c ∷ [])) ≡ O.called seen (O.calls seen d cs) c (O.calls seen d cs .after)
+  unfolding O.calls
+  calls-then d [] c = refl
+  calls-then d (x ∷ cs) c = calls-then (O.called seen d x (d .after)) cs c
+
+  been-first : Been nothing (O.lives (O.in-stream-type M.fresh))
+  unfolding nothing
+  been-first = record {
+    made = [];
+    frames = [];
+    raw = [];
+    came = unfold O.calls O.nothing-done in refl;
+    notices = unfold noticesOf in refl;
+    tagged = (refl, refl);
+    content = refl;
+    blocks = refl;
+  }
+
+  been-fed : (s : Shown streams) (w : O.OneState) (allow : ℕ) (piece : List ℕ) → Been s (O.lives w)
+      → let f = O.feed seen allow w piece in Been (plusFeed (f .used) (f .heads) (oneEvent (f .used) (f .event)) piece s) (f .after)
+  unfolding plusFeed
+  been-fed s w allow piece b =
+      let f = O.feed seen allow w piece in
+      let shown = O.shows (f .event) (f .used) piece in
+      let x = event-bare (f .event) (f .used) piece in
+      record {
+        made = b .made ++ (O.feed-call allow piece ∷ []);
+        frames = b .frames ++ shown .frames;
+        raw = b .raw ++ shown .qpack;
+        came = calls-then O.nothing-done (b .made) (O.feed-call allow piece)
+            ∙ ap (λ d. O.called seen d (O.feed-call allow piece) (d .after)) (b .came) ∙ unfold O.called O.done-then in refl;
+        notices = ap₂ _++_ (b .notices) (event-tells (f .event) (f .used) piece) ∙ sym (notices-append (b .frames) (shown .frames));
+        tagged = tagged-fed w (s .qpack) (b .raw) piece (f .used) (feed-names seen allow w piece) (b .tagged);
+        content = ap₂ _++_ (b .content) (x .0);
+        blocks = ap₂ _++_ (b .blocks) (x .1);
+      }
+
+  -- so the bytes up to it are all that a fault adds
+  been-dead : (s : Shown streams) (w : O.OneState) (allow u h code : ℕ) (piece : List ℕ) → Been s (O.lives w) → let f = O.feed seen allow w piece in
+      f .after ≡ O.dies code → f .used ≡ u → f .heads ≡ h → Been (plusBytes u h piece s) (O.dies code)
+  unfolding plusBytes
+  been-dead s w allow u h code piece b e x y =
+      let z = silent (feed-names seen allow w piece) e in
+      let v = rw (z, e, x, y) at (been-fed s w allow piece b) in
+      unfold plusFeed oneEvent framesEvent contentIn sectionIn noticesIn qpackIn in
+      (rw (append-nil (s .content), append-nil (s .blocks), append-nil (s .notices), append-nil (s .qpack)) at v)
+
+  -- in the words of the definition
+
+  came-of : (s : Shown streams) (o : O.OneOutcome) (b : Been s o) → Came seen (doneOf s (b .frames) (b .raw) o) (W.oneWay seen (s .bytes))
+  came-of s o b = subst (λ d. Came seen d (W.oneWay seen (d .bytes))) (b .came) (calls-read seen (b .made))
+
+  -- what a one-way stream has shown is what the bytes consumed tell
+  pub record Hears (s : Shown streams) : Type 0 where
+    pub notices : s .notices ≡ noticesBy (W.oneWay seen (s .bytes))
+    pub qpack : s .qpack ≡ qpackBy (W.oneWay seen (s .bytes))
+    pub heads : s .heads ≡ headsBy (W.oneWay seen (s .bytes))
+    pub content : s .content ≡ []
+    pub blocks : s .blocks ≡ []
+
+  abbrev HearsBy : Shown streams → W.OneWay → Type 0
+  HearsBy s m = (s .notices ≡ noticesBy m) × (s .qpack ≡ qpackBy m) × (s .heads ≡ headsBy m)
+
+  hears-none : (s : Shown streams) (o : O.OneOutcome) (b : Been s o) → b .frames ≡ [] → s .notices ≡ []
+  hears-none s o b f = b .notices ∙ ap noticesOf f ∙ unfold noticesOf in refl
+
+  hears-by : (s : Shown streams) (o : O.OneOutcome) (b : Been s o) {m : W.OneWay} → Came seen (doneOf s (b .frames) (b .raw) o) m → HearsBy s m
+  unfolding noticesBy qpackBy headsBy
+  hears-by s o b (still-untyped a f q n) = (hears-none s o b f, tagged-none (s .qpack) (b .raw) o (b .tagged) q, n)
+  hears-by s o b (type-refused a f q n) = (hears-none s o b f, tagged-none (s .qpack) (b .raw) o (b .tagged) q, n)
+  hears-by s o b (a-control-stream {r = r} c a f q n v) = (b .notices ∙ ap noticesOf f ∙ notices-unheaded (r .said), tagged-none (s .qpack) (b .raw) o (b .tagged) q, n)
+  hears-by s o b (a-qpack-stream a f n) = (hears-none s o b f, subst (Tagged (s .qpack) (b .raw)) a (b .tagged), n)
+  hears-by s o b (a-skipped-stream a f q n) = (hears-none s o b f, tagged-none (s .qpack) (b .raw) o (b .tagged) q, n)
+
+  hears : (s : Shown streams) (o : O.OneOutcome) → Been s o → Hears s
+  hears s o b = let h = hears-by s o b (came-of s o b) in record { notices = h .0; qpack = h .1; heads = h .2; content = b .content; blocks = b .blocks }
+
+  -- a fault is the one that the bytes bring
+  dead-by : (s : Shown streams) (code : ℕ) (b : Been s (O.dies code)) {m : W.OneWay} → Came seen (doneOf s (b .frames) (b .raw) (O.dies code)) m → W.closed m ≡ some code
+  unfolding W.closed
+  dead-by s code b (still-untyped a f q n) = let z : _≡_ {A = ℕ} 0 1 = cc in absurd (omega arith)
+  dead-by s code b (type-refused a f q n) = ap some (cc)
+  dead-by s code b (a-control-stream {r = r} c a f q n v) =
+      let e = controlled-dies c code (sym a) in
+      ap W.faultIn (v ∙ ap (λ o. M.finished control (length (s .bytes)) (M.settled control (length (s .bytes)) [] o)) e) ∙ unfold M.finished M.settled W.faultIn in refl
+  dead-by s code b (a-qpack-stream a f n) = let z : _≡_ {A = ℕ} 0 1 = cc in absurd (omega arith)
+  dead-by s code b (a-skipped-stream a f q n) = let z : _≡_ {A = ℕ} 0 1 = cc in absurd (omega arith)
+
+  -- closing
+  close-by : (s : Shown streams) (w : O.OneState) (b : Been s (O.lives w)) {m : W.OneWay} → ReadsOnOne w → Came seen (doneOf s (b .frames) (b .raw) (O.lives w)) m
+      → named (W.closed m) ≡ codeFor (closeOf w)
+  unfolding W.closed
+  close-by s w b h (still-untyped {g = g} a f q n) = unfold named codeFor closeOf in (rw (lived w (O.in-stream-type g) a) refl)
+  close-by s w b h (type-refused a f q n) = let z : _≡_ {A = ℕ} 0 1 = cc in absurd (omega arith)
+  close-by s w b h (a-control-stream {r = r} c a f q n v) = control-by w c (length (s .bytes)) (r .verdict) h a v
+  close-by s w b h (a-qpack-stream {q = q} a f n) = unfold named connCode pick codeFor closeOf in (rw (lived w (O.in-qpack q) a) refl)
+  close-by s w b h (a-skipped-stream a f q n) = unfold named codeFor closeOf in (rw (lived w O.in-skipped a) refl)
+
+  closes : (s : Shown streams) (w : O.OneState) → Been s (O.lives w) → faultBy (W.oneWay seen (s .bytes)) ≡ codeFor (closeOf w)
+  unfolding faultBy
+  closes s w b = close-by s w b (always-reads seen (b .made) w (ap (λ d. d .after) (b .came))) (came-of s (O.lives w) b)
+
+-- ---- every stream that accepted feeds lead to
+
+alone-goes : (u₀ h₀ : ℕ) (e₀ : O.OneEvent) (o : O.OneOutcome) {u h : ℕ} {e : Event} {w : O.OneState} → aloneBy u₀ h₀ e₀ o ≡ goes u h e w
+    → (o ≡ O.lives w) × (u₀ ≡ u) × (h₀ ≡ h) × (oneEvent u₀ e₀ ≡ e)
+unfolding aloneBy
+alone-goes u₀ h₀ e₀ (O.lives s) q = (cc, cc, cc, cc)
+alone-goes u₀ h₀ e₀ (O.dies code) q = let z : _≡_ {A = ℕ} 0 1 = cc in absurd (omega arith)
+
+alone-faults : (u₀ h₀ : ℕ) (e₀ : O.OneEvent) (o : O.OneOutcome) {u h : ℕ} {k : Code} → aloneBy u₀ h₀ e₀ o ≡ faults k u h
+    → (code : ℕ) × (o ≡ O.dies code) × (u₀ ≡ u) × (h₀ ≡ h) × (of-connection (connCode code) ≡ k)
+unfolding aloneBy
+alone-faults u₀ h₀ e₀ (O.lives s) q = let z : _≡_ {A = ℕ} 0 1 = cc in absurd (omega arith)
+alone-faults u₀ h₀ e₀ (O.dies code) q = (code, refl, cc, cc, cc)
+
+been-goes : (s : Shown streams) (w w′ : O.OneState) (allow u h : ℕ) (piece : List ℕ) (e : Event) → Been [] s (O.lives w) → aloneOf w allow piece ≡ goes u h e w′
+    → Been [] (plusFeed u h e piece s) (O.lives w′)
+been-goes s w w′ allow u h piece e b q =
+    let f = O.feed [] allow w piece in
+    let g = alone-goes (f .used) (f .heads) (f .event) (f .after) q in
+    rw (← g .1, ← g .2, ← g .3, ← g .0) (been-fed [] s w allow piece b)
+
+been : {s : Shown streams} {w : O.OneState} → Reached₁ alone s w → Been [] s (O.lives w)
+been at-first = been-first []
+been (by-feed {s = s} {w = w} {w′ = w′} {allow = allow} {u = u} {h = h} {piece = piece} {e = e} t q) = been-goes s w w′ allow u h piece e (been t) q
+
+-- which type that may come once the bytes show
+unfoldable pub typeShown : W.OneWay → Option Once
+typeShown W.untyped = none
+typeShown (W.refused code place) = none
+typeShown (W.of-control r) = some as-control
+typeShown (W.of-qpack encoder bytes) = some as-encoder
+typeShown (W.of-qpack decoder bytes) = some as-decoder
+typeShown W.passed-over = none
+
+controlled-for : (w : O.OneState) (o : M.Outcome Control) → O.lives w ≡ O.controlled o → some as-control ≡ isFor w
+unfolding O.controlled isFor
+controlled-for w (M.lives s) e = let z : w ≡ O.in-control s = cc in rw z refl
+controlled-for w (M.dies code) e = let z : _≡_ {A = ℕ} 0 1 = cc in absurd (omega arith)
+
+shown-for : (s : Shown streams) (w : O.OneState) (b : Been [] s (O.lives w)) {m : W.OneWay} → Came [] (doneOf s (b .frames) (b .raw) (O.lives w)) m → typeShown m ≡ isFor w
+unfolding typeShown isFor
+shown-for s w b (still-untyped {g = g} e f q n) = let z : w ≡ O.in-stream-type g = cc in rw z refl
+shown-for s w b (type-refused e f q n) = let z : _≡_ {A = ℕ} 0 1 = cc in absurd (omega arith)
+shown-for s w b (a-control-stream o e f q n v) = controlled-for w o e
+shown-for s w b (a-qpack-stream {q = encoder} e f n) = let z : w ≡ O.in-qpack encoder = cc in rw z refl
+shown-for s w b (a-qpack-stream {q = decoder} e f n) = let z : w ≡ O.in-qpack decoder = cc in rw z refl
+shown-for s w b (a-skipped-stream e f q n) = let z : w ≡ O.in-skipped = cc in rw z refl
+
+pub type-shown : {s : Shown streams} {w : O.OneState} → Reached₁ alone s w → typeShown (W.oneWay [] (s .bytes)) ≡ isFor w
+type-shown {s} {w} t = let b = been t in shown-for s w b (came-of [] s (O.lives w) b)
+
+-- no section is due on it
+pub reads-on : {s : Shown streams} {w : O.OneState} → Reached₁ alone s w → ReadsOnOne w
+reads-on {s} {w} t = let b = been t in always-reads [] (b .made) w (ap (λ d. d .after) (b .came))
 
 -- ---- every trace
 
@@ -414,31 +450,168 @@ FateBy dropped m = faultBy m ≡ none
 FateBy (refused k) m = faultBy m ≡ some k
 FateBy lost m = Unit {0}
 
+-- the second of its type is refused as the definition refuses it where those types came before
 pub data Heard (v : View streams) : Type 0 where
-  by-its-bytes : Hears (v .shown) → FateBy (v .fate) (W.oneWay [] (v .shown .bytes)) → Heard v
-  second : v .fate ≡ refused (of-connection creation) → Heard v
+  by-its-bytes : Hears [] (v .shown) → FateBy (v .fate) (W.oneWay [] (v .shown .bytes)) → Heard v
+  second : (seen : List ℕ) → v .fate ≡ refused (of-connection creation) → Hears seen (v .shown) → faultBy (W.oneWay seen (v .shown .bytes)) ≡ some (of-connection creation) → Heard v
 
-fault-story : (s : Shown streams) (w : O.OneState) (allow u h : ℕ) (piece : List ℕ) (k : Code) → Been s (O.lives w) → aloneOf w allow piece ≡ faults k u h
+-- a feed that met a fault
+fault-of : (seen : List ℕ) (s : Shown streams) (w : O.OneState) (allow u h : ℕ) (piece : List ℕ) (k : Code) → Been seen s (O.lives w) → let f = O.feed seen allow w piece in
+    (code : ℕ) → f .after ≡ O.dies code → f .used ≡ u → f .heads ≡ h → of-connection (connCode code) ≡ k
+    → let s′ = plusBytes u h piece s in Hears seen s′ × (faultBy (W.oneWay seen (s′ .bytes)) ≡ some k)
+fault-of seen s w allow u h piece k b code e x y c =
+    let v = been-dead seen s w allow u h code piece b e x y in
+    let s′ = plusBytes u h piece s in
+    let d = dead-by seen s′ code v (came-of seen s′ (O.dies code) v) in
+    (hears seen s′ (O.dies code) v, unfold faultBy in (ap named d ∙ unfold named in (ap some c)))
+
+fault-story : (s : Shown streams) (w : O.OneState) (allow u h : ℕ) (piece : List ℕ) (k : Code) → Been [] s (O.lives w) → aloneOf w allow piece ≡ faults k u h
     → Heard (record { fate = refused k; shown = plusBytes u h piece s })
 fault-story s w allow u h piece k b q =
     let f = O.feed [] allow w piece in
     let g = alone-faults (f .used) (f .heads) (f .event) (f .after) q in
-    let v = been-dead s w allow u h (g .0) piece b (g .1) (g .2) (g .3) in
-    let s′ = plusBytes u h piece s in
-    let d = dead-by s′ (g .0) v (came-of s′ (O.dies (g .0)) v) in
-    by-its-bytes (hears s′ (O.dies (g .0)) v) (unfold faultBy in (ap named d ∙ unfold named in (ap some (g .4))))
+    let z = fault-of [] s w allow u h piece k b (g .0) (g .1) (g .2) (g .3) (g .4) in
+    by-its-bytes (z .0) (z .1)
 
-heard-reached : {s : Shown streams} {w : O.OneState} → Reached₁ alone s w → Hears s
-heard-reached {s} {w} t = hears s (O.lives w) (been t)
+heard-reached : {s : Shown streams} {w : O.OneState} → Reached₁ alone s w → Hears [] s
+heard-reached {s} {w} t = hears [] s (O.lives w) (been t)
+
+-- ---- the second of its type
+
+abbrev Typed : O.OneOutcome → Type 0
+Typed (O.lives (O.in-stream-type g)) = ⊥
+Typed (O.lives (O.in-control s)) = Unit {0}
+Typed (O.lives (O.in-qpack q)) = Unit {0}
+Typed (O.lives O.in-skipped) = Unit {0}
+Typed (O.dies code) = Unit {0}
+
+controlled-typed : (o : M.Outcome Control) → Typed (O.controlled o)
+unfolding O.controlled
+controlled-typed (M.lives s) = tt
+controlled-typed (M.dies code) = tt
+
+qpack-typed : (q : Qpack) (piece : List ℕ) → Typed (O.qpack-feed q piece .after)
+unfolding O.qpack-feed O.halt
+qpack-typed q [] = tt
+qpack-typed q (b ∷ bs) = tt
+
+typed-typed : (allow : ℕ) (x : W.Typed) (piece : List ℕ) → Typed (O.typed-feed allow x piece .after)
+unfolding O.typed-feed O.kind-feed O.halt O.of-control
+typed-typed allow (W.refuse code) piece = tt
+typed-typed allow (W.is W.a-control) piece = controlled-typed _
+typed-typed allow (W.is (W.a-qpack q)) piece = qpack-typed q piece
+typed-typed allow (W.is W.skipped) piece = tt
+
+-- a stream whose type has come stays so, and what came before it is asked no more
+typed-on : (allow : ℕ) (w : O.OneState) (piece : List ℕ) → Typed (O.lives w) → Typed (O.feed [] allow w piece .after)
+unfolding O.feed O.of-control O.kind-feed
+typed-on allow (O.in-stream-type g) piece t = absurd t
+typed-on allow (O.in-control s) piece t = controlled-typed _
+typed-on allow (O.in-qpack q) piece t = qpack-typed q piece
+typed-on allow O.in-skipped piece t = tt
+
+module _ (seen : List ℕ) (allow : ℕ) where
+  typed-same : (w : O.OneState) (piece : List ℕ) → Typed (O.lives w) → O.feed seen allow w piece ≡ O.feed [] allow w piece
+  unfolding O.feed
+  typed-same (O.in-stream-type g) piece t = absurd t
+  typed-same (O.in-control s) piece t = refl
+  typed-same (O.in-qpack q) piece t = refl
+  typed-same O.in-skipped piece t = refl
+
+  abbrev byteBy : List ℕ → List ℕ → M.Fed → O.OneFeeding
+  byteBy before bs x = elim x [ M.going g ↦ O.type-feed before allow g bs | M.value t ↦ O.typed-feed allow (W.typeRule before t) bs ]
+
+  byte-same : (bs : List ℕ) (g′ : M.Prog) → ((g : M.Prog) → O.type-feed [] allow g bs .after ≡ O.lives (O.in-stream-type g′) → O.type-feed seen allow g bs ≡ O.type-feed [] allow g bs) → (x : M.Fed)
+      → byteBy [] bs x .after ≡ O.lives (O.in-stream-type g′) → byteBy seen bs x ≡ byteBy [] bs x
+  byte-same bs g′ ih (M.going g) e = ih g e
+  byte-same bs g′ ih (M.value t) e = absurd (subst Typed e (typed-typed allow (W.typeRule [] t) bs))
+
+  -- nor is it before the type has come whole
+  type-same : (g′ : M.Prog) (piece : List ℕ) (g : M.Prog) → O.type-feed [] allow g piece .after ≡ O.lives (O.in-stream-type g′) → O.type-feed seen allow g piece ≡ O.type-feed [] allow g piece
+  unfolding O.type-feed
+  type-same g′ [] g e = refl
+  type-same g′ (b ∷ bs) g e = ap O.also (byte-same bs g′ (type-same g′ bs) (M.fed g b) (unfold O.also in e))
+
+untyped-goes : (seen : List ℕ) (s : Shown streams) (w : O.OneState) (allow u h : ℕ) (piece : List ℕ) (e : Event) (g : M.Prog)
+    → ((g₀ : M.Prog) → w ≡ O.in-stream-type g₀ → Been seen s (O.lives (O.in-stream-type g₀))) → aloneOf w allow piece ≡ goes u h e (O.in-stream-type g)
+    → Been seen (plusFeed u h e piece s) (O.lives (O.in-stream-type g))
+untyped-goes seen s (O.in-stream-type g₀) allow u h piece e g b q =
+    let f = O.feed [] allow (O.in-stream-type g₀) piece in
+    let a = alone-goes (f .used) (f .heads) (f .event) (f .after) q in
+    let z : O.feed seen allow (O.in-stream-type g₀) piece ≡ f = unfold O.feed in type-same seen allow g piece g₀ (a .0) in
+    rw (← a .1, ← a .2, ← a .3, ← a .0) (rw z at (been-fed seen s (O.in-stream-type g₀) allow piece (b g₀ refl)))
+untyped-goes seen s (O.in-control c) allow u h piece e g b q =
+    let f = O.feed [] allow (O.in-control c) piece in
+    absurd (subst Typed (alone-goes (f .used) (f .heads) (f .event) (f .after) q .0) (typed-on allow (O.in-control c) piece tt))
+untyped-goes seen s (O.in-qpack c) allow u h piece e g b q =
+    let f = O.feed [] allow (O.in-qpack c) piece in
+    absurd (subst Typed (alone-goes (f .used) (f .heads) (f .event) (f .after) q .0) (typed-on allow (O.in-qpack c) piece tt))
+untyped-goes seen s O.in-skipped allow u h piece e g b q =
+    let f = O.feed [] allow O.in-skipped piece in
+    absurd (subst Typed (alone-goes (f .used) (f .heads) (f .event) (f .after) q .0) (typed-on allow O.in-skipped piece tt))
+
+untyped-by : (g g₀ : M.Prog) → O.in-stream-type g ≡ O.in-stream-type g₀ → g ≡ g₀
+untyped-by g g₀ e = cc
+
+-- a stream whose type has not come whole was fed as it is wherever others came before
+been-untyped : (seen : List ℕ) {s : Shown streams} {w : O.OneState} → Reached₁ alone s w → (g : M.Prog) → w ≡ O.in-stream-type g → Been seen s (O.lives (O.in-stream-type g))
+been-untyped seen at-first g e = rw (← (untyped-by M.fresh g e)) (been-first seen)
+been-untyped seen (by-feed {s = s} {w = w} {w′ = w′} {allow = allow} {u = u} {h = h} {piece = piece} {e = ev} t q) g e =
+    untyped-goes seen s w allow u h piece ev g (λ g₀ z. been-untyped seen t g₀ z) (rw e at q)
+
+heard-faults : (k : Keeps) (u₀ h₀ : ℕ) (e₀ : O.OneEvent) (o : O.OneOutcome) {u h : ℕ} {c : Code} → heardBy k u₀ h₀ e₀ o ≡ faults c u h
+    → (code : ℕ) × (o ≡ O.dies code) × (u₀ ≡ u) × (h₀ ≡ h) × (of-connection (connCode code) ≡ c)
+unfolding heardBy
+heard-faults k u₀ h₀ e₀ (O.lives s) q = let z : _≡_ {A = ℕ} 0 1 = cc in absurd (omega arith)
+heard-faults k u₀ h₀ e₀ (O.dies code) q = (code, refl, cc, cc, cc)
+
+typed-both : (s : Shown streams) (w : O.OneState) (k : Keeps) (allow u h : ℕ) (piece : List ℕ) → Typed (O.lives w) → Reached₁ alone s w → streams .feed₁ k w allow piece ≡ faults (of-connection creation) u h
+    → let s′ = plusBytes u h piece s in Hears [] s′ × (faultBy (W.oneWay [] (s′ .bytes)) ≡ some (of-connection creation))
+typed-both s w k allow u h piece y t q =
+    let f = O.feed [] allow w piece in
+    let z : heardBy k (f .used) (f .heads) (f .event) (f .after) ≡ faults (of-connection creation) u h = rw (typed-same (typesIn k) allow w piece y) at q in
+    let r = heard-faults k (f .used) (f .heads) (f .event) (f .after) z in
+    fault-of [] s w allow u h piece (of-connection creation) (been t) (r .0) (r .1) (r .2) (r .3) (r .4)
+
+typed-story : (s : Shown streams) (w : O.OneState) (k : Keeps) (allow u h : ℕ) (piece : List ℕ) → Typed (O.lives w) → Reached₁ alone s w → streams .feed₁ k w allow piece ≡ faults (of-connection creation) u h
+    → Heard (record { fate = refused (of-connection creation); shown = plusBytes u h piece s })
+typed-story s w k allow u h piece y t q = let x = typed-both s w k allow u h piece y t q in by-its-bytes (x .0) (x .1)
+
+second-story : (s : Shown streams) (w : O.OneState) (k : Keeps) (allow u h : ℕ) (piece : List ℕ) → Reached₁ alone s w → streams .feed₁ k w allow piece ≡ faults (of-connection creation) u h
+    → Heard (record { fate = refused (of-connection creation); shown = plusBytes u h piece s })
+second-story s (O.in-stream-type g) k allow u h piece t q =
+    let f = O.feed (typesIn k) allow (O.in-stream-type g) piece in
+    let r = heard-faults k (f .used) (f .heads) (f .event) (f .after) q in
+    let z = fault-of (typesIn k) s (O.in-stream-type g) allow u h piece (of-connection creation) (been-untyped (typesIn k) t g refl) (r .0) (r .1) (r .2) (r .3) (r .4) in
+    second (typesIn k) refl (z .0) (z .1)
+second-story s (O.in-control c) k allow u h piece t q = typed-story s (O.in-control c) k allow u h piece tt t q
+second-story s (O.in-qpack c) k allow u h piece t q = typed-story s (O.in-qpack c) k allow u h piece tt t q
+second-story s O.in-skipped k allow u h piece t q = typed-story s O.in-skipped k allow u h piece tt t q
+
+-- a stream refused with 0x0103: by its own bytes, or, its type not yet shown, as they are where the types that are kept came before
+pub creation-by : (s : Shown streams) (w : O.OneState) (k : Keeps) (allow u h : ℕ) (piece : List ℕ) → Reached₁ alone s w → streams .feed₁ k w allow piece ≡ faults (of-connection creation) u h
+    → let b = s .bytes ++ take u piece in (faultBy (W.oneWay [] b) ≡ some (of-connection creation)) ⊎ ((isFor w ≡ none) × (faultBy (W.oneWay (typesIn k) b) ≡ some (of-connection creation)))
+unfolding plusBytes isFor
+creation-by s (O.in-stream-type g) k allow u h piece t q =
+    let f = O.feed (typesIn k) allow (O.in-stream-type g) piece in
+    let r = heard-faults k (f .used) (f .heads) (f .event) (f .after) q in
+    inr (refl, fault-of (typesIn k) s (O.in-stream-type g) allow u h piece (of-connection creation) (been-untyped (typesIn k) t g refl) (r .0) (r .1) (r .2) (r .3) (r .4) .1)
+creation-by s (O.in-control c) k allow u h piece t q = inl (typed-both s (O.in-control c) k allow u h piece tt t q .1)
+creation-by s (O.in-qpack c) k allow u h piece t q = inl (typed-both s (O.in-qpack c) k allow u h piece tt t q .1)
+creation-by s O.in-skipped k allow u h piece t q = inl (typed-both s O.in-skipped k allow u h piece tt t q .1)
+
+-- so closing is answered as the bytes say
+pub closes-reached : {s : Shown streams} {w : O.OneState} → Reached₁ alone s w → faultBy (W.oneWay [] (s .bytes)) ≡ codeFor (closeOf w)
+closes-reached {s} {w} t = closes [] s w (been t)
 
 heard-story : {f : Fate} {s : Shown streams} → Story₁ alone f s → Heard (record { fate = f; shown = s })
 heard-story not-yet = by-its-bytes (heard-reached at-first) tt
 heard-story never = by-its-bytes (heard-reached at-first) tt
 heard-story (cut-off t) = by-its-bytes (heard-reached t) tt
-heard-story (closed {s = s} {w = w} t e) = by-its-bytes (heard-reached t) (closes s w (been t) ∙ unfold codeFor in (rw e refl))
-heard-story (closed-critical {s = s} {w = w} t e) = by-its-bytes (heard-reached t) (closes s w (been t) ∙ unfold codeFor in (rw e refl))
+heard-story (closed {s = s} {w = w} t e) = by-its-bytes (heard-reached t) (closes [] s w (been t) ∙ unfold codeFor in (rw e refl))
+heard-story (closed-critical {s = s} {w = w} t e) = by-its-bytes (heard-reached t) (closes [] s w (been t) ∙ unfold codeFor in (rw e refl))
 heard-story (bad-feed {s = s} {w = w} {allow = allow} {u = u} {h = h} {piece = piece} {k = k} t e) = fault-story s w allow u h piece k (been t) e
-heard-story (second-of-type u h piece t) = second refl
+heard-story (second-of-type {s = s} {w = w} {k = k} {allow = allow} {u = u} {h = h} {piece = piece} t e) = second-story s w k allow u h piece t e
 
 heard-agrees : {id : ℕ} {p : Pair streams} {v : View streams} → Agrees (Says alone) (Story₁ alone) id p v → Heard v
 heard-agrees (open-still a (says t) f) = by-its-bytes (heard-reached t) tt
@@ -447,3 +620,28 @@ heard-agrees (over t n) = heard-story t
 -- DEMAND 2 FOR ONE-WAY STREAMS: at every moment of every trace
 pub one-way-reads : (id : ℕ) → kindOf id ≡ some one-way → (cs : List (Call streams)) → Heard (view id (trace fresh cs))
 one-way-reads id q cs = heard-agrees (follows₁ alone id q cs)
+
+-- ---- an end or a reset
+
+unfoldable pub closeAnswer : Option Code → Answer
+closeAnswer none = is-left freed
+closeAnswer (some k) = is-code k 0 0
+
+close-settled : (id : ℕ) (p : Pair streams) (c : Option ConnCode)
+    → settle id p (mapOut (λ (x : Both streams). record { stream = telling (x .state); kept = x .kept }) (ofClosed c)) .answer ≡ closeAnswer (codeFor c)
+unfolding settle mapOut ofClosed with faulted closeAnswer codeFor
+close-settled id p none = refl
+close-settled id p (some c) = refl
+
+close-agrees : (id : ℕ) (p : Pair streams) (v : View streams) → v .fate ≡ running → Agrees (Says alone) (Story₁ alone) id p v
+    → let a = closeAnswer (faultBy (W.oneWay [] (v .shown .bytes))) in (call (on id end) p .answer ≡ a) × (call (on id reset) p .answer ≡ a)
+unfolding actOn act₁
+close-agrees id p v e (over {f = f} t n) = absurd (not-running f (story₁ alone .shut t) e)
+close-agrees id p v e (open-still {s = s} a (says {w = w} t) f) =
+    let c = close-settled id p (closeOf w) ∙ ap closeAnswer (sym (closes [] s w (been t))) in
+    (ap (λ r. r .answer) (call-on p id (telling w) end a f) ∙ c, ap (λ r. r .answer) (call-on p id (telling w) reset a f) ∙ c)
+
+-- while it runs, an end or a reset is answered as its bytes say: freed without fault, or the fault of closing
+pub closes-exactly : (id : ℕ) → kindOf id ≡ some one-way → (cs : List (Call streams)) → let v = view id (trace fresh cs) in
+    v .fate ≡ running → let a = closeAnswer (faultBy (W.oneWay [] (v .shown .bytes))) in (call (on id end) (run fresh cs) .answer ≡ a) × (call (on id reset) (run fresh cs) .answer ≡ a)
+closes-exactly id q cs e = close-agrees id (run fresh cs) (view id (trace fresh cs)) e (follows₁ alone id q cs)

@@ -65,8 +65,8 @@ TakenSo k payload o = (x : Outcome Control) × (o ≡ O.controlled x) × Judged 
 
 abbrev pub OneTells : OneEvent → OneOutcome → Type 0
 OneTells (O.of-frames F.quiet) o = Unit {0}
-OneTells (O.of-frames (F.section-bytes len last)) o = Unit {0}
-OneTells (O.of-frames (F.content-bytes len)) o = Unit {0}
+OneTells (O.of-frames (F.section-bytes len last)) o = ⊥
+OneTells (O.of-frames (F.content-bytes len)) o = ⊥
 OneTells (O.of-frames (F.taken k payload)) o = TakenSo k payload o
 OneTells (O.qpack-bytes q len) o = Unit {0}
 
@@ -76,8 +76,8 @@ pub record OneFed (f : OneFeeding) : Type 0 where
 
 frames-tell : (e : F.Event) (x : Outcome Control) → EventSuits control ControlFits e x → OneTells (O.of-frames e) (O.controlled x)
 frames-tell F.quiet x h = tt
-frames-tell (F.section-bytes len last) x h = tt
-frames-tell (F.content-bytes len) x h = tt
+frames-tell (F.section-bytes len last) x (t, (p, h)) = h
+frames-tell (F.content-bytes len) x (p, h) = h
 frames-tell (F.taken k payload) x h = (x, refl, h)
 
 frames-after : (x : Outcome Control) → OutcomeSuits control ControlFits x → OneAfter (O.controlled x)

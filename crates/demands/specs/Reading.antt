@@ -6,6 +6,7 @@ use Rattle.rules.specs.Block.{Section, lines}
 use Rattle.rules.specs.Reading as R
 use Rattle.rules.specs.Request.{document, request}
 use Rattle.meaning.specs.Feeds.{headersIn}
+use Rattle.meaning.specs.First.{placeOf}
 use Rattle.traces.specs.Demands.{Verdict, is-legal, bad, waits, Meaning}
 use Rattle.demands.specs.Streams.{codeOf, sectionOf, streams}
 
@@ -21,10 +22,11 @@ verdictBy R.whole = is-legal
 verdictBy (R.fault code place) = bad (codeOf code)
 verdictBy (R.waits place) = waits
 
--- THE MEANING of a request stream: its verdict once it is ended; its content; its section bytes; its frame headers, the refused one among them
+-- THE MEANING of a request stream: its verdict once it is ended, and the place of it; its content; its section bytes; its frame headers, the refused one among them
 abbrev pub reading : Meaning streams
 reading = record {
   verdict = λ bytes blocks. verdictBy (readingOf bytes blocks .verdict);
+  place = λ bytes blocks. placeOf (readingOf bytes blocks .verdict);
   carried = λ bytes blocks. R.contents (readingOf bytes blocks .said);
   blocks = λ bytes blocks. R.sectionBytes (readingOf bytes blocks .said);
   heads = λ bytes blocks. headersIn (readingOf bytes blocks .said);

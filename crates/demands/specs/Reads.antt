@@ -2,12 +2,12 @@
 -- blocks taken (meaning, Feeds), for the streams of document 01. Assumes nothing.
 use mathlib.Core.Path.{_≡_, refl, sym, ap, ap₂, _∙_, subst}
 use Prim.Native.Nat.{ℕ, zero, suc, _+_, _-_, _≤_}
-use native.Mathlib.Nat.{add-zero, add-assoc}
+use native.Mathlib.Nat.{add-zero, zero-add, add-assoc}
 use native.Mathlib.Omega.{arith}
 use mathlib.Core.List.{List, [], _∷_, _++_, map, append-assoc, append-nil, map-append}
 use mathlib.Core.Bool.{Bool, true, false}
-use lib.ListN.{length, take, drop}
-use lib.Seq.{take-nil}
+use lib.ListN.{length, length-append, take, drop}
+use lib.Seq.{take-nil, take-append-seam}
 use Rattle.rules.specs.Block.{Section, lines}
 use Rattle.rules.specs.Reading as R
 use Rattle.rules.specs.Reading.{End, complete, lacking, Grammar, Saying, header, refused, section-byte, content-byte, frame-kept, contents, sectionBytes}
@@ -15,12 +15,13 @@ use Rattle.rules.specs.Message.{Message, opening}
 use Rattle.rules.specs.Request.{document, request}
 use Rattle.meaning.specs.Machine as M
 use Rattle.meaning.specs.Feed as F
-use Rattle.meaning.specs.Feeds.{unheaded, headersIn, Within, feed-runs, Call, feed-call, give-call, takes, Done, calls, verdict-of, CallsRead, calls-read}
+use Rattle.meaning.specs.Feeds.{unheaded, headersIn, Within, feed-runs, Call, feed-call, give-call, takes, Done, calls, Came, calls-come, verdict-of, CallsRead, calls-read}
 use Rattle.meaning.specs.EveryFeed.{feed-silent}
+use Rattle.meaning.specs.First.{Inside, placeOf, last-word, first-fault, end-rule, early-inside}
 use Rattle.traces.specs.Stream.{StreamCode, Code, of-stream, of-connection, Event, part, contentIn, sectionIn, noticesIn, qpackIn, Fed, goes, faults, Given, sound, unsound, is-whole, broken}
 use Rattle.traces.specs.View.{Shown, nothing, plusFeed, plusBytes, plusSection}
 use Rattle.traces.specs.Story.{Reached, at-first, by-feed, by-section}
-use Rattle.traces.specs.Demands.{is-legal, bad, waits, Shows, verdictOf, Reads}
+use Rattle.traces.specs.Demands.{is-legal, bad, waits, Shows, verdictOf, Struck, NoFault, Reads}
 use Rattle.demands.specs.Streams.{streamCode, codeOf, isDue, eventOf, fedBy, isReadable, sectionOf, givenBy, endedBy, streams}
 use Rattle.demands.specs.Codes.{is-of-stream}
 use Rattle.demands.specs.InPlace.{Placed, feed-placed, given-placed, given-of-stream}
@@ -207,9 +208,92 @@ verdict-end n (M.in-length t g p) d = refl
 verdict-end n (M.in-payload u k left p) d = refl
 verdict-end n (M.due t p) d = cc
 
-verdict-dead : (n code : ℕ) → verdictBy (M.finished G n (M.settled G n [] (M.dies code))) ≡ bad (codeOf code)
-unfolding M.settled M.finished verdictBy
-verdict-dead n code = refl
+-- ---- a fault of the bytes, and none
+
+-- whatever sections would follow
+been-runs : (s : Shown streams) (o : M.Outcome Message) → Been s o → (bl : List Section)
+    → M.settled G (length (s .bytes)) bl o ≡ M.run G 0 (M.fresh-run G (sectionsOf (s .sections) ++ bl)) (s .bytes)
+unfolding M.settled M.supplied
+been-runs s o b bl =
+    let first = M.lives (M.between opening) in
+    let c : Came G 0 first (doneOf s (b .says) o) = subst (Came G 0 first) (b .came) (calls-come G 0 first (b .made)) in
+    rw (zero-add (length (s .bytes))) at (c .state bl)
+
+dead-inside : (s : Shown streams) (code : ℕ) → Been s (M.dies code) → (bl : List Section) → Inside G (sectionsOf (s .sections) ++ bl) (s .bytes) (R.fault code (length (s .bytes)))
+unfolding Inside M.settled
+dead-inside s code b bl = sym (been-runs s (M.dies code) b bl)
+
+dead-verdict : (s : Shown streams) (code : ℕ) → Been s (M.dies code) → (others : List (List ℕ)) (more : List ℕ)
+    → readingOf (s .bytes ++ more) (s .sections ++ others) .verdict ≡ R.fault code (length (s .bytes))
+unfolding sectionsOf
+dead-verdict s code b others more =
+    let bl = sectionsOf others in
+    rw (map-append (λ b. sectionOf (lines b)) (s .sections) others) (last-word G (sectionsOf (s .sections) ++ bl) (s .bytes) more (R.fault code (length (s .bytes))) (dead-inside s code b bl) .0)
+
+dead-struck : (s : Shown streams) (code : ℕ) → Been s (M.dies code) → Struck reading (codeOf code) (s .bytes) (s .sections)
+unfolding verdictBy placeOf
+dead-struck s code b = λ others more. (let e = dead-verdict s code b others more in (ap verdictBy e, ap placeOf e))
+
+still-reads : (n : ℕ) (r : M.State Message) → isDue r ≡ false → M.settled G n [] (M.lives r) ≡ M.reads [] r
+unfolding isDue M.settled M.supplied
+still-reads n (M.in-type g p) d = refl
+still-reads n (M.in-length t g p) d = refl
+still-reads n (M.in-payload u k left p) d = refl
+still-reads n (M.due t p) d = cc
+
+been-reads : (s : Shown streams) (r : M.State Message) → Been s (M.lives r) → isDue r ≡ false → M.run G 0 (M.fresh-run G (sectionsOf (s .sections))) (s .bytes) ≡ M.reads [] r
+been-reads s r b d = sym (rw (append-nil (sectionsOf (s .sections))) at (been-runs s (M.lives r) b [])) ∙ still-reads (length (s .bytes)) r d
+
+-- a fault of the end is at the end
+ended-place : (n : ℕ) (k : Code) (e : End) → verdictBy (R.ended e n) ≡ bad k → placeOf (R.ended e n) ≡ n
+unfolding R.ended verdictBy placeOf
+ended-place n k complete q = let z : _≡_ {A = ℕ} 0 1 = cc in absurd (omega arith)
+ended-place n k (lacking code) q = refl
+
+finish-place : (n : ℕ) (k : Code) (r : M.State Message) → verdictBy (M.finish G n r) ≡ bad k → placeOf (M.finish G n r) ≡ n
+unfolding M.finish
+finish-place n k (M.in-type M.fresh p) q = ended-place n k (G .end p) q
+finish-place n k (M.in-type (M.need j v) p) q = unfold placeOf in refl
+finish-place n k (M.in-length t g p) q = unfold placeOf in refl
+finish-place n k (M.in-payload u j left p) q = unfold placeOf in refl
+finish-place n k (M.due t p) q = unfold placeOf in refl
+
+end-at : (s : Shown streams) (r : M.State Message) (k : Code) → Been s (M.lives r) → isDue r ≡ false → reading .verdict (s .bytes) (s .sections) ≡ bad k → reading .place (s .bytes) (s .sections) ≡ length (s .bytes)
+end-at s r k b d q =
+    let e = end-rule G (sectionsOf (s .sections)) (s .bytes) (been-reads s r b d) in
+    ap placeOf e ∙ finish-place (length (s .bytes)) k r (sym (ap verdictBy e) ∙ q)
+
+fault-of : (k : Code) (v : R.Verdict) → verdictBy v ≡ bad k → (code : ℕ) × (v ≡ R.fault code (placeOf v))
+unfolding verdictBy placeOf
+fault-of k R.whole q = let z : _≡_ {A = ℕ} 0 1 = cc in absurd (omega arith)
+fault-of k (R.fault code place) q = (code, refl)
+fault-of k (R.waits place) q = let z : _≡_ {A = ℕ} 0 1 = cc in absurd (omega arith)
+
+-- one byte more would move the place of a fault of the end
+none-reads : (s : Shown streams) (r : M.State Message) → Been s (M.lives r) → isDue r ≡ false → NoFault reading (s .bytes) (s .sections)
+unfolding Inside
+none-reads s r b d = λ k p f. (
+    let bl = sectionsOf (s .sections) in
+    let x = s .bytes ++ (0 ∷ []) in
+    let g = rw (append-nil (s .bytes)) at (f []) in
+    let here : p ≡ length (s .bytes) = sym (g .1) ∙ end-at s r k b d (g .0) in
+    let v = fault-of k (readingOf x (s .sections) .verdict) (f (0 ∷ []) .0) in
+    let w : readingOf x (s .sections) .verdict ≡ R.fault (v .0) (length (s .bytes)) = v .1 ∙ ap (R.fault (v .0)) (f (0 ∷ []) .1 ∙ here) in
+    let l = length-append (s .bytes) (0 ∷ []) in
+    let i = early-inside G bl x (v .0) (length (s .bytes)) w (omega arith) in
+    let t = first-fault G bl x (v .0) (length (s .bytes)) i .there in
+    let u : M.run G 0 (M.fresh-run G bl) (s .bytes) ≡ M.stuck (R.fault (v .0) (length (s .bytes))) = rw (take-append-seam (s .bytes) (0 ∷ [])) at t in
+    let y = been-reads s r b d in
+    let z : _≡_ {A = ℕ} 0 1 = cc in
+    omega arith)
+
+none-struck : (s : Shown streams) (r : M.State Message) → Been s (M.lives r) → (d : Bool) → isDue r ≡ d → NoFault reading (s .bytes) (s .sections)
+none-struck s r b true d = λ k p f. (
+    let g = rw (append-nil (s .bytes)) at (f []) in
+    let w : waits ≡ bad k = sym (verdict-is s (M.lives r) b ∙ verdict-due (length (s .bytes)) r d) ∙ g .0 in
+    let z : _≡_ {A = ℕ} 0 1 = cc in
+    omega arith)
+none-struck s r b false d = none-reads s r b d
 
 -- ---- the answers of the machine, read back
 
@@ -270,29 +354,32 @@ been-dead s r allow u h code piece b e x y =
 
 -- DEMAND 2 OF ONE REQUEST STREAM BY ITSELF
 pub reads : Reads reading
+unfolding plusBytes plusSection
 reads = record {
   so-far = λ {s} {r} t. shows-of s (M.lives r) (been t);
   while-due = λ {s} {r} t d. verdict-is s (M.lives r) (been t) ∙ verdict-due (length (s .bytes)) r d;
   at-end = λ {s} {r} t d. verdict-is s (M.lives r) (been t) ∙ verdict-end (length (s .bytes)) r d;
+  unhurt = λ {s} {r} t. none-struck s r (been t) (isDue r) refl;
+  end-place = λ {s} {r} k t d q. end-at s r k (been t) d q;
   in-feed = λ {s} {r} allow u h piece k t d q. in-feed s r allow u h piece k (been t) q;
   at-section = λ {s} {r} b k t d y q. at-section s r b k (been t) (placed t) d q;
 }
   where
     in-feed : (s : Shown streams) (r : M.State Message) (allow u h : ℕ) (piece : List ℕ) (k : Code) → Been s (M.lives r) → streams .feed r allow piece ≡ faults k u h
-        → Shows reading (plusBytes u h piece s) × (reading .verdict (plusBytes u h piece s .bytes) (s .sections) ≡ bad k)
+        → Shows reading (plusBytes u h piece s) × Struck reading k (s .bytes ++ take u piece) (s .sections)
     in-feed s r allow u h piece k b q =
         let f = F.feed G allow r piece in
         let g = fed-faults (f .used) (f .heads) (f .event) (f .after) q in
         let v = been-dead s r allow u h (g .0) piece b (g .1) (g .2) (g .3) in
         let s′ = plusBytes u h piece s in
-        (shows-of s′ (M.dies (g .0)) v, unfold plusBytes in (verdict-is s′ (M.dies (g .0)) v ∙ verdict-dead (length (s′ .bytes)) (g .0) ∙ ap bad (g .4)))
+        (shows-of s′ (M.dies (g .0)) v, rw (← g .4) (dead-struck s′ (g .0) v))
 
     at-section : (s : Shown streams) (r : M.State Message) (b : List ℕ) (k : StreamCode) → Been s (M.lives r) → Placed r → isDue r ≡ true → streams .give r b ≡ unsound k
-        → Shows reading (plusSection b s) × (reading .verdict (s .bytes) (plusSection b s .sections) ≡ bad (of-stream k))
+        → Shows reading (plusSection b s) × Struck reading (of-stream k) (s .bytes) (s .sections ++ (b ∷ []))
     at-section s r b k w p d q =
         let x = sectionOf (lines b) in
         let g = given-unsound (M.given G x r) q in
         let v : Been (plusSection b s) (M.dies (g .0)) = rw (g .1) at (been-given s r b d w) in
         let s′ = plusSection b s in
         let c = is-of-stream (g .0) (given-of-stream x r p (g .0) (g .1)) in
-        (shows-of s′ (M.dies (g .0)) v, unfold plusSection in (verdict-is s′ (M.dies (g .0)) v ∙ verdict-dead (length (s′ .bytes)) (g .0) ∙ ap bad (c ∙ ap of-stream (g .2))))
+        (shows-of s′ (M.dies (g .0)) v, subst (λ c. Struck reading c (s .bytes) (s .sections ++ (b ∷ []))) (c ∙ ap of-stream (g .2)) (dead-struck s′ (g .0) v))

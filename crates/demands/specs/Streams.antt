@@ -17,6 +17,7 @@ use Rattle.traces.specs.Stream.{StreamCode, rejected, cancelled, incomplete, ma
 
 -- ---- codes
 
+-- (the last name of each is any other number's, and none comes: Codes, feed-listed, finish-listed, one-way-listed; InPlace, given-of-stream)
 unfoldable pub pick : {A : Type 0} → Bool → (yes no : A) → A
 pick true y n = y
 pick false y n = n
@@ -68,7 +69,7 @@ unfoldable pub givenBy : M.Outcome Message → Given (M.State Message)
 givenBy (M.lives s) = sound s
 givenBy (M.dies code) = unsound (streamCode code)
 
--- (a wait is answered before: a section is due)
+-- (a wait is answered before: a section is due: Refusals, waits-while-due)
 unfoldable pub endedBy : Verdict → Ended
 endedBy whole = is-whole
 endedBy (fault code place) = broken (codeOf code)

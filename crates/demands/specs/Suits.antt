@@ -50,8 +50,8 @@ module _ (G : Grammar) (Fits : Use → G .P → Type 0) where
 
   abbrev pub EventSuits : Event → Outcome (G .P) → Type 0
   EventSuits quiet o = Unit {0}
-  EventSuits (section-bytes len last) o = Unit {0}
-  EventSuits (content-bytes len) o = Unit {0}
+  EventSuits (section-bytes len last) o = (t : Part) × ((p : G .P) × Fits (section t) p)
+  EventSuits (content-bytes len) o = (p : G .P) × Fits content p
   EventSuits (taken k payload) o = Judged k payload o
 
   pub record FeedSuits (f : Feeding (G .P)) : Type 0 where
@@ -77,7 +77,7 @@ module _ (G : Grammar) (Fits : Use → G .P → Type 0) where
       unfolding onward left-event over-event with-left over
       left-suits content k zero p w = on (between p) tt
       left-suits skipped k zero p w = on (between p) tt
-      left-suits (section t) k zero p w = halts (section-bytes 0 true) (lives (due t p)) tt w
+      left-suits (section t) k zero p w = halts (section-bytes 0 true) (lives (due t p)) (t, (p, w)) w
       left-suits (kept x) k zero p w = judged-suits x p k (G .judged x p k) refl w f
       left-suits u k (suc l) p w = on (in-payload u k l p) w
 
@@ -93,13 +93,13 @@ module _ (G : Grammar) (Fits : Use → G .P → Type 0) where
 
     content-suits : (j l : ℕ) (p : G .P) → Fits content p → FeedSuits (taking G content j l p)
     unfolding taking named with-left over
-    content-suits j zero p w = record { event = tt; after = tt }
-    content-suits j (suc l) p w = record { event = tt; after = w }
+    content-suits j zero p w = record { event = (p, w); after = tt }
+    content-suits j (suc l) p w = record { event = (p, w); after = w }
 
     section-suits : (t : Part) (j l : ℕ) (p : G .P) → Fits (section t) p → FeedSuits (taking G (section t) j l p)
     unfolding taking named with-left over
-    section-suits t j zero p w = record { event = tt; after = w }
-    section-suits t j (suc l) p w = record { event = tt; after = w }
+    section-suits t j zero p w = record { event = (t, (p, w)); after = w }
+    section-suits t j (suc l) p w = record { event = (t, (p, w)); after = w }
 
     typed-suits : (p : G .P) (x : Fed) → Suits (typed p x)
     unfolding typed
@@ -191,11 +191,11 @@ given-suits trailers (trailed stated sum) f s = absurd f
 
 -- ---- control streams
 
--- SETTINGS is kept as the first frame, the others behind it
+-- SETTINGS is kept as the first frame, the others behind it; nothing is handed over
 abbrev pub ControlFits : Use → Control → Type 0
-ControlFits content c = Unit {0}
+ControlFits content c = ⊥
 ControlFits skipped c = Unit {0}
-ControlFits (section t) c = Unit {0}
+ControlFits (section t) c = ⊥
 ControlFits (kept settings) c = c ≡ unset
 ControlFits (kept goaway) unset = ⊥
 ControlFits (kept goaway) (set s g m) = Unit {0}

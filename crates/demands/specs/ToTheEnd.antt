@@ -7,21 +7,25 @@ use mathlib.Core.List.{List, [], _∷_}
 use mathlib.Core.Bool.{Bool, true, false, true≢false}
 use mathlib.Core.Option.{Option, none, some}
 use lib.ListN.{length, drop}
-use Rattle.rules.specs.Block.{Section, lines}
+use Rattle.rules.specs.Block.{lines, linesFrom}
 use Rattle.rules.specs.Reading.{Next, stop, go}
 use Rattle.rules.specs.Message.{Message}
 use Rattle.rules.specs.Request.{document, request}
 use Rattle.meaning.specs.Machine as M
-use Rattle.traces.specs.Stream.{House, none-due, unreadable, section-due, ConnCode, Code, of-stream, of-connection, Event, Fed, goes, faults, Given, sound, unsound, Own, feed, section, Gave, done, fed, Left, Out, refuse, step, leave, fault, ofFed, ofGiven, mapOut, Machine, act, either}
-use Rattle.traces.specs.Board.{request as a-request, kindOf, asking, Pair, Call, start, open′, on, goaway, Answer, gave, left, house, code, keeping, find, same, with, faulted, settle, fresh, call, run, trace}
-use Rattle.traces.specs.View.{View, running, view}
+use Rattle.meaning.specs.OneWayFeed as O
+use Rattle.meaning.specs.OneWays.{ReadsOnOne, one-moves}
+use Rattle.traces.specs.Stream.{House, none-due, unreadable, section-due, ConnCode, Code, of-stream, of-connection, Event, Fed, goes, faults, Given, sound, unsound, Own, feed, section, Gave, done, fed, Left, Out, refuse, step, leave, fault, ofFed, ofGiven, mapOut, Machine, act, act₁, either}
+use Rattle.traces.specs.Board.{request as a-request, one-way, kindOf, Stream, asking, telling, Pair, Held, Call, start, open′, on, goaway, Answer, gave, left, house, code, keeping, find, same, with, faulted, settle, actOn, fresh, call, run, trace}
+use Rattle.traces.specs.View.{Shown, View, running, plusFeed, view}
 use Rattle.traces.specs.Row.{find-put-same}
 use Rattle.traces.specs.Went.{Alive}
-use Rattle.traces.specs.Alone.{Aside, Later, call-on-asking, others-untouched, dead-stays}
+use Rattle.traces.specs.Alone.{Aside, Later, call-on, others-untouched, dead-stays}
 use Rattle.traces.specs.Story.{Asks, asks, Story, story, shut}
 use Rattle.traces.specs.Follow.{Agrees, open-still, over, agrees, not-running}
-use Rattle.demands.specs.Streams.{isDue, sectionOf, givenBy, streams}
-use Rattle.demands.specs.Moves.{feed-gets-on}
+use Rattle.traces.specs.Oneways.{Both, Like, goes-alike, faults-alike, second, Reached₁, by-feed, Story₁, Says, says, story₁, follows₁}
+use Rattle.demands.specs.Streams.{isDue, isReadable, sectionOf, givenBy, Keeps, typesIn, heardBy, streams}
+use Rattle.demands.specs.Moves.{feed-gets-on, aloneOf, like, alone}
+use Rattle.demands.specs.OneWayReads.{reads-on}
 
 -- ---- any machine whose feeds get on, and that waits no more once a section is accepted
 
@@ -164,6 +168,24 @@ EndsSo (met-code k) = Unit {0}
 EndsSo (answered a) = ⊥
 EndsSo feeds-over = ⊥
 
+-- what is asked of one stream by itself: behind a block offered it is ready, and a feed then gets on
+module _ (M : Machine) where
+  abbrev pub BlockOut : (Ready : Stream M → Type 0) → Stream M → Out (Held M) → Type 0
+  BlockOut Ready x (refuse h) = Ready x
+  BlockOut Ready x (step g y) = Ready (y .stream)
+  BlockOut Ready x (leave l) = ⊥
+  BlockOut Ready x (fault k u h) = Unit {0}
+
+  abbrev pub FeedOut : (Ok : Stream M → Type 0) → Out (Held M) → Type 0
+  FeedOut Ok (refuse h) = ⊥
+  FeedOut Ok (step g y) = (1 ≤ usedBy g) × Ok (y .stream)
+  FeedOut Ok (leave l) = ⊥
+  FeedOut Ok (fault k u h) = Unit {0}
+
+  pub record Laws (Ok Ready : Stream M → Type 0) : Type 0 where
+    pub on-block : (k : M .Kept) (x : Stream M) (block : M .Block) → M .readable block ≡ true → Ok x → BlockOut Ready x (actOn k x (section block))
+    pub on-feed : (k : M .Kept) (x : Stream M) (allow b : ℕ) (bs : List ℕ) → 1 ≤ allow → Ready x → FeedOut Ok (actOn k x (feed allow (b ∷ bs)))
+
 module _ (M : Machine) (id : ℕ) where
   abbrev pub AllAside : List (Call M) → Type 0
   AllAside [] = Unit {0}
@@ -182,108 +204,138 @@ module _ (M : Machine) (id : ℕ) where
       let y = call (on id (feed (h .host .allows n) rest)) (x .after) in
       any-left rest consumed-all (behind-block (x .answer) (behind-feed (y .answer) (λ g. serve h n (y .after) (drop (usedBy g) rest))))
 
-  -- the stream runs, or the connection is dead
-  pub data Stands (p : Pair M) : Type 0 where
-    runs : (r : M .Request) → Alive p → find id (p .row) ≡ some (asking r) → Stands p
-    is-dead : (k : ConnCode) → p .conn .dead ≡ some k → Stands p
+  module _ (Ok Ready : Stream M → Type 0) where
+    -- the stream runs, or the connection is dead
+    pub data Stands (p : Pair M) : Type 0 where
+      runs : (x : Stream M) → Ok x → Alive p → find id (p .row) ≡ some x → Stands p
+      is-dead : (k : ConnCode) → p .conn .dead ≡ some k → Stands p
 
-  later : (c : Call M) → Aside id c → Later c
-  later start n = absurd n
-  later (open′ i) n = tt
-  later (on i o) n = tt
-  later (goaway i room) n = tt
+    later : (c : Call M) → Aside id c → Later c
+    later start n = absurd n
+    later (open′ i) n = tt
+    later (on i o) n = tt
+    later (goaway i room) n = tt
 
-  stands-by : (p : Pair M) (r : M .Request) (d : Option ConnCode) → p .conn .dead ≡ d → find id (p .row) ≡ some (asking r) → Stands p
-  stands-by p r none e f = runs r e f
-  stands-by p r (some k) e f = is-dead k e
+    stands-by : (p : Pair M) (x : Stream M) → Ok x → (d : Option ConnCode) → p .conn .dead ≡ d → find id (p .row) ≡ some x → Stands p
+    stands-by p x w none e f = runs x w e f
+    stands-by p x w (some k) e f = is-dead k e
 
-  stands-call : (c : Call M) (p : Pair M) → Aside id c → Stands p → Stands (call c p .after)
-  stands-call c p n (runs r a f) = stands-by (call c p .after) r (call c p .after .conn .dead) refl (others-untouched p c id n ∙ f)
-  stands-call c p n (is-dead k e) = rw (dead-stays c p k (later c n) e) (is-dead k e)
+    stands-call : (c : Call M) (p : Pair M) → Aside id c → Stands p → Stands (call c p .after)
+    stands-call c p n (runs x w a f) = stands-by (call c p .after) x w (call c p .after .conn .dead) refl (others-untouched p c id n ∙ f)
+    stands-call c p n (is-dead k e) = rw (dead-stays c p k (later c n) e) (is-dead k e)
 
-  stands-run : (cs : List (Call M)) (p : Pair M) → AllAside cs → Stands p → Stands (run p cs)
-  unfolding run
-  stands-run [] p n s = s
-  stands-run (c ∷ cs) p n s = stands-run cs (call c p .after) (n .1) (stands-call c p (n .0) s)
+    stands-run : (cs : List (Call M)) (p : Pair M) → AllAside cs → Stands p → Stands (run p cs)
+    unfolding run
+    stands-run [] p n s = s
+    stands-run (c ∷ cs) p n s = stands-run cs (call c p .after) (n .1) (stands-call c p (n .0) s)
 
-  -- it waits for no section
-  abbrev SetUp : Pair M → Type 0
-  SetUp p = (r : M .Request) × (M .due r ≡ false) × Alive p × (find id (p .row) ≡ some (asking r))
+    -- it waits for no section
+    abbrev SetUp : Pair M → Type 0
+    SetUp p = (x : Stream M) × Ready x × Alive p × (find id (p .row) ≡ some x)
 
-  abbrev AfterBlock : Answer → Pair M → Type 0
-  AfterBlock (gave g) p = SetUp p
-  AfterBlock (left l) p = ⊥
-  AfterBlock (house h) p = SetUp p
-  AfterBlock (code k u h) p = Unit {0}
+    abbrev AfterBlock : Answer → Pair M → Type 0
+    AfterBlock (gave g) p = SetUp p
+    AfterBlock (left l) p = ⊥
+    AfterBlock (house h) p = SetUp p
+    AfterBlock (code k u h) p = Unit {0}
 
-  abbrev AfterFeed : Answer → Pair M → Type 0
-  AfterFeed (gave g) p = (1 ≤ usedBy g) × Stands p
-  AfterFeed (left l) p = ⊥
-  AfterFeed (house h) p = ⊥
-  AfterFeed (code k u h) p = Unit {0}
+    abbrev AfterFeed : Answer → Pair M → Type 0
+    AfterFeed (gave g) p = (1 ≤ usedBy g) × Stands p
+    AfterFeed (left l) p = ⊥
+    AfterFeed (house h) p = ⊥
+    AfterFeed (code k u h) p = Unit {0}
 
-  ends-block : (a : Answer) (p : Pair M) (x : Served) → AfterBlock a p → (SetUp p → EndsSo x) → EndsSo (behind-block a x)
-  unfolding behind-block
-  ends-block (gave g) p x w k = k w
-  ends-block (left l) p x w k = absurd w
-  ends-block (house h) p x w k = k w
-  ends-block (code c u h) p x w k = tt
+    ends-block : (a : Answer) (p : Pair M) (x : Served) → AfterBlock a p → (SetUp p → EndsSo x) → EndsSo (behind-block a x)
+    unfolding behind-block
+    ends-block (gave g) p x w k = k w
+    ends-block (left l) p x w k = absurd w
+    ends-block (house h) p x w k = k w
+    ends-block (code c u h) p x w k = tt
 
-  ends-call : (a : Answer) (p : Pair M) (f : Gave → Served) → AfterFeed a p → ((g : Gave) → 1 ≤ usedBy g → Stands p → EndsSo (f g)) → EndsSo (behind-feed a f)
-  unfolding behind-feed
-  ends-call (gave g) p f w k = k g (w .0) (w .1)
-  ends-call (left l) p f w k = absurd w
-  ends-call (house h) p f w k = absurd w
-  ends-call (code c u h) p f w k = tt
+    ends-call : (a : Answer) (p : Pair M) (f : Gave → Served) → AfterFeed a p → ((g : Gave) → 1 ≤ usedBy g → Stands p → EndsSo (f g)) → EndsSo (behind-feed a f)
+    unfolding behind-feed
+    ends-call (gave g) p f w k = k g (w .0) (w .1)
+    ends-call (left l) p f w k = absurd w
+    ends-call (house h) p f w k = absurd w
+    ends-call (code c u h) p f w k = tt
 
-  module _ (gets-on : (r r′ : M .Request) (allow u h b : ℕ) (bs : List ℕ) (e : Event) → M .due r ≡ false → 1 ≤ allow → M .feed r allow (b ∷ bs) ≡ goes u h e r′ → 1 ≤ u)
-      (goes-on : (r r′ : M .Request) (block : M .Block) → M .give r block ≡ sound r′ → M .due r ≡ true → M .due r′ ≡ false) where
-    block-done : (p : Pair M) (r : M .Request) (block : M .Block) → Alive p → find id (p .row) ≡ some (asking r) → (d : Bool) → M .due r ≡ d → (c : Bool) → c ≡ true
-        → (x : Given (M .Request)) → M .give r block ≡ x
-        → let y = settle id p (mapOut (λ x. record { stream = asking x; kept = p .conn .kept }) (either d (either c (ofGiven x) (refuse unreadable)) (refuse none-due))) in AfterBlock (y .answer) (y .after)
-    unfolding settle mapOut either ofGiven same with faulted keeping
-    block-done p r block a f true e true t (sound r′) q = (r′, goes-on r r′ block q e, a, find-put-same id (asking r′) (asking r) (p .row) f)
-    block-done p r block a f true e true t (unsound k) q = tt
-    block-done p r block a f true e false t x q = absurd (true≢false (sym t))
-    block-done p r block a f false e c t x q = (r, e, a, f)
+    block-settled : (p : Pair M) (x : Stream M) → Alive p → find id (p .row) ≡ some x → (y : Out (Held M)) → BlockOut M Ready x y → AfterBlock (settle id p y .answer) (settle id p y .after)
+    unfolding settle same with faulted keeping
+    block-settled p x a f (refuse h) w = (x, w, a, f)
+    block-settled p x a f (step g y) w = (y .stream, w, a, find-put-same id (y .stream) x (p .row) f)
+    block-settled p x a f (leave l) w = absurd w
+    block-settled p x a f (fault (of-stream k) u h) w = tt
+    block-settled p x a f (fault (of-connection k) u h) w = tt
 
-    block-called : (p : Pair M) (block : M .Block) → M .readable block ≡ true → Stands p → let y = call (on id (section block)) p in AfterBlock (y .answer) (y .after)
-    unfolding act
-    block-called p block t (runs r a f) = rw (call-on-asking p id r (section block) a f) (block-done p r block a f (M .due r) refl (M .readable block) t (M .give r block) refl)
-    block-called p block t (is-dead k e) = rw (dead-stays (on id (section block)) p k tt e) tt
+    feed-settled : (p : Pair M) (x : Stream M) → Alive p → find id (p .row) ≡ some x → (y : Out (Held M)) → FeedOut M Ok y → AfterFeed (settle id p y .answer) (settle id p y .after)
+    unfolding settle same with faulted keeping
+    feed-settled p x a f (refuse h) w = absurd w
+    feed-settled p x a f (step g y) w = (w .0, runs (y .stream) (w .1) a (find-put-same id (y .stream) x (p .row) f))
+    feed-settled p x a f (leave l) w = absurd w
+    feed-settled p x a f (fault (of-stream k) u h) w = tt
+    feed-settled p x a f (fault (of-connection k) u h) w = tt
 
-    feed-done : (p : Pair M) (r : M .Request) (allow b : ℕ) (bs : List ℕ) → 1 ≤ allow → Alive p → find id (p .row) ≡ some (asking r) → (d : Bool) → M .due r ≡ d → d ≡ false
-        → (x : Fed (M .Request)) → M .feed r allow (b ∷ bs) ≡ x
-        → let y = settle id p (mapOut (λ x. record { stream = asking x; kept = p .conn .kept }) (either d (refuse section-due) (ofFed x))) in AfterFeed (y .answer) (y .after)
-    unfolding settle mapOut either ofFed same with faulted keeping usedBy
-    feed-done p r allow b bs l a f true e t x q = absurd (true≢false t)
-    feed-done p r allow b bs l a f false e t (goes u h ev r′) q = (gets-on r r′ allow u h b bs ev e l q, runs r′ a (find-put-same id (asking r′) (asking r) (p .row) f))
-    feed-done p r allow b bs l a f false e t (faults (of-stream k) u h) q = tt
-    feed-done p r allow b bs l a f false e t (faults (of-connection k) u h) q = tt
+    module _ (L : Laws M Ok Ready) where
+      block-called : (p : Pair M) (block : M .Block) → M .readable block ≡ true → Stands p → let y = call (on id (section block)) p in AfterBlock (y .answer) (y .after)
+      block-called p block t (runs x w a f) = rw (call-on p id x (section block) a f) (block-settled p x a f (actOn (p .conn .kept) x (section block)) (L .on-block (p .conn .kept) x block t w))
+      block-called p block t (is-dead k e) = rw (dead-stays (on id (section block)) p k tt e) tt
 
-    feed-called : (p : Pair M) (allow b : ℕ) (bs : List ℕ) → 1 ≤ allow → SetUp p → let y = call (on id (feed allow (b ∷ bs))) p in AfterFeed (y .answer) (y .after)
-    unfolding act
-    feed-called p allow b bs l (r, d, a, f) = rw (call-on-asking p id r (feed allow (b ∷ bs)) a f) (feed-done p r allow b bs l a f (M .due r) refl d (M .feed r allow (b ∷ bs)) refl)
+      feed-called : (p : Pair M) (allow b : ℕ) (bs : List ℕ) → 1 ≤ allow → SetUp p → let y = call (on id (feed allow (b ∷ bs))) p in AfterFeed (y .answer) (y .after)
+      feed-called p allow b bs l (x, w, a, f) =
+          rw (call-on p id x (feed allow (b ∷ bs)) a f) (feed-settled p x a f (actOn (p .conn .kept) x (feed allow (b ∷ bs))) (L .on-feed (p .conn .kept) x allow b bs l w))
 
-    pub serves : (h : Shared) (n : ℕ) (p : Pair M) (rest : List ℕ) → Stands p → length rest ≤ n → EndsSo (serve h n p rest)
-    unfolding serve any-left
-    serves h zero p [] s l = tt
-    serves h (suc n) p [] s l = tt
-    serves h zero p (b ∷ bs) s l = absurd (omega arith)
-    serves h (suc n) p (b ∷ bs) s l =
-        let q = run p (h .others n) in
-        let x = call (on id (section (h .host .block n))) q in
-        let y = call (on id (feed (h .host .allows n) (b ∷ bs))) (x .after) in
-        ends-block (x .answer) (x .after) _ (block-called q (h .host .block n) (h .host .is-readable n) (stands-run (h .others n) p (h .aside n) s)) (λ u.
-        ends-call (y .answer) (y .after) _ (feed-called (x .after) (h .host .allows n) b bs (h .host .one-or-more n) u) (λ g m st.
-        let z = drop-less (usedBy g) b bs m in serves h n (y .after) (drop (usedBy g) (b ∷ bs)) st (omega arith)))
+      pub serves : (h : Shared) (n : ℕ) (p : Pair M) (rest : List ℕ) → Stands p → length rest ≤ n → EndsSo (serve h n p rest)
+      unfolding serve any-left
+      serves h zero p [] s l = tt
+      serves h (suc n) p [] s l = tt
+      serves h zero p (b ∷ bs) s l = absurd (omega arith)
+      serves h (suc n) p (b ∷ bs) s l =
+          let q = run p (h .others n) in
+          let x = call (on id (section (h .host .block n))) q in
+          let y = call (on id (feed (h .host .allows n) (b ∷ bs))) (x .after) in
+          ends-block (x .answer) (x .after) _ (block-called q (h .host .block n) (h .host .is-readable n) (stands-run (h .others n) p (h .aside n) s)) (λ u.
+          ends-call (y .answer) (y .after) _ (feed-called (x .after) (h .host .allows n) b bs (h .host .one-or-more n) u) (λ g m st.
+          let z = drop-less (usedBy g) b bs m in serves h n (y .after) (drop (usedBy g) (b ∷ bs)) st (omega arith)))
 
-    stands-agrees : (p : Pair M) (v : View M) → v .fate ≡ running → Agrees Asks Story id p v → Stands p
-    stands-agrees p v e (over {f = f} t n) = absurd (not-running f (shut t) e)
-    stands-agrees p v e (open-still a (asks {r = r} t) f) = runs r a f
+-- ---- a request stream on a connection
 
-    pub serves-running : kindOf id ≡ some a-request → (cs : List (Call M)) → view id (trace fresh cs) .fate ≡ running → (h : Shared) (rest : List ℕ) → EndsSo (serve h (length rest) (run fresh cs) rest)
-    serves-running q cs e h rest = serves h (length rest) (run fresh cs) rest (stands-agrees (run fresh cs) (view id (trace fresh cs)) e (agrees story id cs q)) (omega arith)
+pub data Asking (M : Machine) : Stream M → Type 0 where
+  an-asking : (r : M .Request) → Asking M (asking r)
+
+pub data NotDue (M : Machine) : Stream M → Type 0 where
+  not-due : (r : M .Request) → M .due r ≡ false → NotDue M (asking r)
+
+module _ (M : Machine) (gets-on : (r r′ : M .Request) (allow u h b : ℕ) (bs : List ℕ) (e : Event) → M .due r ≡ false → 1 ≤ allow → M .feed r allow (b ∷ bs) ≡ goes u h e r′ → 1 ≤ u)
+    (goes-on : (r r′ : M .Request) (block : M .Block) → M .give r block ≡ sound r′ → M .due r ≡ true → M .due r′ ≡ false) where
+  block-out : (k : M .Kept) (r : M .Request) (block : M .Block) (d : Bool) → M .due r ≡ d → (c : Bool) → c ≡ true → (x : Given (M .Request)) → M .give r block ≡ x
+      → BlockOut M (NotDue M) (asking r) (mapOut (λ x. record { stream = asking x; kept = k }) (either d (either c (ofGiven x) (refuse unreadable)) (refuse none-due)))
+  unfolding mapOut either ofGiven
+  block-out k r block true e true t (sound r′) q = not-due r′ (goes-on r r′ block q e)
+  block-out k r block true e true t (unsound c) q = tt
+  block-out k r block true e false t x q = absurd (true≢false (sym t))
+  block-out k r block false e c t x q = not-due r e
+
+  feed-out : (k : M .Kept) (r : M .Request) (allow b : ℕ) (bs : List ℕ) → 1 ≤ allow → (d : Bool) → M .due r ≡ d → d ≡ false → (x : Fed (M .Request)) → M .feed r allow (b ∷ bs) ≡ x
+      → FeedOut M (Asking M) (mapOut (λ x. record { stream = asking x; kept = k }) (either d (refuse section-due) (ofFed x)))
+  unfolding mapOut either ofFed usedBy
+  feed-out k r allow b bs l true e t x q = absurd (true≢false t)
+  feed-out k r allow b bs l false e t (goes u h ev r′) q = (gets-on r r′ allow u h b bs ev e l q, an-asking r′)
+  feed-out k r allow b bs l false e t (faults c u h) q = tt
+
+  block-acted : (k : M .Kept) (x : Stream M) (block : M .Block) → M .readable block ≡ true → Asking M x → BlockOut M (NotDue M) x (actOn k x (section block))
+  unfolding actOn act
+  block-acted k x block t (an-asking r) = block-out k r block (M .due r) refl (M .readable block) t (M .give r block) refl
+
+  feed-acted : (k : M .Kept) (x : Stream M) (allow b : ℕ) (bs : List ℕ) → 1 ≤ allow → NotDue M x → FeedOut M (Asking M) (actOn k x (feed allow (b ∷ bs)))
+  unfolding actOn act
+  feed-acted k x allow b bs l (not-due r d) = feed-out k r allow b bs l (M .due r) refl d (M .feed r allow (b ∷ bs)) refl
+
+  pub asks-on : Laws M (Asking M) (NotDue M)
+  asks-on = record { on-block = block-acted; on-feed = feed-acted }
+
+stands-asking : {M : Machine} (id : ℕ) (p : Pair M) (v : View M) → v .fate ≡ running → Agrees Asks Story id p v → Stands M id (Asking M) (NotDue M) p
+stands-asking id p v e (over {f = f} t n) = absurd (not-running f (shut t) e)
+stands-asking id p v e (open-still a (asks {r = r} t) f) = runs (asking r) (an-asking r) a f
 
 -- ---- the streams of document 01
 
@@ -300,6 +352,10 @@ waits-no-more (M.in-length t g p) r′ block q d = absurd (true≢false (sym d))
 waits-no-more (M.in-payload u k n p) r′ block q d = absurd (true≢false (sym d))
 waits-no-more (M.due t p) r′ block q d = unfold isDue in answered-on (request document .given t p (sectionOf (lines block))) q
 
+-- there are such hosts: one that gives the block of no lines
+pub a-host : Host streams
+a-host = record { allows = λ n. 1; block = λ n. []; one-or-more = λ n. omega arith; is-readable = λ n. unfold isReadable lines linesFrom in refl }
+
 -- PROGRESS TO THE END, of one request stream by itself
 pub drives-to-the-end : (h : Host streams) (r : M.State Message) (rest : List ℕ) → Ends streams (drive streams h (length rest) r rest)
 drives-to-the-end h r rest = to-the-end streams feed-gets-on waits-no-more h r rest
@@ -307,4 +363,51 @@ drives-to-the-end h r rest = to-the-end streams feed-gets-on waits-no-more h r r
 -- and in every trace, from wherever the stream runs, whatever is called on the others between: a connection that dies is a fault met
 pub serves-to-the-end : (id : ℕ) → kindOf id ≡ some a-request → (cs : List (Call streams)) → view id (trace fresh cs) .fate ≡ running → (h : Shared streams id) (rest : List ℕ)
     → EndsSo (serve streams id h (length rest) (run fresh cs) rest)
-serves-to-the-end id q cs e h rest = serves-running streams id feed-gets-on waits-no-more q cs e h rest
+serves-to-the-end id q cs e h rest =
+    serves streams id (Asking streams) (NotDue streams) (asks-on streams feed-gets-on waits-no-more) h (length rest) (run fresh cs) rest
+    (stands-asking id (run fresh cs) (view id (trace fresh cs)) e (agrees story id cs q)) (omega arith)
+
+-- ---- a one-way stream of document 01: no section is ever due on it
+
+-- accepted feeds led to it
+abbrev Told : Stream streams → Type 0
+Told x = (s : Shown streams) × Says alone s x
+
+heard-used : (k : Keeps) (u₀ h₀ : ℕ) (e₀ : O.OneEvent) (o : O.OneOutcome) {u h : ℕ} {e : Event} {y : Both streams} → heardBy k u₀ h₀ e₀ o ≡ goes u h e y → u₀ ≡ u
+unfolding heardBy
+heard-used k u₀ h₀ e₀ (O.lives s) q = cc
+heard-used k u₀ h₀ e₀ (O.dies n) q = let z : _≡_ {A = ℕ} 0 1 = cc in absurd (omega arith)
+
+one-gets-on : (k : Keeps) (w : O.OneState) (allow b : ℕ) (bs : List ℕ) {u h : ℕ} {e : Event} {y : Both streams} → ReadsOnOne w → 1 ≤ allow → streams .feed₁ k w allow (b ∷ bs) ≡ goes u h e y → 1 ≤ u
+one-gets-on k w zero b bs r l q = absurd (omega arith)
+one-gets-on k w (suc n) b bs r l q =
+    let f = O.feed (typesIn k) (suc n) w (b ∷ bs) in
+    rw (← (heard-used k (f .used) (f .heads) (f .event) (f .after) q)) (one-moves (typesIn k) n b w bs r)
+
+one-out : (k : Keeps) (s : Shown streams) (w : O.OneState) → Reached₁ alone s w → (allow b : ℕ) (bs : List ℕ) → 1 ≤ allow
+    → (x : Fed O.OneState) → aloneOf w allow (b ∷ bs) ≡ x → (y : Fed (Both streams)) → streams .feed₁ k w allow (b ∷ bs) ≡ y → Like streams x y
+    → FeedOut streams Told (mapOut (λ x. record { stream = telling (x .state); kept = x .kept }) (ofFed y))
+unfolding mapOut ofFed usedBy
+one-out k s w t allow b bs l x e y q (goes-alike {u = u} {h = h} {e = ev}) = (one-gets-on k w allow b bs (reads-on t) l q, (plusFeed u h ev (b ∷ bs) s, says (by-feed t e)))
+one-out k s w t allow b bs l x e y q faults-alike = tt
+one-out k s w t allow b bs l x e y q second = tt
+
+told-block : (k : Keeps) (x : Stream streams) (block : List ℕ) (s : Shown streams) → Says alone s x → BlockOut streams Told x (actOn k x (section block))
+unfolding actOn act₁ mapOut
+told-block k x block s (says t) = (s, says t)
+
+told-feed : (k : Keeps) (x : Stream streams) (allow b : ℕ) (bs : List ℕ) (s : Shown streams) → 1 ≤ allow → Says alone s x → FeedOut streams Told (actOn k x (feed allow (b ∷ bs)))
+unfolding actOn act₁
+told-feed k x allow b bs s l (says {w = w} t) = one-out k s w t allow b bs l (aloneOf w allow (b ∷ bs)) refl (streams .feed₁ k w allow (b ∷ bs)) refl (like k w allow (b ∷ bs))
+
+tells-on : Laws streams Told Told
+tells-on = record { on-block = λ k x block t w. told-block k x block (w .0) (w .1); on-feed = λ k x allow b bs l w. told-feed k x allow b bs (w .0) l (w .1) }
+
+stands-told : (id : ℕ) (p : Pair streams) (v : View streams) → v .fate ≡ running → Agrees (Says alone) (Story₁ alone) id p v → Stands streams id Told Told p
+stands-told id p v e (over {f = f} t n) = absurd (not-running f (story₁ alone .shut t) e)
+stands-told id p v e (open-still {s = s} {x = x} a t f) = runs x (s, t) a f
+
+pub one-way-to-the-end : (id : ℕ) → kindOf id ≡ some one-way → (cs : List (Call streams)) → view id (trace fresh cs) .fate ≡ running → (h : Shared streams id) (rest : List ℕ)
+    → EndsSo (serve streams id h (length rest) (run fresh cs) rest)
+one-way-to-the-end id q cs e h rest =
+    serves streams id Told Told tells-on h (length rest) (run fresh cs) rest (stands-told id (run fresh cs) (view id (trace fresh cs)) e (follows₁ alone id q cs)) (omega arith)

@@ -2,10 +2,11 @@
 -- Assumes nothing.
 use mathlib.Core.Path.{_≡_, refl, sym, ap, ap₂, _∙_, subst}
 use Prim.Native.Nat.{ℕ, zero, suc, _+_}
-use mathlib.Core.List.{List, [], _∷_, _++_}
+use native.Mathlib.Omega.{arith}
+use mathlib.Core.List.{List, [], _∷_, _++_, append-nil, append-assoc}
 use mathlib.Core.Bool.{Bool, true, false}
 use mathlib.Core.Option.{Option, none, some}
-use lib.ListN.{length}
+use lib.ListN.{length, length-append, take}
 use Rattle.traces.specs.Stream.{StreamCode, Code, of-stream, of-connection, Fed, goes, faults, Given, sound, unsound, Ended, is-whole, broken, section-due, Own, end, Out, refuse, leave, fault, ofEnded, mapOut, whole, Machine, act, either}
 use Rattle.traces.specs.Board.{Kind, request, kindOf, asking, Pair, Call, on, Answer, gave, left, house, code, same, with, faulted, settle, find, fresh, call, run, trace}
 use Rattle.traces.specs.View.{Shown, Fate, unopened, spent, running, ended, dropped, refused, lost, View, plusFeed, plusBytes, plusSection, nothing, view}
@@ -24,6 +25,7 @@ pub data Verdict : Type 0 where
 -- the definition's reading of a stream's bytes and sections
 pub record Meaning (M : Machine) : Type 0 where
   pub verdict : List ℕ → List (M .Block) → Verdict
+  pub place : List ℕ → List (M .Block) → ℕ  -- the bytes up to and including the one that decides
   pub carried : List ℕ → List (M .Block) → List ℕ
   pub blocks : List ℕ → List (M .Block) → List ℕ
   pub heads : List ℕ → List (M .Block) → ℕ
@@ -37,23 +39,44 @@ unfoldable pub verdictOf : Ended → Verdict
 verdictOf is-whole = is-legal
 verdictOf (broken k) = bad k
 
+-- A FAULT OF THE BYTES: with these sections the verdict is k, at this place, whatever bytes follow (a fault of the end is none: bytes may mend it)
+abbrev pub FaultAt : {M : Machine} → Meaning M → Code → (place : ℕ) → List ℕ → List (M .Block) → Type 0
+FaultAt R k place bytes sections = (more : List ℕ) → (R .verdict (bytes ++ more) sections ≡ bad k) × (R .place (bytes ++ more) sections ≡ place)
+
+-- the last of the bytes brings it, whatever sections would be given later
+abbrev pub Struck : {M : Machine} → Meaning M → Code → List ℕ → List (M .Block) → Type 0
+Struck {M} R k bytes sections = (others : List (M .Block)) → FaultAt R k (length bytes) bytes (sections ++ others)
+
+-- there is none among the bytes
+abbrev pub NoFault : {M : Machine} → Meaning M → List ℕ → List (M .Block) → Type 0
+NoFault R bytes sections = (k : Code) (place : ℕ) → FaultAt R k place bytes sections → ⊥
+
+-- a section is due
+abbrev pub Waits : {M : Machine} → Meaning M → Shown M → Type 0
+Waits R s = R .verdict (s .bytes) (s .sections) ≡ waits
+
 -- DEMAND 2 OF ONE STREAM BY ITSELF: any sequence of feeds and sections comes to the reading of the bytes consumed and the sections
 pub record Reads {M : Machine} (R : Meaning M) : Type 0 where
   pub so-far : {s : Shown M} {r : M .Request} → Reached s r → Shows R s
   pub while-due : {s : Shown M} {r : M .Request} → Reached s r → M .due r ≡ true → R .verdict (s .bytes) (s .sections) ≡ waits
   pub at-end : {s : Shown M} {r : M .Request} → Reached s r → M .due r ≡ false → R .verdict (s .bytes) (s .sections) ≡ verdictOf (M .finish r)
+  pub unhurt : {s : Shown M} {r : M .Request} → Reached s r → NoFault R (s .bytes) (s .sections)
+  pub end-place : {s : Shown M} {r : M .Request} (k : Code) → Reached s r → M .due r ≡ false → R .verdict (s .bytes) (s .sections) ≡ bad k → R .place (s .bytes) (s .sections) ≡ length (s .bytes)
   pub in-feed : {s : Shown M} {r : M .Request} (allow u h : ℕ) (piece : List ℕ) (k : Code) → Reached s r → M .due r ≡ false → M .feed r allow piece ≡ faults k u h
-      → Shows R (plusBytes u h piece s) × (R .verdict (plusBytes u h piece s .bytes) (s .sections) ≡ bad k)
+      → Shows R (plusBytes u h piece s) × Struck R k (s .bytes ++ take u piece) (s .sections)
   pub at-section : {s : Shown M} {r : M .Request} (b : M .Block) (k : StreamCode) → Reached s r → M .due r ≡ true → M .readable b ≡ true → M .give r b ≡ unsound k
-      → Shows R (plusSection b s) × (R .verdict (s .bytes) (plusSection b s .sections) ≡ bad (of-stream k))
+      → Shows R (plusSection b s) × Struck R (of-stream k) (s .bytes) (s .sections ++ (b ∷ []))
 
 -- ---- demand 2 over traces
 
--- what a trace shows of a request stream is the reading of its bytes and sections, and its fate is their verdict
+-- what a trace shows of a request stream is the reading of its bytes and sections, and its fate is their verdict; a fault is at the last byte
+-- consumed, and where there was no refusal, as on a stream that runs, there is none among the bytes
 pub record Tells {M : Machine} (R : Meaning M) (v : View M) : Type 0 where
   pub shows : Shows R (v .shown)
   pub if-whole : v .fate ≡ ended → R .verdict (v .shown .bytes) (v .shown .sections) ≡ is-legal
   pub if-refused : (k : Code) → v .fate ≡ refused k → R .verdict (v .shown .bytes) (v .shown .sections) ≡ bad k
+  pub at-its-place : (k : Code) → v .fate ≡ refused k → R .place (v .shown .bytes) (v .shown .sections) ≡ length (v .shown .bytes)
+  pub unless-refused : ((k : Code) → ¬ (v .fate ≡ refused k)) → NoFault R (v .shown .bytes) (v .shown .sections)
 
 -- the answer to an end
 unfoldable pub endAnswer : Verdict → Answer
@@ -85,33 +108,52 @@ not-ended f n e = absurd (subst NotEnded e n)
 not-refused : {X : Type 0} (f : Fate) (k : Code) → NotRefused f → f ≡ refused k → X
 not-refused f k n e = absurd (subst NotRefused e n)
 
+-- a fault of the bytes, of these bytes and sections alone
+struck-here : {M : Machine} (R : Meaning M) (k : Code) (bytes : List ℕ) (sections : List (M .Block)) → Struck R k bytes sections → (R .verdict bytes sections ≡ bad k) × (R .place bytes sections ≡ length bytes)
+struck-here R k bytes sections x = rw (append-nil bytes, append-nil sections) at (x [] [])
+
+same-code : (k j : Code) → refused k ≡ refused j → k ≡ j
+same-code k j q = cc
+
+module _ {M : Machine} (R : Meaning M) where
+  -- a stream that was not refused
+  unrefused : (f : Fate) (s : Shown M) → NotRefused f → Shows R s → (f ≡ ended → R .verdict (s .bytes) (s .sections) ≡ is-legal) → NoFault R (s .bytes) (s .sections)
+      → Tells R (record { fate = f; shown = s })
+  unrefused f s n w e u = record { shows = w; if-whole = e; if-refused = λ k. not-refused f k n; at-its-place = λ k. not-refused f k n; unless-refused = λ z. u }
+
+  -- and one that was
+  refused-so : (k : Code) (s : Shown M) → Shows R s → R .verdict (s .bytes) (s .sections) ≡ bad k → R .place (s .bytes) (s .sections) ≡ length (s .bytes)
+      → Tells R (record { fate = refused k; shown = s })
+  refused-so k s w e p = record {
+    shows = w;
+    if-whole = not-ended (refused k) tt;
+    if-refused = λ j q. e ∙ ap bad (same-code k j q);
+    at-its-place = λ j q. p;
+    unless-refused = λ z. absurd (z k refl);
+  }
+
 module _ {M : Machine} (R : Meaning M) (L : Reads R) where
   tells-story : {f : Fate} {s : Shown M} → Story f s → Tells R (record { fate = f; shown = s })
-  tells-story not-yet = record { shows = L .so-far at-first; if-whole = not-ended unopened tt; if-refused = λ k. not-refused unopened k tt }
-  tells-story never = record { shows = L .so-far at-first; if-whole = not-ended spent tt; if-refused = λ k. not-refused spent k tt }
-  tells-story (to-the-end t d e) = record { shows = L .so-far t; if-whole = λ q. L .at-end t d ∙ (unfold verdictOf in (rw e)); if-refused = λ k. not-refused ended k tt }
-  tells-story (given-up t) = record { shows = L .so-far t; if-whole = not-ended dropped tt; if-refused = λ k. not-refused dropped k tt }
-  tells-story (cut-off t) = record { shows = L .so-far t; if-whole = not-ended lost tt; if-refused = λ k. not-refused lost k tt }
-  tells-story (bad-feed {allow = allow} {u = u} {h = h} {piece = piece} {k = k} t d e) =
+  unfolding plusBytes plusSection verdictOf
+  tells-story {s = s} not-yet = unrefused R unopened s tt (L .so-far at-first) (not-ended unopened tt) (L .unhurt at-first)
+  tells-story {s = s} never = unrefused R spent s tt (L .so-far at-first) (not-ended spent tt) (L .unhurt at-first)
+  tells-story {s = s} (to-the-end t d e) = unrefused R ended s tt (L .so-far t) (λ q. L .at-end t d ∙ (rw e)) (L .unhurt t)
+  tells-story {s = s} (given-up t) = unrefused R dropped s tt (L .so-far t) (not-ended dropped tt) (L .unhurt t)
+  tells-story {s = s} (cut-off t) = unrefused R lost s tt (L .so-far t) (not-ended lost tt) (L .unhurt t)
+  tells-story (bad-feed {s = s} {allow = allow} {u = u} {h = h} {piece = piece} {k = k} t d e) =
       let w = L .in-feed allow u h piece k t d e in
-      record { shows = w .0; if-whole = not-ended (refused k) tt; if-refused = λ j q. unfold plusBytes in (w .1 ∙ ap bad (same-code k j q)) }
-    where
-      same-code : (k j : Code) → refused k ≡ refused j → k ≡ j
-      same-code k j q = cc
-  tells-story (bad-section {b = b} {k = k} t d y e) =
+      let x = struck-here R k (s .bytes ++ take u piece) (s .sections) (w .1) in
+      refused-so R k (plusBytes u h piece s) (w .0) (x .0) (x .1)
+  tells-story (bad-section {s = s} {b = b} {k = k} t d y e) =
       let w = L .at-section b k t d y e in
-      record { shows = w .0; if-whole = not-ended (refused (of-stream k)) tt; if-refused = λ j q. unfold plusSection in (w .1 ∙ ap bad (same-code (of-stream k) j q)) }
-    where
-      same-code : (k j : Code) → refused k ≡ refused j → k ≡ j
-      same-code k j q = cc
-  tells-story (bad-end {k = k} t d e) =
-      record { shows = L .so-far t; if-whole = not-ended (refused k) tt; if-refused = λ j q. L .at-end t d ∙ (unfold verdictOf in (rw e (ap bad (same-code k j q)))) }
-    where
-      same-code : (k j : Code) → refused k ≡ refused j → k ≡ j
-      same-code k j q = cc
+      let x = struck-here R (of-stream k) (s .bytes) (s .sections ++ (b ∷ [])) (w .1) in
+      refused-so R (of-stream k) (plusSection b s) (w .0) (x .0) (x .1)
+  tells-story {s = s} (bad-end {k = k} t d e) =
+      let x : R .verdict (s .bytes) (s .sections) ≡ bad k = L .at-end t d ∙ (rw e) in
+      refused-so R k s (L .so-far t) x (L .end-place k t d x)
 
   tells-agrees : {id : ℕ} {p : Pair M} {v : View M} → Agrees Asks Story id p v → Tells R v
-  tells-agrees (open-still a (asks t) f) = record { shows = L .so-far t; if-whole = not-ended running tt; if-refused = λ k. not-refused running k tt }
+  tells-agrees (open-still {s = s} a (asks t) f) = unrefused R running s tt (L .so-far t) (not-ended running tt) (L .unhurt t)
   tells-agrees (over t n) = tells-story t
 
   -- DEMAND 2: at every moment of every trace
@@ -190,6 +232,47 @@ module _ {M : Machine} (R : Meaning M) where
       let a = demand-2 R L i p cs in
       let b = demand-2 R L j q ds in
       (same-shows (v .shown) (w .shown) (a .shows) (b .shows) e, λ x y. same-fate v w a b e (v .fate) (w .fate) refl refl x y)
+
+-- ---- any cutting
+
+no-more : (x more : List ℕ) → length (x ++ more) ≡ length x → more ≡ []
+no-more x [] e = refl
+no-more x (b ∷ more) e = let l = length-append x (b ∷ more) in absurd (omega arith)
+
+module _ {M : Machine} (R : Meaning M) (k : Code) (x : List ℕ) (sections : List (M .Block)) (struck : Struck R k x sections) where
+  -- a fault of the bytes is one of all that begins with them
+  goes-on : (y more : List ℕ) (t others : List (M .Block)) → y ≡ x ++ more → t ≡ sections ++ others → FaultAt R k (length x) y t
+  goes-on y more t others e f = rw (e, f) (λ rest. rw (append-assoc x more rest) (struck others (more ++ rest)))
+
+  fault-of-all : (y more : List ℕ) (t others : List (M .Block)) → y ≡ x ++ more → t ≡ sections ++ others → (R .verdict y t ≡ bad k) × (R .place y t ≡ length x)
+  fault-of-all y more t others e f = rw (append-nil y) at (goes-on y more t others e f [])
+
+  -- every stream that consumed them, or more, is refused for it, at the same byte
+  pub all-refused : (w : View M) → Tells R w → (more : List ℕ) (others : List (M .Block)) → w .shown .bytes ≡ x ++ more → w .shown .sections ≡ sections ++ others
+      → (w .fate ≡ refused k) × (w .shown .bytes ≡ x)
+  all-refused w tells more others e f = by (w .fate) refl
+    where
+      never : NotRefused (w .fate) → ⊥
+      never n = tells .unless-refused (λ j. not-refused (w .fate) j n) k (length x) (goes-on (w .shown .bytes) more (w .shown .sections) others e f)
+
+      by : (g : Fate) → w .fate ≡ g → (w .fate ≡ refused k) × (w .shown .bytes ≡ x)
+      by unopened q = absurd (never (rw q tt))
+      by spent q = absurd (never (rw q tt))
+      by running q = absurd (never (rw q tt))
+      by ended q = absurd (never (rw q tt))
+      by dropped q = absurd (never (rw q tt))
+      by lost q = absurd (never (rw q tt))
+      by (refused j) q =
+          let a = fault-of-all (w .shown .bytes) more (w .shown .sections) others e f in
+          let m : more ≡ [] = no-more x more (sym (ap length e) ∙ sym (tells .at-its-place j q) ∙ a .1) in
+          (q ∙ ap refused (one-code _ j k (tells .if-refused j q) (a .0)), e ∙ ap (λ z. x ++ z) m ∙ append-nil x)
+
+-- of two faults of the bytes, one stream beginning as the other, neither is before the other
+pub one-fault : {M : Machine} (R : Meaning M) (j k : Code) (x y more : List ℕ) (s t others : List (M .Block)) → Struck R k x s → Struck R j y t → x ≡ y ++ more → s ≡ t ++ others → (j ≡ k) × (more ≡ [])
+one-fault R j k x y more s t others a b e f =
+    let p = fault-of-all R j y t b x more s others e f in
+    let q = struck-here R k x s a in
+    (one-code _ j k (p .0) (q .0), no-more y more (sym (ap length e) ∙ sym (q .1) ∙ p .1))
 
 -- ---- demand 3
 

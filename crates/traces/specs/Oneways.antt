@@ -36,7 +36,8 @@ pub data Story₁ {M : Machine} (B : ByItself M) : Fate → Shown M → Type 0 w
   closed-critical : {s : Shown M} {w : M .Oneway} {k : ConnCode} → Reached₁ B s w → M .close w ≡ some k → Story₁ B (refused (of-connection k)) s
   bad-feed : {s : Shown M} {w : M .Oneway} {allow u h : ℕ} {piece : List ℕ} {k : Code}
       → Reached₁ B s w → B .alone₁ w allow piece ≡ faults k u h → Story₁ B (refused k) (plusBytes u h piece s)
-  second-of-type : {s : Shown M} {w : M .Oneway} (u h : ℕ) (piece : List ℕ) → Reached₁ B s w → Story₁ B (refused (of-connection creation)) (plusBytes u h piece s)
+  second-of-type : {s : Shown M} {w : M .Oneway} {k : M .Kept} {allow u h : ℕ} {piece : List ℕ}
+      → Reached₁ B s w → M .feed₁ k w allow piece ≡ faults (of-connection creation) u h → Story₁ B (refused (of-connection creation)) (plusBytes u h piece s)
 
 pub data Says {M : Machine} (B : ByItself M) : Shown M → Stream M → Type 0 where
   says : {s : Shown M} {w : M .Oneway} → Reached₁ B s w → Says B s (telling w)
@@ -49,7 +50,7 @@ module _ {M : Machine} (B : ByItself M) where
   shut (closed t e) = tt
   shut (closed-critical t e) = tt
   shut (bad-feed t e) = tt
-  shut (second-of-type u h piece t) = tt
+  shut (second-of-type t e) = tt
 
   cut : {s : Shown M} {x : Stream M} → Says B s x → Story₁ B lost s
   cut (says t) = cut-off t
@@ -58,11 +59,12 @@ module _ {M : Machine} (B : ByItself M) where
     abbrev Then : Own M → Out (Both M) → Type 0
     Then o x = Next (Says B) (Story₁ B) o s (mapOut (λ x. record { stream = telling (x .state); kept = x .kept }) x)
 
-    at-feed : (allow : ℕ) (piece : List ℕ) (x : Fed (M .Oneway)) → B .alone₁ w allow piece ≡ x → (y : Fed (Both M)) → Like M x y → Then (feed allow piece) (ofFed y)
+    at-feed : (k : M .Kept) (allow : ℕ) (piece : List ℕ) (x : Fed (M .Oneway)) → B .alone₁ w allow piece ≡ x → (y : Fed (Both M)) → M .feed₁ k w allow piece ≡ y → Like M x y
+        → Then (feed allow piece) (ofFed y)
     unfolding mapOut ofFed mine fedly
-    at-feed allow piece x e y goes-alike = goes-on (says (by-feed t e))
-    at-feed allow piece x e y faults-alike = bad-feed t e
-    at-feed allow piece x e y (second {u = u} {h = h}) = second-of-type u h piece t
+    at-feed k allow piece x e y q goes-alike = goes-on (says (by-feed t e))
+    at-feed k allow piece x e y q faults-alike = bad-feed t e
+    at-feed k allow piece x e y q second = second-of-type t q
 
     at-close : (o : Option ConnCode) → M .close w ≡ o → Then end (ofClosed o) × Then reset (ofClosed o)
     unfolding mapOut ofClosed mine
@@ -71,7 +73,7 @@ module _ {M : Machine} (B : ByItself M) where
 
     at-own : (k : M .Kept) (o : Own M) → Then o (act₁ M k w o)
     unfolding act₁ mapOut
-    at-own k (feed allow piece) = at-feed allow piece (B .alone₁ w allow piece) refl (M .feed₁ k w allow piece) (B .like k w allow piece)
+    at-own k (feed allow piece) = at-feed k allow piece (B .alone₁ w allow piece) refl (M .feed₁ k w allow piece) refl (B .like k w allow piece)
     at-own k (section b) = tt
     at-own k end = at-close (M .close w) refl .0
     at-own k reset = at-close (M .close w) refl .1

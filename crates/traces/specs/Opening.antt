@@ -17,12 +17,12 @@ use Rattle.traces.specs.Alone.{no-code, no-house}
 use Rattle.traces.specs.Ledger.{Ledger, blank, opens, counts, dies, limits, noted, ledgerFrom, ledger, nextIn, barredIn, MayOpen}
 
 -- the ledger of a trace and the pair that it left
-record Tallies {M : Machine} (p : Pair M) (l : Ledger) : Type 0 where
-  dead : l .dead ≡ p .conn .dead
-  requests : p .conn .nextRequest ≡ l .requests * 4
-  oneways : p .conn .nextOneway ≡ l .oneways * 4 + 2
-  limit : l .limit ≡ p .conn .limit
-  busy : l .busy ≡ taken (p .row)
+pub record Tallies {M : Machine} (p : Pair M) (l : Ledger) : Type 0 where
+  pub dead : l .dead ≡ p .conn .dead
+  pub requests : p .conn .nextRequest ≡ l .requests * 4
+  pub oneways : p .conn .nextOneway ≡ l .oneways * 4 + 2
+  pub limit : l .limit ≡ p .conn .limit
+  pub busy : l .busy ≡ taken (p .row)
 
 module _ {M : Machine} where
   tallies-spend : (k : Kind) (id : ℕ) (p : Pair M) (l : Ledger) → kindOf id ≡ some k → Tallies p l → Tallies (pair (spend k (p .conn)) (p .row)) (opens (kindOf id) l)
@@ -56,13 +56,13 @@ module _ {M : Machine} where
   tallies-from [] p l t = t
   tallies-from (c ∷ cs) p l t = tallies-from cs (call c p .after) (noted c (call c p .answer) l) (tallies-went p (call c p .after) c (call c p .answer) l t (went c p))
 
-  tallies : (cs : List (Call M)) → Tallies (run fresh cs) (ledger (trace fresh cs))
+  pub tallies : (cs : List (Call M)) → Tallies (run fresh cs) (ledger (trace fresh cs))
   unfolding ledger
   tallies cs = tallies-from cs fresh blank (unfold fresh blank in record { dead = refl; requests = refl; oneways = refl; limit = refl; busy = sym (taken-empty M 24) })
 
   -- ---- the conditions on the pair
 
-  next-same : (k : Kind) (p : Pair M) (l : Ledger) → Tallies p l → nextOf k (p .conn) ≡ nextIn k l
+  pub next-same : (k : Kind) (p : Pair M) (l : Ledger) → Tallies p l → nextOf k (p .conn) ≡ nextIn k l
   unfolding nextOf nextIn
   next-same request p l t = t .requests
   next-same one-way p l t = t .oneways
@@ -71,7 +71,7 @@ module _ {M : Machine} where
   pub next-told : (k : Kind) (cs : List (Call M)) → nextOf k (run fresh cs .conn) ≡ nextIn k (ledger (trace fresh cs))
   next-told k cs = next-same k (run fresh cs) (ledger (trace fresh cs)) (tallies cs)
 
-  barred-same : (k : Kind) (p : Pair M) (l : Ledger) (id : ℕ) → Tallies p l → barred k (p .conn) id ≡ barredIn k l id
+  pub barred-same : (k : Kind) (p : Pair M) (l : Ledger) (id : ℕ) → Tallies p l → barred k (p .conn) id ≡ barredIn k l id
   unfolding barred barredIn
   barred-same request p l id t = ap (λ x. over x id) (sym (t .limit))
   barred-same one-way p l id t = refl
