@@ -22,6 +22,8 @@
 #include <unistd.h>
 
 #define CONNECTION_ID_LENGTH 16
+/* The server's id until it chooses its own: longer than those that servers choose, so that none takes it for one of its own. */
+#define FIRST_SERVER_ID_LENGTH 18
 #define PACKET_LENGTH 1452
 #define DATAGRAM_LENGTH 65536
 #define PIECES 16
@@ -333,7 +335,7 @@ static bool start_quic(client *c) {
     params.max_idle_timeout = IDLE_TIMEOUT;
 
     ngtcp2_cid destination, source;
-    random_connection_id(&destination, CONNECTION_ID_LENGTH);
+    random_connection_id(&destination, FIRST_SERVER_ID_LENGTH);
     random_connection_id(&source, CONNECTION_ID_LENGTH);
     ngtcp2_path path = path_of(c);
     return ngtcp2_conn_client_new(&c->quic, &destination, &source, &path, NGTCP2_PROTO_VER_V1, &callbacks, &settings, &params,

@@ -18,7 +18,8 @@
                                   prints one line: what came
      vanish                       ends the program, the server being told nothing
 
-   Queued bytes go out in flush and wait. At the end the connection is closed with 0x100. Numbers are decimal, or hexadecimal after 0x.
+   Queued bytes go out in flush and wait, and while a stream to be opened waits for the server's limit (10 s at most).
+   At the end the connection is closed with 0x100. Numbers are decimal, or hexadecimal after 0x.
    Exit status: 0 the script was run, 1 the server allowed no stream for it, 2 bad usage, 3 no connection came about. */
 #include <errno.h>
 #include <inttypes.h>
@@ -40,8 +41,8 @@ static void *must(void *memory) {
     return memory;
 }
 
-__attribute__((noreturn)) static void bad_usage(const char *what, const char *word) {
-    fprintf(stderr, "raw: %s: %s\n", what, word);
+__attribute__((noreturn)) static void bad_usage(const char *word, const char *what) {
+    fprintf(stderr, "raw: %s: %s\n", word, what);
     exit(BAD_USAGE);
 }
 
@@ -56,8 +57,9 @@ typedef struct {
 } step;
 
 typedef struct {
-    char **words;
-    const char *port;
+    char **words;     /* those still to be read */
+    const char *word; /* the one being read */
+    uint16_t port;
     step *steps;
     size_t count, capacity;
     bool has_stream, has_fin, has_reset;
@@ -80,13 +82,13 @@ static void add_open(script *s, action what) {
 }
 
 static void add_queue(script *s, h3_bytes bytes) {
-    if (!s->has_stream) bad_usage("bytes with no stream before", "queue");
-    if (s->has_fin || s->has_reset) bad_usage("bytes after the stream's end", "queue");
+    if (!s->has_stream) bad_usage(s->word, "no stream is open");
+    if (s->has_fin || s->has_reset) bad_usage(s->word, "the stream has ended");
     add_step(s, QUEUE, bytes, 0);
 }
 
 static const char *next_word(script *s, const char *what) {
-    if (!*s->words) bad_usage("missing", what);
+    if (!*s->words) bad_usage(s->word, what);
     return *s->words++;
 }
 
@@ -95,7 +97,7 @@ static uint64_t number(const char *word, uint64_t max) {
     errno = 0;
     bool hexadecimal = !strncmp(word, "0x", 2);
     uint64_t value = strtoull(word, &end, hexadecimal ? 16 : 10);
-    if (*word < '0' || *word > '9' || *end || errno || value > max) bad_usage("not a number that fits", word);
+    if (*word < '0' || *word > '9' || *end || errno || value > max) bad_usage(word, "not a number that fits");
     return value;
 }
 
@@ -104,25 +106,25 @@ static uint64_t next_number(script *s, const char *what) { return number(next_wo
 static h3_bytes file_bytes(const char *name) {
     h3_bytes all = {NULL, 0};
     FILE *f = fopen(name, "rb");
-    if (!f) bad_usage(strerror(errno), name);
+    if (!f) bad_usage(name, strerror(errno));
     size_t capacity = 1u << 16, got;
     all.bytes = must(malloc(capacity));
     while ((got = fread(all.bytes + all.length, 1, capacity - all.length, f)) > 0) {
         all.length += got;
         if (all.length == capacity) all.bytes = must(realloc(all.bytes, capacity *= 2));
     }
-    if (ferror(f)) bad_usage("cannot be read", name);
+    if (ferror(f)) bad_usage(name, "cannot be read");
     fclose(f);
     return all;
 }
 
 /* FILE FROM TO. */
 static h3_bytes next_file_part(script *s) {
-    const char *name = next_word(s, "a file");
+    const char *name = next_word(s, "wants a file");
     h3_bytes part = file_bytes(name);
-    uint64_t from = next_number(s, "where the part begins");
-    uint64_t to = next_number(s, "where the part ends");
-    if (from > to || to > part.length) bad_usage("the file has no such part", name);
+    uint64_t from = next_number(s, "wants where the part begins");
+    uint64_t to = next_number(s, "wants where the part ends");
+    if (from > to || to > part.length) bad_usage(name, "has no such part");
     memmove(part.bytes, part.bytes + from, (size_t)(to - from));
     part.length = (size_t)(to - from);
     return part;
@@ -152,9 +154,9 @@ static h3_field split_field(char *word) {
 static void read_request(script *s) {
     size_t count = 4;
     char authority[32];
-    snprintf(authority, sizeof authority, "localhost:%s", s->port);
-    const char *method = next_word(s, "a request's method");
-    const char *path = next_word(s, "a request's path");
+    snprintf(authority, sizeof authority, "localhost:%u", s->port);
+    const char *method = next_word(s, "wants a method");
+    const char *path = next_word(s, "wants a path");
     while (is_field(s->words[count - 4])) count++;
 
     h3_field *fields = must(calloc(count, sizeof *fields));
@@ -172,7 +174,7 @@ static void read_stream(script *s) { add_open(s, OPEN_BIDI); }
 
 static void read_uni(script *s) { add_open(s, OPEN_UNI); }
 
-static void read_data(script *s) { add_data_frame(s, file_bytes(next_word(s, "a file"))); }
+static void read_data(script *s) { add_data_frame(s, file_bytes(next_word(s, "wants a file"))); }
 
 static void read_part(script *s) { add_data_frame(s, next_file_part(s)); }
 
@@ -180,20 +182,20 @@ static void read_bytes(script *s) { add_queue(s, next_file_part(s)); }
 
 static void read_head(script *s) {
     h3_bytes head = {must(malloc(H3_FRAME_HEAD_ROOM)), 0};
-    uint64_t type = next_number(s, "a frame's type");
-    head.length = h3_put_frame_head(head.bytes, type, next_number(s, "a frame's length"));
+    uint64_t type = next_number(s, "wants a frame's type");
+    head.length = h3_put_frame_head(head.bytes, type, next_number(s, "wants a frame's length"));
     add_queue(s, head);
 }
 
 static unsigned hex_digit(const char *word, char digit) {
     static const char digits[] = "0123456789abcdef";
     const char *found = digit ? strchr(digits, digit >= 'A' && digit <= 'F' ? digit + ('a' - 'A') : digit) : NULL;
-    if (!found) bad_usage("not pairs of hexadecimal digits", word);
+    if (!found) bad_usage(word, "not pairs of hexadecimal digits");
     return (unsigned)(found - digits);
 }
 
 static void read_hex(script *s) {
-    const char *word = next_word(s, "bytes as hexadecimal digits");
+    const char *word = next_word(s, "wants hexadecimal digits");
     h3_bytes given = {must(malloc(strlen(word) + 1)), 0};
     for (const char *at = word; *at; at += 2) {
         unsigned high = hex_digit(word, at[0]);
@@ -203,20 +205,22 @@ static void read_hex(script *s) {
 }
 
 static void read_fin(script *s) {
-    if (!s->has_stream || s->has_fin || s->has_reset) bad_usage("no stream that goes on", "fin");
+    if (!s->has_stream) bad_usage(s->word, "no stream is open");
+    if (s->has_fin || s->has_reset) bad_usage(s->word, "the stream has ended");
     add_plain(s, FIN);
     s->has_fin = true;
 }
 
 static void read_reset(script *s) {
-    uint64_t code = next_number(s, "an error code");
-    if (!s->has_stream || s->has_reset) bad_usage("no stream that goes on", "reset");
+    uint64_t code = next_number(s, "wants an error code");
+    if (!s->has_stream) bad_usage(s->word, "no stream is open");
+    if (s->has_reset) bad_usage(s->word, "the stream is reset already");
     add_step(s, RESET, (h3_bytes){0}, code);
     s->has_reset = true;
 }
 
 static void read_wait(script *s) {
-    if (!s->has_stream) bad_usage("no stream to wait for", "wait");
+    if (!s->has_stream) bad_usage(s->word, "no stream is open");
     add_plain(s, WAIT);
 }
 
@@ -236,17 +240,17 @@ static const struct {
 };
 
 static void read_word(script *s) {
-    const char *word = *s->words++;
+    s->word = *s->words++;
     for (size_t i = 0; i < sizeof known / sizeof *known; i++) {
-        if (!strcmp(word, known[i].word)) {
+        if (!strcmp(s->word, known[i].word)) {
             known[i].read(s);
             return;
         }
     }
-    bad_usage("no such word", word);
+    bad_usage(s->word, "no such word");
 }
 
-static script read_script(const char *port, char **words) {
+static script read_script(uint16_t port, char **words) {
     script s = {.words = words, .port = port};
     if (*s.words && !strcmp(*s.words, "bare")) {
         s.words++;
@@ -426,7 +430,7 @@ static int run_script(const script *s, uint16_t port) {
 int main(int count, char **words) {
     if (count < 2) bad_usage("usage", "raw PORT WORD...");
     uint16_t port = (uint16_t)number(words[1], UINT16_MAX);
-    script s = read_script(words[1], words + 2);
+    script s = read_script(port, words + 2);
     int status = run_script(&s, port);
     free_script(&s);
     return status;
