@@ -2,4 +2,5 @@ pub mod Layout
 pub mod Lent
 pub mod Rows
 pub mod Search
+pub mod Writes
 pub mod Once

@@ -5,6 +5,7 @@ use Prim.Native.Nat.{ℕ, zero, suc, _≤_}
 use native.Mathlib.Omega.{arith}
 use mathlib.Core.List.{List, [], _∷_, map}
 use lib.ListN.{length, getD, set, length-set, length-map}
+use Rattle.rules.specs.Writer.{Write}
 use Rattle.record.specs.declared.Record.{Record}
 use Rattle.record.specs.Row.{free-record}
 use Rattle.connection.specs.declared.Connection.{Connection}
@@ -19,6 +20,7 @@ use Rattle.connection.specs.One.{one-turn, one-goaway}
 use Rattle.connection.specs.Pair.{Paired, kept-pair, goaway-pair, start-pair}
 use Rattle.board.specs.Lent.{Stepped, Started, SaidGoaway}
 use Rattle.board.specs.Rows.{set-past, set-other}
+use Rattle.board.specs.Writes.{WroteInto}
 
 -- ---- a call on one stream
 
@@ -104,3 +106,8 @@ module _ {c : Connection} {id : ℕ} {room : List ℕ} where
 
   pub goaway-pairs : {rows : List Record} {c′ : Connection} {x : List ℕ} {r : Written} → SaidGoaway c id room c′ x r → Paired c rows → Paired c′ rows
   goaway-pairs {rows} a p = subst (λ y. Paired y rows) (sym (a .conn-left)) (goaway-pair (a .goes) p)
+
+-- ---- the other writes
+
+pub one-write : {w : Write} {room x y : List ℕ} {r₁ r₂ : Written} → WroteInto w room r₁ x → WroteInto w room r₂ y → (x ≡ y) × (r₁ ≡ r₂)
+one-write a b = (a .room-left ∙ sym (b .room-left), a .answered ∙ sym (b .answered))

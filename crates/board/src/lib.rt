@@ -5,13 +5,16 @@ use connection::Found;
 use connection::Report;
 use connection::Written;
 use record::Record;
+use varint::Wrote;
 ghost use mathlib.Core.Path.{_≡_};
 ghost use mathlib.Core.List.{[], map};
 ghost use lib.ListN.{length, set, getD};
+ghost use Rattle.rules.specs.Writer.{write-header, write-integer-frame, write-opening};
 ghost use Rattle.connection.specs.Whose.{FoundIn};
 ghost use Rattle.connection.specs.Turned.{sweptOf};
 ghost use Rattle.board.specs.Layout.{connectionSize, recordSize, reportSize, writtenSize};
 ghost use Rattle.board.specs.Lent.{FirstIn, Stepped, Started, SaidGoaway};
+ghost use Rattle.board.specs.Writes.{writtenOf, WroteInto};
 
 // ---- the row
 
@@ -152,6 +155,41 @@ pub extern "C" fn eistulko_goaway(conn: &mut Connection, id: u64, room: &mut [u8
     let g = connection::say_goaway(*conn, id, room);
     *conn = g.conn;
     g.written
+}
+
+// ---- the other writes: lent the room alone, for they depend on no record
+
+fn told(w: Wrote) -> Written
+    ensures { λ r. ⌜ r ≡ writtenOf w ⌝ }
+{
+    match w {
+        Wrote::Refused(number) => Written { number, count: 0 },
+        Wrote::Count(n) => Written {
+            number: 0,
+            count: n as u64,
+        },
+    }
+}
+
+#[no_mangle]
+pub extern "C" fn eistulko_write_header(ftype: u64, len: u64, room: &mut [u8]) -> Written
+    ensures { λ r. ⌜ WroteInto (write-header (length (now (room .entry))) ftype len) (now (room .entry)) r (now (room .exit)) ⌝ }
+{
+    told(wire::write_header(ftype, len, room))
+}
+
+#[no_mangle]
+pub extern "C" fn eistulko_write_integer_frame(ftype: u64, value: u64, room: &mut [u8]) -> Written
+    ensures { λ r. ⌜ WroteInto (write-integer-frame (length (now (room .entry))) ftype value) (now (room .entry)) r (now (room .exit)) ⌝ }
+{
+    told(wire::write_integer_frame(ftype, value, room))
+}
+
+#[no_mangle]
+pub extern "C" fn eistulko_write_opening(room: &mut [u8]) -> Written
+    ensures { λ r. ⌜ WroteInto (write-opening (length (now (room .entry)))) (now (room .entry)) r (now (room .exit)) ⌝ }
+{
+    told(wire::write_opening(room))
 }
 
 // ---- how many bytes a host lends, to compare with its header
