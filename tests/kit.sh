@@ -18,3 +18,17 @@ link() { # PROGRAM.c OBJECT: the C program with the proved code, at $made/PROGRA
   quietly "$tools/bin/clang" --target=x86_64-unknown-linux-gnu -O2 -fPIC -ffreestanding -nostdinc -Wall -Wextra -Werror -c "$1" -o "$made/$name.o"
   quietly "$own/bin/rattle-link" --target x86_64-unknown-linux-gnu --toolchain "$tools" -o "$made/$name" "$made/$name.o" "$2"
 }
+module() { # CRATE: proves it and makes its static library; the module behind it, as rattle hands it to clang, is left at $made/CRATE.ll
+  local links=$made/kit part
+  rm -rf "$links"
+  mkdir -p "$links/on/$(uname -m)/toolchain/bin"
+  for part in "$kit"/*; do [ "${part##*/}" = on ] || ln -s "$part" "$links"; done
+  for part in "$own"/*; do [ "${part##*/}" = toolchain ] || ln -s "$part" "$links/on/$(uname -m)"; done
+  for part in "$tools"/*; do [ "${part##*/}" = bin ] || ln -s "$part" "$links/on/$(uname -m)/toolchain"; done
+  for part in "$tools"/bin/*; do [ "${part##*/}" = clang ] || ln -s "$part" "$links/on/$(uname -m)/toolchain/bin"; done
+  # a clang that copies the module it is handed, and then is clang
+  printf '#!/bin/sh\nfor word in "$@"; do case $word in *.bc) cp "$word" "%s" ;; esac; done\nexec "%s" "$@"\n' "$made/$1.bc" "$tools/bin/clang" >"$links/on/$(uname -m)/toolchain/bin/clang"
+  chmod +x "$links/on/$(uname -m)/toolchain/bin/clang"
+  quietly env RATTLE_HOME="$links" rt staticlib "$1"
+  quietly "$tools/bin/clang" --target=x86_64-unknown-linux-gnu -S -emit-llvm -Xclang -disable-llvm-passes -x ir "$made/$1.bc" -o "$made/$1.ll"
+}
