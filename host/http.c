@@ -243,6 +243,7 @@ void http_drain(struct http *h) {
 void http_end(struct http *h) {
     while (h->requests) {
         uint64_t id = h->requests->id;
+        if (!h->dead) gateway_note(h->gateway, "request lost with its connection");
         eistulko_reset(PAIR(h), id);
         drop(h, id);
     }
