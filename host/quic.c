@@ -376,6 +376,15 @@ static void write_packets(struct connection *c) {
 
 /* ---- packets in */
 
+/* Whether the ID is one that we gave this connection: a new client's own may begin like one. */
+static bool is_its_own(struct connection *c, const ngtcp2_version_cid *to) {
+    ngtcp2_cid *ours = must(calloc(ngtcp2_conn_get_num_scid(c->quic) + 1, sizeof *ours));
+    size_t n = ngtcp2_conn_get_scid(c->quic, ours), i = 0;
+    while (i < n && (ours[i].datalen != to->dcidlen || memcmp(ours[i].data, to->dcid, to->dcidlen))) i++;
+    free(ours);
+    return i < n;
+}
+
 static struct connection *addressee(struct server *s, const ngtcp2_version_cid *to) {
     for (size_t i = 0; i < CONNECTIONS; i++) {
         struct connection *c = s->connections[i];
@@ -383,7 +392,8 @@ static struct connection *addressee(struct server *s, const ngtcp2_version_cid *
     }
     if (to->dcidlen != CID_LENGTH) return NULL;
     size_t slot = (size_t)to->dcid[0] << 8 | to->dcid[1];
-    return slot < CONNECTIONS ? s->connections[slot] : NULL;
+    struct connection *c = slot < CONNECTIONS ? s->connections[slot] : NULL;
+    return c && is_its_own(c, to) ? c : NULL;
 }
 
 static void say_versions(struct server *s, const ngtcp2_version_cid *to, const ngtcp2_path *path) {
