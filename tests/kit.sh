@@ -12,10 +12,10 @@ quietly() { # COMMAND..: what it says is shown if it fails
     exit 1
   fi
 }
-link() { # PROGRAM.c OBJECT: the C program with the proved code, at $made/PROGRAM
+link() { # PROGRAM.c OBJECT [FLAG..]: the C program, compiled with the flags too, with the proved code, at $made/PROGRAM
   local name
   name=$(basename "$1" .c)
-  quietly "$tools/bin/clang" --target=x86_64-unknown-linux-gnu -O2 -fPIC -ffreestanding -nostdinc -Wall -Wextra -Werror -c "$1" -o "$made/$name.o"
+  quietly "$tools/bin/clang" --target=x86_64-unknown-linux-gnu -O2 -fPIC -ffreestanding -nostdinc -Wall -Wextra -Werror "${@:3}" -c "$1" -o "$made/$name.o"
   quietly "$own/bin/rattle-link" --target x86_64-unknown-linux-gnu --toolchain "$tools" -o "$made/$name" "$made/$name.o" "$2"
 }
 module() { # CRATE: proves it and makes its static library; the module behind it, as rattle hands it to clang, is left at $made/CRATE.ll
@@ -31,4 +31,14 @@ module() { # CRATE: proves it and makes its static library; the module behind it
   chmod +x "$links/on/$(uname -m)/toolchain/bin/clang"
   quietly env RATTLE_HOME="$links" rt staticlib "$1"
   quietly "$tools/bin/clang" --target=x86_64-unknown-linux-gnu -S -emit-llvm -Xclang -disable-llvm-passes -x ir "$made/$1.bc" -o "$made/$1.ll"
+}
+# What a C host links beside such a module, which returns a struct as x86-64 does.
+if [ "$(uname -m)" = x86_64 ]; then elsewhere=(); else elsewhere=(library/elsewhere.c); fi
+here() { # CRATE: its module for this machine, at $made/here.ll
+  if [ "$(uname -m)" = x86_64 ]; then
+    cp "$made/$1.ll" "$made/here.ll"
+  else
+    # Left out: which processor. A call that answers with a report has its place as first parameter there, and so gets a name of its own here.
+    sed -E 's/"(target|tune)-cpu"="[^"]*"//g; /^target (triple|datalayout)/d; s/^(define .*ptr @eistulko_[a-z]+)\(/\1_at(/' "$made/$1.ll" >"$made/here.ll"
+  fi
 }

@@ -1,14 +1,13 @@
 /* One feed of 256 MiB of empty frames, on a stack of its own that was marked: how much of it was used.
    Status 0 if every byte was consumed, every header counted, and no more than 64 KB used; and if the measure sees a use of more. */
 #include "feeds.h"
+#define MARKED (1ul << 20)
+#include "../stack.h"
 
 #define BYTES (1ul << 28)
-#define ROOM (1ul << 20)
 #define LIMIT (64ul << 10)
-#define MARK 0xa5
 
 static u8 frames[BYTES];
-static u8 room[ROOM] __attribute__((aligned(16)));
 static Stand at;
 static Report told;
 
@@ -17,27 +16,6 @@ static void fed(void) { told = eist_feed(at, frames, BYTES, ~0ul); }
 static void deep(void) {
     volatile u8 much[LIMIT];
     for (usize i = 0; i < sizeof much; i++) much[i] = 0;
-}
-
-/* Calls f with the stack pointer at top. The registers named are those that a call may change, and the one that keeps the old pointer. */
-static void on_stack(u8 *top, void (*f)(void)) {
-    __asm__ volatile("movq %%rsp, %%rbx\n\t"
-                     "movq %0, %%rsp\n\t"
-                     "callq *%1\n\t"
-                     "movq %%rbx, %%rsp"
-                     :
-                     : "r"(top), "r"(f)
-                     : "rbx", "rax", "rcx", "rdx", "rsi", "rdi", "r8", "r9", "r10", "r11", "memory", "cc", "xmm0", "xmm1",
-                       "xmm2", "xmm3", "xmm4", "xmm5", "xmm6", "xmm7", "xmm8", "xmm9", "xmm10", "xmm11", "xmm12", "xmm13",
-                       "xmm14", "xmm15");
-}
-
-static usize used_by(void (*f)(void)) {
-    usize left = 0;
-    for (usize i = 0; i < ROOM; i++) room[i] = MARK;
-    on_stack(room + ROOM, f);
-    while (left < ROOM && room[left] == MARK) left++;
-    return ROOM - left;
 }
 
 static usize put(u8 *line, const char *text, u64 number) {
