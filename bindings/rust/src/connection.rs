@@ -65,6 +65,31 @@ pub enum Qpack {
     Decoder,
 }
 
+/// Why a feed was refused, and where.
+#[derive(Clone, Copy, Debug, PartialEq, Eq, Hash)]
+pub struct FeedRefused {
+    /// Why.
+    pub why: Refused,
+    /// Bytes of the piece up to and including the one that brought the fault; 0 if it was none of the bytes'.
+    pub used: usize,
+    /// Frame headers finished in this piece, a faulty one counted.
+    pub heads: u64,
+}
+
+impl From<FeedRefused> for Refused {
+    fn from(refused: FeedRefused) -> Refused {
+        refused.why
+    }
+}
+
+impl std::fmt::Display for FeedRefused {
+    fn fmt(&self, to: &mut std::fmt::Formatter<'_>) -> std::fmt::Result {
+        write!(to, "{}, at byte {} of the piece", self.why, self.used)
+    }
+}
+
+impl std::error::Error for FeedRefused {}
+
 /// What an accepted end says of the stream. Its record is free either way.
 #[derive(Clone, Copy, Debug, PartialEq, Eq, Hash)]
 pub enum Ended {
@@ -121,8 +146,10 @@ impl Connection {
         id: StreamId,
         piece: &'piece [u8],
         allow: u64,
-    ) -> Result<Fed<'piece>, Refused> {
-        let report = raw::feed(&mut self.record, &mut self.row, id.0, piece, allow).accepted()?;
+    ) -> Result<Fed<'piece>, FeedRefused> {
+        let report = raw::feed(&mut self.record, &mut self.row, id.0, piece, allow);
+        let (used, heads) = (report.used as usize, report.heads);
+        Refused::unless_0(report.number).map_err(|why| FeedRefused { why, used, heads })?;
         let part = &piece[report.start as usize..][..report.len as usize];
         let event = match (report.event, report.value) {
             (0, _) => None,
@@ -136,7 +163,7 @@ impl Connection {
             (10, id) => Some(Event::MaxPushId(PushId(id))),
             _ => unreachable!("no event of a feed: {report:?}"),
         };
-        Ok(Fed { event, used: report.used as usize, heads: report.heads })
+        Ok(Fed { event, used, heads })
     }
 
     /// The section that is due, decoded, as a section block: a [`Block`](crate::Block), or bytes in its form.

@@ -79,7 +79,7 @@ mod refused;
 mod write;
 
 pub use block::{Block, TooLong};
-pub use connection::{Connection, Ended, Event, Fed, Qpack, Settings, GOAWAY_ROOM, NO_BOUND};
+pub use connection::{Connection, Ended, Event, Fed, FeedRefused, Qpack, Settings, GOAWAY_ROOM, NO_BOUND};
 pub use raw::RECORDS;
 pub use refused::Refused;
 pub use write::{

@@ -6,7 +6,9 @@
 mod common;
 
 use common::{block, hex, put, put_but, Random};
-use eistulko::{Block, Connection, Ended, Event, Fed, Refused, StreamId, GOAWAY_ROOM, NO_BOUND, RECORDS};
+use eistulko::{
+    Block, Connection, Ended, Event, Fed, FeedRefused, Refused, StreamId, GOAWAY_ROOM, NO_BOUND, RECORDS,
+};
 
 type Given = Result<(), Refused>;
 
@@ -284,7 +286,10 @@ fn random_calls() {
                 4 if random.below(8) == 0 => goaway(&mut connection, id),
                 4..=5 => connection.give(StreamId(id), &put(None)),
                 6 => connection.give(StreamId(id), &bytes),
-                _ => connection.feed(StreamId(id), &bytes, random.below(4) as u64).map(drop),
+                _ => connection
+                    .feed(StreamId(id), &bytes, random.below(4) as u64)
+                    .map(drop)
+                    .map_err(Refused::from),
             };
             if let Err(number) = answer {
                 given.insert(number);
@@ -299,4 +304,19 @@ fn random_calls() {
         }
     }
     assert!(given.len() >= 14, "{given:?}");
+}
+
+/// A fault tells the bytes up to and including the one that brought it, and the headers finished, the faulty one counted; a number of
+/// the house tells 0 and 0.
+#[test]
+fn a_refused_feed_tells_where() {
+    let mut connection = Connection::new();
+    let at = |why, used, heads| Err(FeedRefused { why, used, heads });
+    assert_eq!(connection.feed(StreamId(0), &[0, 0], NO_BOUND), at(Refused::NotOpen, 0, 0));
+    connection.open(StreamId(0)).unwrap();
+    assert_eq!(
+        connection.feed(StreamId(0), &[33, 0, 33, 1, 7, 4, 0, 9], NO_BOUND),
+        at(Refused::FrameUnexpected, 7, 3)
+    );
+    assert_eq!(connection.feed(StreamId(0), &[33, 0], NO_BOUND), at(Refused::FrameUnexpected, 0, 0));
 }
