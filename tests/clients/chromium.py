@@ -10,7 +10,8 @@ import page
 
 origin = f"https://localhost:{os.environ['PORT']}"
 command = [
-    "chromium", "--headless=new", "--no-sandbox", "--disable-gpu", "--disable-background-networking", "--remote-debugging-pipe",
+    "chromium", "--headless=new", "--no-sandbox", "--disable-gpu", "--disable-background-networking", "--disable-component-update",
+    "--no-first-run", "--remote-debugging-pipe",
     f"--user-data-dir={os.environ['WORK']}/profile", "--host-resolver-rules=MAP localhost 127.0.0.1",
     f"--origin-to-force-quic-on={origin[8:]}", f"--ignore-certificate-errors-spki-list={os.environ['PIN']}",
 ]  # fmt: skip
@@ -59,6 +60,13 @@ class Chromium:
         self.process.wait()
 
 
+def evaluate(script):
+    got = browser.ask("Runtime.evaluate", session, expression=script, awaitPromise=True, returnByValue=True)
+    if "exceptionDetails" in got:
+        sys.exit(got["exceptionDetails"]["exception"]["description"])
+    return got["result"]["value"]
+
+
 browser = Chromium()
 try:
     target = browser.ask("Target.createTarget", url="about:blank")["targetId"]
@@ -70,10 +78,14 @@ try:
     while "Page.loadEventFired" not in browser.events:
         browser.hear()
     sent = page.upload()
-    got = browser.ask("Runtime.evaluate", session, expression=f"({page.SCRIPT})({json.dumps(sent)}, {page.MANY})", awaitPromise=True, returnByValue=True)
-    if "exceptionDetails" in got:
-        sys.exit(got["exceptionDetails"]["exception"]["description"])
-    print(page.judge(sent, got["result"]["value"]))
+    words = ", ".join(json.dumps(word) for word in (sent, page.MANY, page.OVER))
+    said = page.judge(sent, evaluate(f"({page.SCRIPT})({words})"))
+    # a streamed body has no Content-Length, and is refused
+    streamed = evaluate(
+        "fetch('/settings', {method: 'PUT', duplex: 'half', body: new Blob(['half']).stream()}).then(r => String(r.status), String)"
+    )
+    assert streamed == "TypeError: Failed to fetch", f"a streamed PUT: {streamed}"
+    print(f"{said}; a streamed PUT, which has no Content-Length: '{streamed}'")
     browser.ask("Browser.close")
     browser.process.wait(20)
 finally:
