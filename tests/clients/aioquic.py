@@ -1,4 +1,3 @@
-#!/usr/bin/env python3
 """aioquic, a QUIC and HTTP/3 library in Python: a client as its documentation shows one. Its HTTP/3 connection is used only if ALPN said h3."""
 import asyncio
 import os

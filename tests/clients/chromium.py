@@ -1,4 +1,3 @@
-#!/usr/bin/env python3
 """Chromium, headless, over its debugging pipe: a message is JSON and a zero byte, to its descriptor 3 and from its descriptor 4."""
 import json
 import os
@@ -41,11 +40,14 @@ class Chromium:
         self.events.append(message.get("method"))
         return message
 
-    def ask(self, method, session=None, **parameters):
+    def tell(self, method, session=None, **parameters):
         self.count += 1
         message = {"id": self.count, "method": method, "params": parameters} | ({"sessionId": session} if session else {})
         self.asked.write(json.dumps(message).encode() + b"\0")
         self.asked.flush()
+
+    def ask(self, method, session=None, **parameters):
+        self.tell(method, session, **parameters)
         while (answer := self.hear()).get("id") != self.count:
             pass
         if "error" in answer:
@@ -86,7 +88,7 @@ try:
     )
     assert streamed == "TypeError: Failed to fetch", f"a streamed PUT: {streamed}"
     print(f"{said}; a streamed PUT, which has no Content-Length: '{streamed}'")
-    browser.ask("Browser.close")
+    browser.tell("Browser.close")  # it may be gone before it answers
     browser.process.wait(20)
 finally:
     browser.end()

@@ -1,4 +1,3 @@
-#!/usr/bin/env python3
 """firefox.py OPENSSL..: Firefox, headless, over Marionette: a message is its length in decimal, a colon and JSON; [0, id, command, parameters] is
 answered by [1, id, error, result]. Over HTTP/3 Firefox takes no exception for a certificate (acceptInsecureCerts changes nothing), so the gateway's
 own is fetched by OPENSSL, which must know QUIC, and trusted in the profile."""
@@ -31,8 +30,9 @@ preferences = {
 
 
 def trust():
-    told = subprocess.run([*sys.argv[1:], "s_client", "-quic", "-alpn", "h3", "-connect", f"127.0.0.1:{port}"], stdin=subprocess.DEVNULL, capture_output=True, text=True, timeout=30).stdout
-    certificate = re.search("-----BEGIN CERTIFICATE-----.*?-----END CERTIFICATE-----\n", told, re.DOTALL)
+    ask = [*sys.argv[1:], "s_client", "-quic", "-alpn", "h3", "-connect", f"127.0.0.1:{port}"]
+    told = subprocess.run(ask, stdin=subprocess.DEVNULL, capture_output=True, text=True, timeout=30)
+    certificate = re.search("-----BEGIN CERTIFICATE-----.*?-----END CERTIFICATE-----\n", told.stdout, re.DOTALL)
     if not certificate:
         sys.exit("openssl told no certificate")
     store = ["-d", f"sql:{work}/profile"]
