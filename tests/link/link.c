@@ -49,7 +49,8 @@ static uint64_t fed(uint64_t id, const uint8_t *bytes, size_t count, const text 
         if (r.number) return came(r.number);
         if (r.event == EISTULKO_CONTENT) add(content, bytes + r.start, r.len);
         bytes += r.used, count -= r.used;
-        if (r.event == EISTULKO_SECTION_END && given(id, block)) return given(id, block);
+        uint64_t number = r.event == EISTULKO_SECTION_END ? given(id, block) : 0;
+        if (number) return number;
     }
     return 0;
 }

@@ -131,12 +131,21 @@ static const token of_begin[] = {
     FRAME("\x00\x07\x01"), FRAME("\x00\x04\x02\x02\x00"), FRAME("\x00\x04\x04\x06\x01\x06\x02"), FRAME("\x00\x04\x01\x06"), FRAME("\x00\x04\x41\x01"),
 };
 
-/* Field lines; the first four are a sound request, and may stand with those up to the first Content-Length. */
+/* What a request has to say, each in four ways: the first is sound. */
+static const char *const asked[4][5] = {
+    {":method", "PUT", "OPTIONS", "CONNECT", ""},
+    {":scheme", "https", "http", "ftp", ""},
+    {":path", "/", "*", "x", ""},
+    {":authority", "h", "g", "a@h", ""},
+};
+
+/* What else it may say, the sound ones first. */
 static const char *const fields[][2] = {
-    {":method", "PUT"}, {":scheme", "https"}, {":path", "/"}, {":authority", "h"}, {"host", "h"}, {"name", "v"}, {"name", ""}, {"te", "trailers"},
-    {"content-length", "3"}, {"content-length", "6"}, {"content-length", "1048576"}, {"content-length", "1048577"}, {"content-length", "4611686018427387904"},
-    {"content-length", "3x"}, {"host", "g"}, {":method", "CONNECT"}, {":scheme", "ftp"}, {":path", "*"}, {":authority", "a@h"}, {":status", "200"},
-    {"te", "gzip"}, {"connection", "close"}, {"Name", "v"}, {"name", " v"}, {"", "v"}, {"na me", "v"}, {"name", "a\x01"}, {"transfer-encoding", "x"},
+    {"host", "h"}, {"name", "v"}, {"name", ""}, {"te", "trailers"}, {"cookie", "a=b\x09\x80"}, {"content-length", "0"}, {"content-length", "3"},
+    {"content-length", "6"}, {"content-length", "1048576"}, {"content-length", "0003"}, {"content-length", "1048577"}, {"content-length", "4611686018427387904"},
+    {"content-length", "99999999999999999999999"}, {"content-length", "3x"}, {"content-length", ""}, {"host", "g"}, {"host", ""}, {":status", "200"},
+    {":path", "/"}, {"te", "gzip"}, {"connection", "close"}, {"keep-alive", "1"}, {"proxy-connection", "x"}, {"transfer-encoding", "x"}, {"upgrade", "x"},
+    {"Name", "v"}, {"name", " v"}, {"name", "v\x09"}, {"", "v"}, {"na me", "v"}, {"name", "a\x01"},
 };
 
 static size_t length_of(const char *s) {
@@ -154,7 +163,14 @@ static void add_line(text *t, const char *name, const char *value) {
 }
 
 static void add_sound(text *t) {
-    for (unsigned i = 0; i < 4; i++) add_line(t, fields[i][0], fields[i][1]);
+    for (unsigned i = 0; i < 4; i++) add_line(t, asked[i][0], asked[i][1]);
+}
+
+/* As many bytes of name and value as a section may have, and more with any other line. */
+static void add_long_line(text *t) {
+    static char value[16384];
+    memset(value, 'v', sizeof value - 1);
+    add_line(t, "n", value);
 }
 
 /* One of so many, and mostly of the first half. */
@@ -186,15 +202,24 @@ static void take_piece(source *s, text *t, unsigned stream) {
     take_cut(s, t);
 }
 
+static void take_asked(source *s, text *t) {
+    for (unsigned i = 0; i < 4; i++) {
+        unsigned which = (unsigned)take(s, 1);
+        if (which < 240) add_line(t, asked[i][0], asked[i][1 + (which < 160 ? 0 : which % 4)]);
+    }
+}
+
 static void take_block(source *s, text *t) {
     unsigned how = (unsigned)take(s, 1) % 16;
     t->count = 0;
     if (how == 0) take_raw(s, t);
-    if (how > 3) add_sound(t);
+    else if (how < 4) take_asked(s, t);
+    else if (how < 14) add_sound(t);
     for (unsigned i = (unsigned)take(s, 1) % 4; i; i--) {
-        size_t which = 4 + take_choice(s, COUNT(fields) - 4);
+        size_t which = take_choice(s, COUNT(fields));
         add_line(t, fields[which][0], fields[which][1]);
     }
+    if (take(s, 1) > 250) add_long_line(t);
     take_cut(s, t);
 }
 
