@@ -227,15 +227,15 @@ static void take_block(source *s, text *t) {
 
 typedef struct {
     memory lent;
-    int sound;        /* what a call may count on: see `call` */
-    text piece;       /* of the last feed.. */
-    uint64_t id;      /* ..its stream.. */
-    size_t used;      /* ..and how much of it was consumed */
-    way *by;
-    kind kind;       /* of the last call.. */
-    uint64_t number; /* ..and what it answered */
-    uint64_t calls, kinds[KINDS];          /* how many were made, in all and of each kind */
-    uint64_t numbers[0x10f], events[13];   /* how often each came while the connection lived */
+    int sound;                           /* what a call may count on: see `call` */
+    text piece;                          /* of the last feed.. */
+    uint64_t id;                         /* ..its stream.. */
+    size_t used;                         /* ..and how much of it was consumed */
+    way *by;                             /* how calls are made */
+    kind kind;                           /* of the last one.. */
+    uint64_t number, event;              /* ..and what it answered */
+    uint64_t calls, kinds[KINDS];        /* how many were made, in all and of each kind */
+    uint64_t numbers[0x10f], events[13]; /* how often each came while the connection lived */
 } play;
 
 static int may_be_for(kind k, const eistulko_record *r) { return r->kind && (k != GIVE || r->mode == 6 || r->mode == 7); }
@@ -273,7 +273,7 @@ static const char *make(play *p, const call *c, answer *a) {
     known.sound = p->sound;
     const char *rule = held(p->by, &known, &p->lent, a);
     if (c->kind == START && a->report.number == 0) p->sound = 1;
-    p->kind = c->kind, p->number = a->report.number + a->written.number;
+    p->kind = c->kind, p->number = a->report.number + a->written.number, p->event = a->report.event;
     p->calls++;
     p->kinds[c->kind]++;
     if (!rule && alive) p->numbers[p->number]++, p->events[a->report.event]++;
@@ -316,8 +316,10 @@ static const char *call_stream(play *p, source *s, kind k) {
 static const char *write_frame(play *p, source *s, kind k) {
     uint8_t room[24];
     memset(room, (int)take(s, 1), sizeof room);
-    uint64_t id = k == GOAWAY ? 4 * take_number(s) + (take(s, 1) > 240) : take_number(s);
-    call c = {k, EISTULKO_RECORDS, id, take_number(s), room, take(s, 1) % (sizeof room + 1), 0};
+    uint64_t id = take_number(s), value = take_number(s);
+    size_t bytes = (size_t)take(s, 1) % (sizeof room + 1);
+    if (k == GOAWAY && value != 1) id *= 4; /* mostly an ID that ours may have */
+    call c = {k, EISTULKO_RECORDS, id, value, room, bytes, 0};
     answer a;
     return make(p, &c, &a);
 }
@@ -345,12 +347,15 @@ static void fill(play *p, source *s) {
         for (unsigned i = 0; i < EISTULKO_RECORDS; i++) fill_record(s, m->row + i);
     }
     p->sound = how < 9;
-    p->piece.count = p->used = 0, p->id = 0;
+    p->piece.count = p->used = 0, p->id = p->event = 0;
 }
 
 static const char *step(play *p, source *s) {
     unsigned which = (unsigned)take(s, 1) % 32;
     if (which % 2) p->lent.connection.code = 0; /* after a fault, all is as before it */
+    /* mostly a host goes on with what it has read */
+    if (which >= 8 && p->event == EISTULKO_SECTION_END) return call_stream(p, s, GIVE);
+    if (which >= 8 && p->number == 0 && p->used < p->piece.count) return feed_again(p, s);
     if (which < 6) return call_stream(p, s, OPEN);
     if (which < 14) return feed_piece(p, s);
     if (which < 18) return feed_again(p, s);
