@@ -4,8 +4,9 @@
 
 #include <nghttp3/nghttp3.h>
 
+/* With no table, a section needs nothing of another, nor of the client's encoder stream: so each has a decoder of its own. */
 struct qpack {
-    nghttp3_qpack_decoder *decoder;
+    nghttp3_qpack_decoder *sections, *instructions;
     nghttp3_qpack_encoder *encoder;
 };
 
@@ -13,15 +14,23 @@ static void sure(int failed) {
     if (failed) must(NULL);
 }
 
+static nghttp3_qpack_decoder *new_decoder(void) {
+    nghttp3_qpack_decoder *d;
+    sure(nghttp3_qpack_decoder_new(&d, 0, 0, nghttp3_mem_default()));
+    return d;
+}
+
 struct qpack *qpack_new(void) {
     struct qpack *q = must(calloc(1, sizeof *q));
-    sure(nghttp3_qpack_decoder_new(&q->decoder, 0, 0, nghttp3_mem_default()));
+    q->sections = new_decoder();
+    q->instructions = new_decoder();
     sure(nghttp3_qpack_encoder_new(&q->encoder, 0, nghttp3_mem_default()));
     return q;
 }
 
 void qpack_free(struct qpack *q) {
-    nghttp3_qpack_decoder_del(q->decoder);
+    nghttp3_qpack_decoder_del(q->sections);
+    nghttp3_qpack_decoder_del(q->instructions);
     nghttp3_qpack_encoder_del(q->encoder);
     free(q);
 }
@@ -48,7 +57,7 @@ static uint64_t decode(struct qpack *q, nghttp3_qpack_stream_context *context, c
     for (;;) {
         nghttp3_qpack_nv line;
         uint8_t flags = 0;
-        nghttp3_ssize n = nghttp3_qpack_decoder_read_request(q->decoder, context, &line, &flags, payload, count, 1);
+        nghttp3_ssize n = nghttp3_qpack_decoder_read_request(q->sections, context, &line, &flags, payload, count, 1);
         if (n == NGHTTP3_ERR_QPACK_HEADER_TOO_LARGE) return EISTULKO_REQUEST_REJECTED;
         if (n < 0) return QPACK_DECOMPRESSION_FAILED;
         payload += n;
@@ -69,11 +78,15 @@ uint64_t qpack_decode(struct qpack *q, uint64_t stream, const uint8_t *payload, 
     sure(nghttp3_qpack_stream_context_new(&context, (int64_t)stream, nghttp3_mem_default()));
     uint64_t code = decode(q, context, payload, count, block);
     nghttp3_qpack_stream_context_del(context);
+    if (code) { /* a decoder that refused one section refuses all that follow */
+        nghttp3_qpack_decoder_del(q->sections);
+        q->sections = new_decoder();
+    }
     return code;
 }
 
 uint64_t qpack_heard(struct qpack *q, uint64_t type, const uint8_t *bytes, size_t count) {
-    if (type == 2) return nghttp3_qpack_decoder_read_encoder(q->decoder, bytes, count) < 0 ? QPACK_ENCODER_STREAM_ERROR : 0;
+    if (type == 2) return nghttp3_qpack_decoder_read_encoder(q->instructions, bytes, count) < 0 ? QPACK_ENCODER_STREAM_ERROR : 0;
     return nghttp3_qpack_encoder_read_decoder(q->encoder, bytes, count) < 0 ? QPACK_DECODER_STREAM_ERROR : 0;
 }
 
