@@ -194,6 +194,12 @@ static void finish(struct http *h, uint64_t id) {
     drop(h, id);
 }
 
+void http_opened(struct http *h, uint64_t id) {
+    bool met = id < (id & 2 ? h->connection.oneways : h->connection.requests);
+    meet(h, id);
+    if (met && !h->dead && is_over(h, id)) h->stack.refuse(h->stack.self, id, EISTULKO_REQUEST_REJECTED);
+}
+
 void http_bytes(struct http *h, uint64_t id, const uint8_t *piece, size_t count, int fin) {
     meet(h, id);
     while (count && !is_over(h, id)) {

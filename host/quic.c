@@ -149,8 +149,10 @@ static int on_handshake(ngtcp2_conn *quic, void *self) {
 
 static int on_open(ngtcp2_conn *quic, int64_t id, void *self) {
     (void)quic;
-    if (ngtcp2_is_bidi_stream(id)) add_stream(self, id);
-    return 0;
+    struct connection *c = self;
+    if (ngtcp2_is_bidi_stream(id)) add_stream(c, id);
+    http_opened(&c->http, (uint64_t)id);
+    return verdict(c);
 }
 
 static int on_bytes(ngtcp2_conn *quic, uint32_t flags, int64_t id, uint64_t offset, const uint8_t *bytes, size_t count, void *self, void *of_stream) {
