@@ -237,10 +237,12 @@ void http_handshake(struct http *h) {
     h->control = h->stack.open(h->stack.self);
     h->stack.send(h->stack.self, h->control, opening, w.count, 0);
     h->ready = 1;
+    if (h->draining) http_drain(h);
 }
 
 void http_drain(struct http *h) {
     uint8_t frame[10];
+    h->draining = 1;
     if (!h->ready || h->dead) return;
     eistulko_written w = eistulko_goaway(&h->connection, h->connection.requests, frame, sizeof frame);
     if (w.number == EISTULKO_ACCEPTED) h->stack.send(h->stack.self, h->control, frame, w.count, 0);

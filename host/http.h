@@ -31,6 +31,7 @@ struct http {
     struct request *requests; /* those that are open, in no order */
     uint64_t control;         /* our control stream */
     int ready, dead;          /* whether it is open; whether the connection was closed by us */
+    int draining;             /* no new requests are wanted */
     uint64_t whole, refused;  /* requests that came so far */
 };
 

@@ -8,8 +8,8 @@
 #include <arpa/inet.h>
 #include <signal.h>
 
-#define DRAIN_TURNS 40
-#define DRAIN_MS 50
+#define DRAIN_MS 2000
+#define DRAIN_TURN_MS 50
 
 static volatile sig_atomic_t stopped;
 
@@ -25,6 +25,13 @@ static void same_sizes(void) {
         return;
     fputs("gateway: the library is not of this header\n", stderr);
     exit(1);
+}
+
+/* By the clock: a busy client makes turns short. The first ones send our GOAWAY. */
+static void drain(struct server *s) {
+    server_drain(s);
+    uint64_t end = server_ms() + DRAIN_MS;
+    for (int k = 0; server_ms() < end && (k < 2 || !server_is_idle(s)); k++) server_turn(s, DRAIN_TURN_MS);
 }
 
 int main(int count, char **words) {
@@ -53,8 +60,7 @@ int main(int count, char **words) {
     }
     printf("listening on 127.0.0.1:%d, certificate pin %s\n", ntohs(s.here.sin_port), pin);
     while (!stopped) server_turn(&s, 1000);
-    server_drain(&s);
-    for (int k = 0; k < DRAIN_TURNS && (k < 2 || !server_is_idle(&s)); k++) server_turn(&s, DRAIN_MS);
+    drain(&s);
     server_close(&s);
     gnutls_certificate_free_credentials(s.certificate);
     gateway_close(&g);

@@ -415,7 +415,7 @@ static void receive(struct server *s, const uint8_t *packet, size_t count, struc
     struct connection *c = addressee(s, &to);
     if (!c) {
         ngtcp2_pkt_hd head;
-        if (ngtcp2_accept(&head, packet, count)) return;
+        if (s->draining || ngtcp2_accept(&head, packet, count)) return;
         c = accept_one(s, &head, &path);
         if (!c) return;
     }
@@ -463,6 +463,8 @@ static int until_timer(struct server *s, int most_ms) {
     return ms < (uint64_t)most_ms ? (int)ms : most_ms;
 }
 
+uint64_t server_ms(void) { return now() / NGTCP2_MILLISECONDS; }
+
 void server_turn(struct server *s, int most_ms) {
     struct pollfd in = {.fd = s->socket, .events = POLLIN};
     poll(&in, 1, until_timer(s, most_ms));
@@ -489,14 +491,22 @@ int server_open(struct server *s, uint16_t port) {
 }
 
 void server_drain(struct server *s) {
+    s->draining = 1;
     for (size_t i = 0; i < CONNECTIONS; i++)
         if (s->connections[i]) http_drain(&s->connections[i]->http);
+}
+
+/* A request is open, or an answer was not taken yet by the client. */
+static bool is_busy(const struct connection *c) {
+    const struct stream *s = c->streams;
+    while (s && !ngtcp2_is_bidi_stream(s->id)) s = s->next;
+    return c->http.requests || s;
 }
 
 int server_is_idle(struct server *s) {
     for (size_t i = 0; i < CONNECTIONS; i++) {
         struct connection *c = s->connections[i];
-        if (c && !c->farewell_count && (c->http.requests || next_to_send(c))) return 0;
+        if (c && !c->farewell_count && is_busy(c)) return 0;
     }
     return 1;
 }

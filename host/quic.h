@@ -22,6 +22,7 @@ struct server {
     gnutls_certificate_credentials_t certificate;
     struct gateway *gateway;
     uint8_t secret[32];
+    int draining; /* no new connection is taken */
     struct connection *connections[CONNECTIONS];
 };
 
@@ -31,6 +32,7 @@ void server_close(struct server *s);
 
 void server_turn(struct server *s, int most_ms); /* waits for packets or a timer, and handles them */
 void server_drain(struct server *s);             /* our GOAWAY on every connection */
-int server_is_idle(struct server *s);            /* no request is open and nothing is left to send */
+int server_is_idle(struct server *s);            /* no request is open and every answer was taken */
+uint64_t server_ms(void);                        /* the clock of its timers */
 
 #endif
