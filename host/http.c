@@ -221,7 +221,8 @@ void http_reset(struct http *h, uint64_t id) {
 }
 
 void http_closed(struct http *h, uint64_t id) {
-    if (find(h, id)) http_reset(h, id);
+    if (h->ready && id == h->control) close_with(h, EISTULKO_CLOSED_CRITICAL_STREAM); /* the client asked us to stop: RFC 9114, 6.2.1 */
+    else if (find(h, id)) http_reset(h, id);
 }
 
 /* ---- the connection */

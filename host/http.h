@@ -44,7 +44,7 @@ void http_handshake(struct http *h);                                            
 void http_opened(struct http *h, uint64_t id); /* the first sign of a stream of the client's; one barred along with a higher one is refused now */
 void http_bytes(struct http *h, uint64_t id, const uint8_t *piece, size_t count, int fin); /* the next bytes of a stream of the client's */
 void http_reset(struct http *h, uint64_t id);  /* the client reset a stream of its own */
-void http_closed(struct http *h, uint64_t id); /* the stack gave a stream up; it may have ended, or not */
+void http_closed(struct http *h, uint64_t id); /* the stack gave a stream up, the client's or ours; it may have ended, or not */
 
 /* ---- the host's own */
 

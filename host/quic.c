@@ -175,7 +175,7 @@ static int on_close(ngtcp2_conn *quic, uint32_t flags, int64_t id, uint64_t code
     (void)flags, (void)code, (void)of_stream;
     struct connection *c = self;
     bool ours = ngtcp2_conn_is_local_stream(quic, id);
-    if (!ours) http_closed(&c->http, (uint64_t)id);
+    http_closed(&c->http, (uint64_t)id);
     drop_stream(c, id);
     if (!ours && ngtcp2_is_bidi_stream(id)) ngtcp2_conn_extend_max_streams_bidi(quic, 1);
     if (!ours && !ngtcp2_is_bidi_stream(id)) ngtcp2_conn_extend_max_streams_uni(quic, 1);
