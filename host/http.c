@@ -88,15 +88,17 @@ static void send_frame(struct http *h, uint64_t id, uint64_t type, const uint8_t
     if (count) h->stack.send(h->stack.self, id, payload, count, fin);
 }
 
-static void answer(struct http *h, uint64_t id, const struct answer *a) {
+/* HEAD gets the fields alone. */
+static void answer(struct http *h, const struct request *r, const struct answer *a) {
+    bool bare = !strcmp(r->method, "HEAD");
     char status[12], length[24];
     snprintf(status, sizeof status, "%d", a->status);
     snprintf(length, sizeof length, "%zu", a->content.count);
     struct line lines[] = {{":status", status}, {"content-type", "text/plain"}, {"content-length", length}, {"allow", a->allow}};
     struct bytes section = {0};
-    qpack_encode(h->qpack, id, lines, a->allow ? 4 : 3, &section);
-    send_frame(h, id, 1, section.at, section.count, 0);
-    send_frame(h, id, 0, a->content.at, a->content.count, 1);
+    qpack_encode(h->qpack, r->id, lines, a->allow ? 4 : 3, &section);
+    send_frame(h, r->id, 1, section.at, section.count, bare);
+    if (!bare) send_frame(h, r->id, 0, a->content.at, a->content.count, 1);
     bytes_free(&section);
 }
 
@@ -105,7 +107,7 @@ static void act(struct http *h, struct request *r) {
     struct asked q = {r->method, r->path, r->content.at, r->content.count};
     h->whole++;
     gateway_answer(h->gateway, &q, &a);
-    answer(h, r->id, &a);
+    answer(h, r, &a);
     bytes_free(&a.content);
 }
 
