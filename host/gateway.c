@@ -42,8 +42,12 @@ static int keep_settings(struct gateway *g, const uint8_t *from, size_t count) {
     if (file < 0) return -1;
     int failed = write_all(file, from, count) || fsync(file);
     failed = close(file) || failed;
-    if (failed) return -1;
-    if (renameat(g->folder, "settings.new", g->folder, "settings")) return -1;
+    if (failed || renameat(g->folder, "settings.new", g->folder, "settings")) {
+        int why = errno;
+        unlinkat(g->folder, "settings.new", 0); /* on a full disk, its room is wanted */
+        errno = why;
+        return -1;
+    }
     return fsync(g->folder);
 }
 
