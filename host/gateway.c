@@ -9,15 +9,31 @@
 #include <unistd.h>
 
 #define LOG_SHOWN (1 << 20) /* the last bytes of the log that are shown */
+#define LOG_KEPT (4 << 20)  /* a log of this size becomes the old one: whoever makes lines does not fill the disk */
 
 /* ---- files */
+
+static int open_log(struct gateway *g) {
+    return openat(g->folder, "log", O_CREAT | O_RDWR | O_APPEND | O_CLOEXEC, 0644);
+}
 
 int gateway_open(struct gateway *g, const char *folder) {
     if (mkdir(folder, 0755) && errno != EEXIST) return -1;
     g->folder = open(folder, O_RDONLY | O_DIRECTORY | O_CLOEXEC);
     if (g->folder < 0) return -1;
-    g->log = openat(g->folder, "log", O_CREAT | O_RDWR | O_APPEND | O_CLOEXEC, 0644);
+    g->log = open_log(g);
     return g->log < 0 ? -1 : 0;
+}
+
+/* Where that fails, the log at hand goes on. */
+static void turn_log(struct gateway *g) {
+    struct stat about;
+    if (fstat(g->log, &about) || about.st_size < LOG_KEPT) return;
+    if (renameat(g->folder, "log", g->folder, "log.old") && errno != ENOENT) return;
+    int fresh = open_log(g);
+    if (fresh < 0) return;
+    close(g->log);
+    g->log = fresh;
 }
 
 void gateway_close(struct gateway *g) {
@@ -87,6 +103,7 @@ void gateway_note(struct gateway *g, const char *form, ...) {
     if (k < 0) return;
     n += (size_t)k < sizeof line - n - 1 ? (size_t)k : sizeof line - n - 2;
     line[n++] = '\n';
+    turn_log(g);
     if (write_all(g->log, (const uint8_t *)line, n)) perror("log");
 }
 

@@ -4,7 +4,7 @@
 
 #include "bytes.h"
 
-/* A folder with `settings`, the settings in force, and `log`, a line for each thing that happened. */
+/* A folder with `settings`, the settings in force, and `log`, a line for each thing that happened; `log.old` is what went before it. */
 struct gateway {
     int folder, log;
 };
