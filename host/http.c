@@ -50,6 +50,12 @@ size_t http_open_requests(struct http *h) {
     return n;
 }
 
+size_t http_held(struct http *h) {
+    size_t n = 0;
+    for (struct request *r = h->requests; r; r = r->next) n += sizeof *r + r->section.room + r->content.room;
+    return n;
+}
+
 /* ---- refusals */
 
 static void close_with(struct http *h, uint64_t code) {

@@ -50,5 +50,6 @@ void http_closed(struct http *h, uint64_t id); /* the stack gave a stream up, th
 
 void http_drain(struct http *h);           /* our GOAWAY: no new requests */
 size_t http_open_requests(struct http *h); /* records of requests that are taken */
+size_t http_held(struct http *h);          /* bytes of memory that open requests take */
 
 #endif

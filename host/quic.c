@@ -20,7 +20,8 @@
 #define PACKET 1452            /* the most that a datagram of ours holds */
 #define PACKETS_A_TURN 64      /* of one connection, before the others' */
 #define STREAM_WINDOW (256 << 10)
-#define WINDOW (1 << 20)
+#define WINDOW (256 << 10)    /* what a client can make libngtcp2 keep, of bytes that came before their turn */
+#define HELD_MOST (128 << 20) /* bytes kept for all connections: each could have 21 requests of 1 MiB open, or as many answers */
 
 /* Bytes handed to the stack: they stay in place until the stream is closed, since a lost packet is made anew from them. */
 struct chunk {
@@ -46,6 +47,8 @@ struct connection {
     ngtcp2_cid first; /* what the client called us in its first packets */
     struct stream *streams;
     struct http http;
+    size_t held; /* bytes kept for it when last counted */
+    bool over;   /* its requests and streams are gone */
     bool failed; /* HTTP closes the connection, with this: */
     uint64_t code;
     uint8_t farewell[PACKET]; /* our CONNECTION_CLOSE, said again to whoever still sends */
@@ -232,11 +235,27 @@ static const ngtcp2_callbacks callbacks = {
 
 /* ---- connections */
 
-static void forget(struct connection *c) {
+static void count_held(struct connection *c) {
+    size_t held = c->over ? 0 : http_held(&c->http);
+    for (struct stream *s = c->streams; s; s = s->next)
+        for (struct chunk *k = s->first; k; k = k->next) held += k->count;
+    c->server->held += held - c->held;
+    c->held = held;
+}
+
+/* No event comes any more: what was kept for it is freed, also where its CONNECTION_CLOSE is still to be said again. */
+static void end_streams(struct connection *c) {
+    if (c->over) return;
+    c->over = true;
     printf("connection over: %" PRIu64 " whole, %" PRIu64 " refused", c->http.whole, c->http.refused);
     http_end(&c->http);
     printf(", %zu request records taken\n", http_open_requests(&c->http));
     while (c->streams) drop_stream(c, c->streams->id);
+    count_held(c);
+}
+
+static void forget(struct connection *c) {
+    end_streams(c);
     ngtcp2_conn_del(c->quic);
     gnutls_deinit(c->tls);
     c->server->connections[c->slot] = NULL;
@@ -318,6 +337,19 @@ static void bid_farewell(struct connection *c, int error) {
     transmit(c->server, &path.path, c->farewell, (size_t)n);
     c->farewell_count = (size_t)n;
     c->forget = now() + 3 * ngtcp2_conn_get_pto(c->quic);
+    end_streams(c);
+}
+
+/* Where too much is kept in all, the connection that has the most of it is closed: the others are served on. */
+static void lighten(struct server *s) {
+    while (s->held > HELD_MOST) {
+        struct connection *most = NULL;
+        for (size_t i = 0; i < CONNECTIONS; i++)
+            if (s->connections[i] && (!most || s->connections[i]->held > most->held)) most = s->connections[i];
+        gateway_note(s->gateway, "connection closed with 0x%04x, as it took the most memory", EISTULKO_EXCESSIVE_LOAD);
+        close_connection(most, EISTULKO_EXCESSIVE_LOAD);
+        bid_farewell(most, 0);
+    }
 }
 
 static struct stream *next_to_send(struct connection *c) {
@@ -425,8 +457,10 @@ static void receive(struct server *s, const uint8_t *packet, size_t count, struc
     }
     ngtcp2_pkt_info info = {0};
     error = ngtcp2_conn_read_pkt(c->quic, &path, &info, packet, count, now());
+    count_held(c);
     if (error == NGTCP2_ERR_DRAINING || error == NGTCP2_ERR_DROP_CONN) forget(c);
     else if (error) bid_farewell(c, error);
+    lighten(s);
 }
 
 /* ---- turns */

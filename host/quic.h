@@ -23,6 +23,7 @@ struct server {
     struct gateway *gateway;
     uint8_t secret[32];
     int draining; /* no new connection is taken */
+    size_t held; /* bytes kept for all connections: what came of requests, and answers */
     struct connection *connections[CONNECTIONS];
 };
 
