@@ -53,6 +53,7 @@ struct connection {
     uint64_t code;
     uint8_t farewell[PACKET]; /* our CONNECTION_CLOSE, said again to whoever still sends */
     size_t farewell_count;
+    uint64_t after; /* packets that came since */
     ngtcp2_tstamp forget; /* when even that ends */
 };
 
@@ -340,6 +341,12 @@ static void bid_farewell(struct connection *c, int error) {
     end_streams(c);
 }
 
+/* Ever more seldom, and never much longer than what asks for it: who sends under another's address does not make us flood that one. */
+static void repeat_farewell(struct connection *c, const ngtcp2_path *path, size_t count) {
+    c->after++;
+    if ((c->after & (c->after - 1)) == 0 && c->farewell_count <= 3 * count) transmit(c->server, path, c->farewell, c->farewell_count);
+}
+
 /* Where too much is kept in all, the connection that has the most of it is closed: the others are served on. */
 static void lighten(struct server *s) {
     while (s->held > HELD_MOST) {
@@ -452,7 +459,7 @@ static void receive(struct server *s, const uint8_t *packet, size_t count, struc
         if (!c) return;
     }
     if (c->farewell_count) {
-        transmit(s, &path, c->farewell, c->farewell_count);
+        repeat_farewell(c, &path, count);
         return;
     }
     ngtcp2_pkt_info info = {0};
@@ -507,8 +514,8 @@ void server_turn(struct server *s, int most_ms) {
         struct sockaddr_in from;
         socklen_t size = sizeof from;
         ssize_t n = recvfrom(s->socket, packet, sizeof packet, 0, (struct sockaddr *)&from, &size);
-        if (n <= 0) break;
-        receive(s, packet, (size_t)n, &from);
+        if (n < 0) break;
+        if (n) receive(s, packet, (size_t)n, &from); /* an empty one is nothing, and others may wait behind it */
     }
     ngtcp2_tstamp at = now();
     for (size_t i = 0; i < CONNECTIONS; i++)
