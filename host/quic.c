@@ -45,6 +45,7 @@ struct connection {
     gnutls_session_t tls;
     ngtcp2_crypto_conn_ref ref;
     ngtcp2_cid first; /* what the client called us in its first packets */
+    ngtcp2_tstamp heard; /* when its last packet came */
     struct stream *streams;
     struct http http;
     size_t held; /* bytes kept for it when last counted */
@@ -297,22 +298,6 @@ static int begin_quic(struct connection *c, const ngtcp2_pkt_hd *head, const ngt
     return 0;
 }
 
-static struct connection *accept_one(struct server *s, const ngtcp2_pkt_hd *head, const ngtcp2_path *path) {
-    size_t slot = 0;
-    while (slot < CONNECTIONS && s->connections[slot]) slot++;
-    if (slot == CONNECTIONS) return NULL;
-    struct connection *c = must(calloc(1, sizeof *c));
-    *c = (struct connection){.server = s, .slot = slot, .first = head->dcid};
-    if (begin_tls(c) || begin_quic(c, head, path)) {
-        if (c->tls) gnutls_deinit(c->tls);
-        free(c);
-        return NULL;
-    }
-    http_begin(&c->http, (struct stack){c, open_oneway, send_bytes, refuse_stream, close_connection}, s->gateway);
-    s->connections[slot] = c;
-    return c;
-}
-
 /* ---- packets out */
 
 static void transmit(struct server *s, const ngtcp2_path *path, const uint8_t *packet, size_t count) {
@@ -415,6 +400,47 @@ static void write_packets(struct connection *c) {
     ngtcp2_conn_update_pkt_tx_time(c->quic, at);
 }
 
+/* ---- places */
+
+/* Who gives way first: one that is closed already, then one without a handshake, which costs a client nothing. */
+static int rank(struct connection *c) {
+    if (c->farewell_count) return 0;
+    return ngtcp2_conn_get_handshake_completed(c->quic) ? 2 : 1;
+}
+
+static bool gives_way(struct connection *c, struct connection *other) {
+    return rank(c) != rank(other) ? rank(c) < rank(other) : c->heard < other->heard;
+}
+
+/* Where every place is taken, the one heard of longest ago gives way: many idle connections keep no new client out. */
+static size_t free_slot(struct server *s) {
+    size_t least = 0;
+    for (size_t i = 0; i < CONNECTIONS; i++) {
+        if (!s->connections[i]) return i;
+        if (gives_way(s->connections[i], s->connections[least])) least = i;
+    }
+    if (rank(s->connections[least]) == 2) {
+        close_connection(s->connections[least], EISTULKO_EXCESSIVE_LOAD);
+        bid_farewell(s->connections[least], 0);
+    }
+    if (s->connections[least]) forget(s->connections[least]);
+    return least;
+}
+
+static struct connection *accept_one(struct server *s, const ngtcp2_pkt_hd *head, const ngtcp2_path *path) {
+    size_t slot = free_slot(s);
+    struct connection *c = must(calloc(1, sizeof *c));
+    *c = (struct connection){.server = s, .slot = slot, .first = head->dcid};
+    if (begin_tls(c) || begin_quic(c, head, path)) {
+        if (c->tls) gnutls_deinit(c->tls);
+        free(c);
+        return NULL;
+    }
+    http_begin(&c->http, (struct stack){c, open_oneway, send_bytes, refuse_stream, close_connection}, s->gateway);
+    s->connections[slot] = c;
+    return c;
+}
+
 /* ---- packets in */
 
 /* Whether the ID is one that we gave this connection: a new client's own may begin like one. */
@@ -463,7 +489,8 @@ static void receive(struct server *s, const uint8_t *packet, size_t count, struc
         return;
     }
     ngtcp2_pkt_info info = {0};
-    error = ngtcp2_conn_read_pkt(c->quic, &path, &info, packet, count, now());
+    c->heard = now();
+    error = ngtcp2_conn_read_pkt(c->quic, &path, &info, packet, count, c->heard);
     count_held(c);
     if (error == NGTCP2_ERR_DRAINING || error == NGTCP2_ERR_DROP_CONN) forget(c);
     else if (error) bid_farewell(c, error);
