@@ -170,9 +170,12 @@ static int on_bytes(ngtcp2_conn *quic, uint32_t flags, int64_t id, uint64_t offs
 }
 
 static int on_reset(ngtcp2_conn *quic, int64_t id, uint64_t size, uint64_t code, void *self, void *of_stream) {
-    (void)quic, (void)size, (void)code, (void)of_stream;
+    (void)size, (void)code, (void)of_stream;
     struct connection *c = self;
     http_reset(&c->http, (uint64_t)id);
+    struct stream *s = find_stream(c, id);
+    /* A request that was taken back has no answer. Were our side not ended too, the stream would never close, and none be granted for it. */
+    if (s && !s->first) ngtcp2_conn_shutdown_stream_write(quic, id, EISTULKO_REQUEST_CANCELLED);
     return verdict(c);
 }
 
