@@ -19,6 +19,7 @@
 #define CID_LENGTH 16
 #define PACKET 1452            /* the most that a datagram of ours holds */
 #define PACKETS_A_TURN 64      /* of one connection, before the others' */
+#define ONEWAYS_MORE 100       /* one-way streams granted to a client in all, beyond the first */
 #define STREAM_WINDOW (256 << 10)
 #define WINDOW (256 << 10)    /* what a client can make libngtcp2 keep, of bytes that came before their turn */
 #define HELD_MOST (128 << 20) /* bytes kept for all connections: each could have 21 requests of 1 MiB open, or as many answers */
@@ -48,6 +49,7 @@ struct connection {
     ngtcp2_tstamp heard; /* when its last packet came */
     struct stream *streams;
     struct http http;
+    uint64_t oneways; /* of the client's that are done */
     size_t held; /* bytes kept for it when last counted */
     bool over;   /* its requests and streams are gone */
     bool failed; /* HTTP closes the connection, with this: */
@@ -153,26 +155,36 @@ static int on_handshake(ngtcp2_conn *quic, void *self) {
 }
 
 static int on_open(ngtcp2_conn *quic, int64_t id, void *self) {
-    (void)quic;
     struct connection *c = self;
     if (ngtcp2_is_bidi_stream(id)) add_stream(c, id);
+    else ngtcp2_conn_set_stream_user_data(quic, id, c); /* until it is done */
     http_opened(&c->http, (uint64_t)id);
     return verdict(c);
 }
 
+/* A one-way stream is done, so another is granted. It is not left to `on_close`: libngtcp2 0.12.1 never closes these, and keeps a little memory for
+   each, for which they are not without end. One that was reset before any other sign of it is not here: libngtcp2 grants another itself. */
+static void end_oneway(struct connection *c, int64_t id, const void *of_stream) {
+    if (!of_stream) return;
+    ngtcp2_conn_set_stream_user_data(c->quic, id, NULL);
+    if (c->oneways++ < ONEWAYS_MORE) ngtcp2_conn_extend_max_streams_uni(c->quic, 1);
+}
+
 static int on_bytes(ngtcp2_conn *quic, uint32_t flags, int64_t id, uint64_t offset, const uint8_t *bytes, size_t count, void *self, void *of_stream) {
-    (void)offset, (void)of_stream;
+    (void)offset;
     struct connection *c = self;
     http_bytes(&c->http, (uint64_t)id, count ? bytes : (const uint8_t *)"", count, (flags & NGTCP2_STREAM_DATA_FLAG_FIN) != 0);
     ngtcp2_conn_extend_max_stream_offset(quic, id, count);
     ngtcp2_conn_extend_max_offset(quic, count);
+    if (flags & NGTCP2_STREAM_DATA_FLAG_FIN) end_oneway(c, id, of_stream);
     return verdict(c);
 }
 
 static int on_reset(ngtcp2_conn *quic, int64_t id, uint64_t size, uint64_t code, void *self, void *of_stream) {
-    (void)size, (void)code, (void)of_stream;
+    (void)size, (void)code;
     struct connection *c = self;
     http_reset(&c->http, (uint64_t)id);
+    end_oneway(c, id, of_stream);
     struct stream *s = find_stream(c, id);
     /* A request that was taken back has no answer. Were our side not ended too, the stream would never close, and none be granted for it. */
     if (s && !s->first) ngtcp2_conn_shutdown_stream_write(quic, id, EISTULKO_REQUEST_CANCELLED);
@@ -186,7 +198,6 @@ static int on_close(ngtcp2_conn *quic, uint32_t flags, int64_t id, uint64_t code
     http_closed(&c->http, (uint64_t)id);
     drop_stream(c, id);
     if (!ours && ngtcp2_is_bidi_stream(id)) ngtcp2_conn_extend_max_streams_bidi(quic, 1);
-    if (!ours && !ngtcp2_is_bidi_stream(id)) ngtcp2_conn_extend_max_streams_uni(quic, 1);
     return verdict(c);
 }
 
