@@ -13,7 +13,7 @@ struct qpack *qpack_new(void);
 void qpack_free(struct qpack *q);
 
 /* The payload of a HEADERS frame as a section block (include/eistulko.h, eistulko_give), added to `block`. 0, or the code: of RFC 9204, or
-   0x010b where a name is longer than the 256 bytes that libnghttp3 takes. */
+   0x010b where a name is longer, as sent, than the 256 bytes that libnghttp3 takes. */
 uint64_t qpack_decode(struct qpack *q, uint64_t stream, const uint8_t *payload, size_t count, struct bytes *block);
 
 /* Bytes of the client's QPACK stream of this type, 2 or 3. 0, or the code. */
