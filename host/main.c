@@ -46,6 +46,7 @@ int main(int count, char **words) {
     struct sigaction stop = {.sa_handler = on_stop};
     sigaction(SIGTERM, &stop, NULL);
     sigaction(SIGINT, &stop, NULL);
+    signal(SIGPIPE, SIG_IGN); /* whoever read our output may go: the gateway stays */
     setvbuf(stdout, NULL, _IOLBF, 0);
     if (gateway_open(&g, words[2])) {
         perror(words[2]);
