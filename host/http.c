@@ -264,5 +264,6 @@ void http_end(struct http *h) {
         eistulko_reset(PAIR(h), id);
         drop(h, id);
     }
+    if (h->connection.code) eistulko_start(PAIR(h)); /* after a connection fault no reset frees a record */
     qpack_free(h->qpack);
 }
