@@ -49,6 +49,8 @@ void serving_begin(const char *p, const char *folder) {
     snprintf(settings, sizeof settings, "%s/settings", dryer);
 }
 
+const char *serving_folder(void) { return dryer; }
+
 /* ---- files */
 
 static uint8_t *read_file(const char *name, size_t *count) {
@@ -149,17 +151,17 @@ bool serving_has_ended(void) {
     return !waitid(P_PID, (id_t)process, &about, WEXITED | WNOHANG | WNOWAIT) && about.si_pid == process;
 }
 
-told serving_reap_killed(void) {
+void serving_reap_killed(void) {
     bool stopped;
     int status;
     if (waitpid(process, &status, 0) != process || !WIFSIGNALED(status) || WTERMSIG(status) != SIGKILL) fail("the gateway ended before it was killed");
-    return read_said(&stopped);
+    read_said(&stopped);
 }
 
 told serving_stop(size_t *memory) {
     bool stopped;
     int status;
-    /* A connection's last sign of life and its idle timeout; the second more is for a busy machine. */
+    /* Two seconds more, for a busy machine. */
     sleep(IDLE_SECONDS + 2);
     told idle = read_said(&stopped);
     *memory = serving_memory();

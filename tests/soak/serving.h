@@ -12,8 +12,9 @@
 /* Prints what failed, and ends the process with status 1. Whatever was started by it dies with it. */
 __attribute__((noreturn, format(printf, 1, 2))) void fail(const char *form, ...);
 
-/* `folder` exists; the gateway's own is `dryer` in it. */
+/* In a folder that exists. */
 void serving_begin(const char *program, const char *folder);
+const char *serving_folder(void); /* where the settings file is */
 
 void serving_start(void); /* returns when it listens */
 uint16_t serving_port(void);
@@ -26,7 +27,7 @@ pid_t fork_child(void);
 /* The bytes of the settings file, the caller's to free; NULL if there is none. */
 uint8_t *serving_settings(size_t *count);
 
-/* The most of memory in use, in KiB: VmRSS now. */
+/* Its memory now, in KiB (VmRSS). */
 size_t serving_memory(void);
 
 /* What a life of the gateway said of its connections. */
@@ -35,8 +36,8 @@ typedef struct {
     uint64_t whole, refused;
 } told;
 
-/* After it was killed. */
-told serving_reap_killed(void);
+/* After it was killed, and by nothing else. */
+void serving_reap_killed(void);
 
 /* Waits until the clients are forgotten, then stops it by SIGTERM. `memory` gets what was in use before that. */
 told serving_stop(size_t *memory);

@@ -1,5 +1,6 @@
-/* soak GATEWAY FOLDER SEED SIZE: keeps a gateway under load, kills its clients and itself, and holds its settings file, after each wave of uploads,
-   to what was sent. SIZE scales all counts; 10 is a full run. One line for each part; status 1 at the first failure.
+/* soak GATEWAY FOLDER SEED SIZE GROWTH: keeps a gateway under load, kills its clients and itself, and holds its settings file, after each wave of
+   uploads, to what was sent. SIZE scales all counts; 10 is a full run. GROWTH is the memory in KiB that the gateway may keep beyond what it had after
+   its first crowds of clients. One line for each part; status 1 at the first failure.
    The seed decides what is sent and where it is cut; moments are the machine's. */
 #define _GNU_SOURCE
 #include <inttypes.h>
@@ -23,10 +24,10 @@
 #define CONNECTIONS_AT_ONCE 60
 #define CLIENTS_AT_ONCE 4
 #define REQUEST_CANCELLED 0x10c
-#define GROWTH_KIB (16 << 10) /* the most that the gateway may keep beyond what it had after its first requests */
+#define CROWDS 5
 
 static dice the_dice;
-static char folder_of_settings[600];
+static size_t growth;
 
 /* Of one life of the gateway. */
 static struct {
@@ -272,7 +273,7 @@ static void part_rounds(size_t rounds) {
 
 /* ---- part 2: one after another */
 
-static void connections_at_once(void) {
+static void one_crowd(void) {
     client *clients[CONNECTIONS_AT_ONCE];
     request requests[CONNECTIONS_AT_ONCE];
     batch b = {requests, CONNECTIONS_AT_ONCE};
@@ -289,6 +290,11 @@ static void connections_at_once(void) {
     settle("after requests on many connections");
 }
 
+/* Also what a gateway's memory is measured after: it keeps room for the most connections that it had. */
+static void some_crowds(void) {
+    for (size_t i = 0; i < CROWDS; i++) one_crowd();
+}
+
 static void part_sequence(size_t requests, size_t connections) {
     client *c = connected();
     open_oneways(c);
@@ -296,7 +302,7 @@ static void part_sequence(size_t requests, size_t connections) {
     client_close(c, H3_NO_ERROR);
     printf("2. one after another: %zu requests on one connection", requests);
 
-    size_t more = 0, crowds = connections / 100;
+    size_t more = 0;
     for (size_t i = 0; i < connections; i++) {
         size_t count = between(&the_dice, 0, 20);
         c = connected();
@@ -305,8 +311,8 @@ static void part_sequence(size_t requests, size_t connections) {
         leave(c);
         more += count;
     }
-    for (size_t i = 0; i < crowds; i++) connections_at_once();
-    printf(", %zu on %zu connections, %zu times one on each of %d connections at once; all answered 200\n", more, connections, crowds, CONNECTIONS_AT_ONCE);
+    some_crowds();
+    printf(", %zu on %zu connections, %d times one on each of %d connections at once; all answered 200\n", more, connections, CROWDS, CONNECTIONS_AT_ONCE);
 }
 
 /* ---- part 3: clients that die */
@@ -334,7 +340,7 @@ static bool stream_is_sent(void *stream) { return is_sent(stream); }
 static bool stream_is_answered(void *stream) { return is_answered(stream); }
 static bool everything_is_acknowledged(void *c) { return client_flushed(c); }
 
-static void end_and_wait(client *c, client_stream *s, volatile outcome *o) {
+static void wait_for_answer(client *c, client_stream *s, volatile outcome *o) {
     h3_response a;
     client_run(c, stream_is_answered, s, LIMIT);
     if (s->fin_received && h3_read_response(&a, s->received, s->received_length)) o->status = a.status;
@@ -364,7 +370,7 @@ __attribute__((noreturn)) static void be_client(const plan *p, volatile outcome 
     if (ends) {
         o->ended = true;
         client_fin(s);
-        end_and_wait(c, s, o);
+        wait_for_answer(c, s, o);
     }
     if (p->way == KILLED_AT_BYTE) raise(SIGKILL);
     if (p->way == KILLED_AT_TIME) pause();
@@ -477,7 +483,7 @@ static pid_t start_killer(void) {
     size_t changes = between(&the_dice, 1, 30);
     useconds_t wait = (useconds_t)below(&the_dice, !at_change ? 300000 : below(&the_dice, 2) ? 3000 : 1);
     int watch = inotify_init1(IN_CLOEXEC);
-    if (watch < 0 || inotify_add_watch(watch, folder_of_settings, IN_CREATE | IN_MODIFY | IN_CLOSE_WRITE | IN_MOVED_TO) < 0) fail("no watch on the folder");
+    if (watch < 0 || inotify_add_watch(watch, serving_folder(), IN_CREATE | IN_MODIFY | IN_CLOSE_WRITE | IN_MOVED_TO) < 0) fail("no watch on the folder");
     pid_t killer = fork_child();
     if (!killer) be_killer(watch, at_change, changes, wait);
     close(watch);
@@ -532,8 +538,8 @@ static void begin_life(size_t *memory) {
     serving_start();
     client *c = connected();
     ask(c, PUT_SETTINGS, 1000);
-    ask(c, GET_LOG, 0);
     client_close(c, H3_NO_ERROR);
+    some_crowds();
     *memory = serving_memory();
 }
 
@@ -542,30 +548,30 @@ static void end_life(size_t first, const char *of) {
     told t = serving_stop(&last);
     if (t.connections < life.connected) fail("%zu connections were over, of %zu", t.connections, life.connected);
     if (t.whole < life.answered || t.whole > life.ended) fail("%" PRIu64 " requests were whole; answered were %" PRIu64 " of %" PRIu64, t.whole, life.answered, life.ended);
-    if (last > first + GROWTH_KIB) fail("the gateway's memory grew from %zu KiB to %zu KiB", first, last);
+    if (last > first + growth) fail("the gateway's memory grew from %zu KiB to %zu KiB", first, last);
     printf("5. the end %s: %zu connections over, %" PRIu64 " requests whole, %" PRIu64 " refused, no request record taken; memory %zu KiB, then %zu KiB; stopped with status 0\n", of,
            t.connections, t.whole, t.refused, first, last);
 }
 
 int main(int count, char **words) {
-    if (count != 5) {
-        fputs("usage: soak GATEWAY FOLDER SEED SIZE\n", stderr);
+    if (count != 6) {
+        fputs("usage: soak GATEWAY FOLDER SEED SIZE GROWTH\n", stderr);
         return 2;
     }
     uint64_t seed = strtoull(words[3], NULL, 10);
     size_t size = strtoul(words[4], NULL, 10), memory;
     setvbuf(stdout, NULL, _IOLBF, 0);
+    growth = strtoul(words[5], NULL, 10);
     the_dice.state = seed;
     uploads_begin(seed);
     serving_begin(words[1], words[2]);
-    snprintf(folder_of_settings, sizeof folder_of_settings, "%s/dryer", words[2]);
 
     begin_life(&memory);
-    part_rounds(12 * size);
-    part_sequence(600 * size, 50 * size);
-    part_dying_clients(50 * size);
+    part_rounds(20 * size);
+    part_sequence(1000 * size, 60 * size);
+    part_dying_clients(60 * size);
     end_life(memory, "of parts 1 to 3");
-    part_dying_gateway(10 * size);
+    part_dying_gateway(25 * size);
     begin_life(&memory);
     end_life(memory, "of part 4");
     return 0;

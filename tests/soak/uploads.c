@@ -137,11 +137,9 @@ static void add_section(message *m, const h3_field *fields, size_t count) {
     free(frame.bytes);
 }
 
-static h3_field pseudo(const char *name, const char *value) { return (h3_field){name, value}; }
-
 message message_get(const char *path) {
     message m = {0};
-    h3_field fields[] = {pseudo(":method", "GET"), pseudo(":scheme", "https"), pseudo(":authority", "localhost"), pseudo(":path", path)};
+    h3_field fields[] = {{":method", "GET"}, {":scheme", "https"}, {":authority", "localhost"}, {":path", path}};
     add_section(&m, fields, 4);
     return m;
 }
@@ -150,7 +148,7 @@ message message_put(dice *d, size_t number) {
     message m = {.size = uploads[number].size};
     char length[24];
     snprintf(length, sizeof length, "%zu", m.size);
-    h3_field fields[] = {pseudo(":method", "PUT"), pseudo(":scheme", "https"), pseudo(":authority", "localhost"), pseudo(":path", "/settings"), {"content-length", length}};
+    h3_field fields[] = {{":method", "PUT"}, {":scheme", "https"}, {":authority", "localhost"}, {":path", "/settings"}, {"content-length", length}};
     h3_field trailer = {"x-trailer", "behind the content"};
     uint8_t *body = make_body(number);
 
