@@ -6,7 +6,9 @@
  *
  * WHAT IS PROMISED. Each call below meets a contract that is proved of its code: it returns, for every content of the memory that it is
  * lent and every number; it reads and writes no other memory; and for each input there is one answer and one content of the lent memory
- * behind it. Nobody has to check anything first but the pointers. The contracts are in crates/board/specs/Lent.antt and Writes.antt.
+ * behind it. Nobody has to check anything first but the pointers. The contracts are in crates/board/specs/Lent.antt and Writes.antt. The numbers
+ * and events that stand with each call are those of a connection and a row that had one start and that only these calls touched since; on
+ * other memory a call still returns, keeps to that memory and has one answer.
  *
  * MEMORY. All of it is the host's. The engine has no heap, no global and no state of its own, keeps no pointer past a call, and calls nobody
  * back. A host keeps, for each connection, one `eistulko_connection` and one row of 24 `eistulko_record`; it hands both to every call and
