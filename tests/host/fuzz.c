@@ -2,7 +2,7 @@
    it, and the host's duties are checked from the bytes that were sent, by a reader of its own. tests/host/fuzz builds and runs it.
 
    The input is a list of events, each a byte for what, a byte for the stream and a byte for how much:
-     bytes as they stand, a header section of a list, a DATA frame, an end, a reset, a stream given up, our GOAWAY. */
+     bytes as they stand, a header section of a list, a DATA frame, an end, a reset, a stream given up, our GOAWAY, our control stream stopped. */
 #define _GNU_SOURCE
 #include "http.h"
 
@@ -35,7 +35,7 @@ struct run {
     struct seen requests[STREAMS], oneways[STREAMS];
     struct seen *acting; /* the one whose bytes HTTP is being told */
     size_t granted[2];
-    bool closed, drained;
+    bool closed;
     const uint8_t *at, *end;
 };
 
@@ -348,10 +348,10 @@ static void one_event(struct run *r) {
         closed_event(r, id, s);
         break;
     case 7:
-        if (much > 0xe0) {
-            r->drained = true;
-            http_drain(r->http);
-        }
+        if (much > 0xe0) http_drain(r->http);
+        if (much > 0x20 || r->closed || !r->http->ready) break;
+        http_closed(r->http, 3); /* our control stream is stopped by the client */
+        HOLDS(r->closed);
         break;
     }
     bytes_free(&b);
