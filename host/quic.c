@@ -147,11 +147,12 @@ static int verdict(struct connection *c) {
     return c->failed ? NGTCP2_ERR_CALLBACK_FAILURE : 0;
 }
 
+/* A client may grant us no stream. It is closed after this packet, not from here: libngtcp2 0.12.1 would fail an assertion and end the process. */
 static int on_handshake(ngtcp2_conn *quic, void *self) {
     (void)quic;
     struct connection *c = self;
     http_handshake(&c->http);
-    return verdict(c);
+    return 0;
 }
 
 static int on_open(ngtcp2_conn *quic, int64_t id, void *self) {
@@ -507,7 +508,7 @@ static void receive(struct server *s, const uint8_t *packet, size_t count, struc
     error = ngtcp2_conn_read_pkt(c->quic, &path, &info, packet, count, c->heard);
     count_held(c);
     if (error == NGTCP2_ERR_DRAINING || error == NGTCP2_ERR_DROP_CONN) forget(c);
-    else if (error) bid_farewell(c, error);
+    else if (error || c->failed) bid_farewell(c, error);
     lighten(s);
 }
 
@@ -597,7 +598,7 @@ void server_close(struct server *s) {
     for (size_t i = 0; i < CONNECTIONS; i++) {
         struct connection *c = s->connections[i];
         if (!c) continue;
-        if (!c->farewell_count) {
+        if (rank(c) == 2) {
             close_connection(c, H3_NO_ERROR);
             bid_farewell(c, 0);
         }
