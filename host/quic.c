@@ -275,7 +275,9 @@ static void forget(struct connection *c) {
     end_streams(c);
     ngtcp2_conn_del(c->quic);
     gnutls_deinit(c->tls);
-    c->server->connections[c->slot] = NULL;
+    struct server *s = c->server;
+    s->connections[c->slot] = NULL;
+    while (s->top && !s->connections[s->top - 1]) s->top--;
     free(c);
 }
 
@@ -351,7 +353,7 @@ static void repeat_farewell(struct connection *c, const ngtcp2_path *path, size_
 static void lighten(struct server *s) {
     while (s->held > HELD_MOST) {
         struct connection *most = NULL;
-        for (size_t i = 0; i < CONNECTIONS; i++)
+        for (size_t i = 0; i < s->top; i++)
             if (s->connections[i] && (!most || s->connections[i]->held > most->held)) most = s->connections[i];
         gateway_note(s->gateway, "connection closed with 0x%04x, as it took the most memory", EISTULKO_EXCESSIVE_LOAD);
         close_connection(most, EISTULKO_EXCESSIVE_LOAD);
@@ -453,6 +455,7 @@ static struct connection *accept_one(struct server *s, const ngtcp2_pkt_hd *head
     }
     http_begin(&c->http, (struct stack){c, open_oneway, send_bytes, refuse_stream, close_connection}, s->gateway);
     s->connections[slot] = c;
+    if (s->top <= slot) s->top = slot + 1;
     return c;
 }
 
@@ -468,14 +471,14 @@ static bool is_its_own(struct connection *c, const ngtcp2_version_cid *to) {
 }
 
 static struct connection *addressee(struct server *s, const ngtcp2_version_cid *to) {
-    for (size_t i = 0; i < CONNECTIONS; i++) {
-        struct connection *c = s->connections[i];
+    size_t slot = to->dcidlen == CID_LENGTH ? (size_t)to->dcid[0] << 8 | to->dcid[1] : CONNECTIONS;
+    struct connection *c = slot < s->top ? s->connections[slot] : NULL;
+    if (c && is_its_own(c, to)) return c;
+    for (size_t i = 0; i < s->top; i++) {
+        c = s->connections[i];
         if (c && c->first.datalen == to->dcidlen && !memcmp(c->first.data, to->dcid, to->dcidlen)) return c;
     }
-    if (to->dcidlen != CID_LENGTH) return NULL;
-    size_t slot = (size_t)to->dcid[0] << 8 | to->dcid[1];
-    struct connection *c = slot < CONNECTIONS ? s->connections[slot] : NULL;
-    return c && is_its_own(c, to) ? c : NULL;
+    return NULL;
 }
 
 static void say_versions(struct server *s, const ngtcp2_version_cid *to, const ngtcp2_path *path) {
@@ -535,7 +538,7 @@ static void each_timer(struct connection *c, ngtcp2_tstamp at) {
 
 static int until_timer(struct server *s, int most_ms) {
     ngtcp2_tstamp first = UINT64_MAX, at = now();
-    for (size_t i = 0; i < CONNECTIONS; i++) {
+    for (size_t i = 0; i < s->top; i++) {
         struct connection *c = s->connections[i];
         if (!c) continue;
         ngtcp2_tstamp t = c->farewell_count ? c->forget : ngtcp2_conn_get_expiry(c->quic);
@@ -560,7 +563,7 @@ void server_turn(struct server *s, int most_ms) {
         if (n) receive(s, packet, (size_t)n, &from); /* an empty one is nothing, and others may wait behind it */
     }
     ngtcp2_tstamp at = now();
-    for (size_t i = 0; i < CONNECTIONS; i++)
+    for (size_t i = 0; i < s->top; i++)
         if (s->connections[i]) each_timer(s->connections[i], at);
 }
 
@@ -575,7 +578,7 @@ int server_open(struct server *s, uint16_t port) {
 
 void server_drain(struct server *s) {
     s->draining = 1;
-    for (size_t i = 0; i < CONNECTIONS; i++)
+    for (size_t i = 0; i < s->top; i++)
         if (s->connections[i]) http_drain(&s->connections[i]->http);
 }
 
@@ -587,7 +590,7 @@ static bool is_busy(const struct connection *c) {
 }
 
 int server_is_idle(struct server *s) {
-    for (size_t i = 0; i < CONNECTIONS; i++) {
+    for (size_t i = 0; i < s->top; i++) {
         struct connection *c = s->connections[i];
         if (c && !c->farewell_count && is_busy(c)) return 0;
     }
@@ -595,7 +598,7 @@ int server_is_idle(struct server *s) {
 }
 
 void server_close(struct server *s) {
-    for (size_t i = 0; i < CONNECTIONS; i++) {
+    for (size_t i = 0; i < s->top; i++) {
         struct connection *c = s->connections[i];
         if (!c) continue;
         if (rank(c) == 2) {

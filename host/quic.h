@@ -25,6 +25,7 @@ struct server {
     int draining; /* no new connection is taken */
     size_t held; /* bytes kept for all connections: what came of requests, and answers */
     struct connection *connections[CONNECTIONS];
+    size_t top; /* no place from here on is taken */
 };
 
 /* A socket on 127.0.0.1; port 0 takes any. 0, or -1 with errno. */
