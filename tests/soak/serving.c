@@ -19,7 +19,7 @@
 
 static const char *program;
 static char said[512], dryer[512], settings[600];
-static pid_t process;
+static pid_t owner, process; /* this one's id, and the gateway's while there is one */
 static uint16_t port;
 
 void fail(const char *form, ...) {
@@ -42,7 +42,23 @@ pid_t fork_child(void) {
     return 0;
 }
 
+/* Nothing outlives the soak: other children are killed as it ends, the gateway may be writing and is waited for. */
+static void end_gateway(void) {
+    if (!process || getpid() != owner) return;
+    kill(process, SIGKILL);
+    waitpid(process, NULL, 0);
+}
+
+static void on_stop(int signal) {
+    end_gateway();
+    _exit(128 + signal);
+}
+
 void serving_begin(const char *p, const char *folder) {
+    owner = getpid();
+    atexit(end_gateway);
+    signal(SIGTERM, on_stop);
+    signal(SIGINT, on_stop);
     program = p;
     snprintf(said, sizeof said, "%s/said", folder);
     snprintf(dryer, sizeof dryer, "%s/dryer", folder);
@@ -151,26 +167,32 @@ bool serving_has_ended(void) {
     return !waitid(P_PID, (id_t)process, &about, WEXITED | WNOHANG | WNOWAIT) && about.si_pid == process;
 }
 
+/* How it ended. */
+static int reap(void) {
+    int status = -1;
+    waitpid(process, &status, 0);
+    process = 0;
+    return status;
+}
+
 void serving_reap_killed(void) {
     bool stopped;
-    int status;
-    if (waitpid(process, &status, 0) != process || !WIFSIGNALED(status) || WTERMSIG(status) != SIGKILL) fail("the gateway ended before it was killed");
+    int status = reap();
+    if (!WIFSIGNALED(status) || WTERMSIG(status) != SIGKILL) fail("the gateway ended before it was killed");
     read_said(&stopped);
 }
 
 told serving_stop(size_t *memory) {
     bool stopped;
-    int status;
-    /* Two seconds more, for a busy machine. */
-    sleep(IDLE_SECONDS + 2);
+    sleep(IDLE_SECONDS + 2); /* the two are for a busy machine */
     told idle = read_said(&stopped);
     *memory = serving_memory();
     kill(process, SIGTERM);
     for (int k = 0; k < STOP_TURNS && !serving_has_ended(); k++) usleep(TURN_US);
     if (!serving_has_ended()) fail("the gateway does not stop");
-    if (waitpid(process, &status, 0) != process || !WIFEXITED(status)) fail("the gateway was ended by a signal");
+    int status = reap();
     told t = read_said(&stopped);
-    if (WEXITSTATUS(status) || !stopped) fail("the gateway stopped with status %d", WEXITSTATUS(status));
+    if (status || !stopped) fail("the gateway stopped with status %d", status);
     if (t.connections != idle.connections) fail("%zu connections were left after the idle timeout", t.connections - idle.connections);
     return t;
 }
