@@ -1,5 +1,11 @@
 /* odd PORT NAME [PID]: one of the clients below, each of which does what raw has no word for. Status 0 if the gateway did as it must; else a line says
    what it did not. PID is the gateway's, where the client ends it. The QUIC client is taken in whole, to reach libngtcp2 below it. */
+/* What the client grants. */
+static unsigned long server_streams = 100, stream_window = 1 << 20, connection_window = 16 << 20;
+#define SERVER_UNI_STREAMS server_streams
+#define STREAM_WINDOW stream_window
+#define CONNECTION_WINDOW connection_window
+
 #include "../peer/client.c"
 #include "../peer/h3.h"
 
@@ -115,7 +121,38 @@ static void goaway(client *c, int pid) {
     must_close(c, 0x100);
 }
 
-/* More connections than there are places, each with a request open: none keeps a new one out. */
+/* A client that grants no stream for our control stream. */
+static void narrow(client *c, int pid) {
+    (void)pid;
+    server_streams = 0;
+    client *other = client_connect(ntohs(c->remote.sin_port), LIMIT);
+    sure(other != NULL, "no connection");
+    must_close(other, 0x103);
+    client_drop(other);
+    must_serve(c);
+}
+
+static void must_get(uint16_t port) {
+    client *c = client_connect(port, LIMIT);
+    sure(c != NULL, "no connection");
+    for (int i = 0; i < 2; i++) client_fin(request(c, "GET", "/log", NULL));
+    client_stream *s = request(c, "GET", "/log", NULL);
+    client_fin(s);
+    sure(client_run(c, is_answered, s, LIMIT), "a slow reader was not answered");
+    client_close(c, H3_NO_ERROR);
+}
+
+/* Clients that grant little at a time, on the stream and on the connection. */
+static void slow(client *c, int pid) {
+    (void)pid;
+    stream_window = 500;
+    must_get(ntohs(c->remote.sin_port));
+    stream_window = 1 << 20;
+    connection_window = 500;
+    must_get(ntohs(c->remote.sin_port));
+}
+
+/* More connections than there are places: none keeps a new one out. */
 static void many(client *c, int pid) {
     (void)pid;
     for (int i = 0; i < 1100; i++) {
@@ -129,7 +166,7 @@ static void many(client *c, int pid) {
 static const struct {
     const char *name;
     void (*run)(client *, int pid);
-} clients[] = {{"refusal", refusal}, {"control", control}, {"unwanted", unwanted}, {"signs", signs}, {"goaway", goaway}, {"many", many}};
+} clients[] = {{"refusal", refusal}, {"control", control}, {"unwanted", unwanted}, {"signs", signs}, {"goaway", goaway}, {"many", many}, {"narrow", narrow}, {"slow", slow}};
 
 int main(int count, char **words) {
     if (count < 3) return 2;

@@ -29,9 +29,15 @@
 #define PIECES 16
 
 #define IDLE_TIMEOUT (30 * NGTCP2_SECONDS)
+#ifndef STREAM_WINDOW
 #define STREAM_WINDOW (1u << 20)
+#endif
+#ifndef CONNECTION_WINDOW
 #define CONNECTION_WINDOW (16u << 20)
+#endif
+#ifndef SERVER_UNI_STREAMS
 #define SERVER_UNI_STREAMS 100
+#endif
 
 static const char priorities[] = "NORMAL:-VERS-ALL:+VERS-TLS1.3:-CIPHER-ALL:+AES-128-GCM:+AES-256-GCM:+CHACHA20-POLY1305:"
                                  "-GROUP-ALL:+GROUP-X25519:+GROUP-SECP256R1:%DISABLE_TLS13_COMPAT_MODE";
