@@ -19,6 +19,7 @@
 #define CID_LENGTH 16
 #define PACKET 1452            /* the most that a datagram of ours holds */
 #define PACKETS_A_TURN 64      /* of one connection, before the others' */
+#define READING_A_TURN (20 * NGTCP2_MILLISECONDS) /* settings that go to a slow disk hold up nobody's answers for longer */
 #define ONEWAYS_MORE 100       /* one-way streams granted to a client in all, beyond the first */
 #define STREAM_WINDOW (256 << 10)
 #define WINDOW (256 << 10)    /* what a client can make libngtcp2 keep, of bytes that came before their turn */
@@ -554,7 +555,8 @@ uint64_t server_ms(void) { return now() / NGTCP2_MILLISECONDS; }
 void server_turn(struct server *s, int most_ms) {
     struct pollfd in = {.fd = s->socket, .events = POLLIN};
     poll(&in, 1, until_timer(s, most_ms));
-    for (int k = 0; k < PACKETS_A_TURN; k++) {
+    ngtcp2_tstamp until = now() + READING_A_TURN;
+    for (int k = 0; k < PACKETS_A_TURN && now() < until; k++) {
         static uint8_t packet[65536];
         struct sockaddr_in from;
         socklen_t size = sizeof from;
