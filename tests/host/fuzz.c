@@ -349,9 +349,9 @@ static void one_event(struct run *r) {
         break;
     case 7:
         if (much > 0xe0) http_drain(r->http);
-        if (much > 0x20 || r->closed || !r->http->ready) break;
+        if (much > 0x20) break;
         http_closed(r->http, 3); /* our control stream is stopped by the client */
-        HOLDS(r->closed);
+        HOLDS(r->closed || !r->http->ready);
         break;
     }
     bytes_free(&b);
