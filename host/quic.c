@@ -7,6 +7,7 @@
 #include <errno.h>
 #include <gnutls/crypto.h>
 #include <inttypes.h>
+#include <malloc.h>
 #include <ngtcp2/ngtcp2.h>
 #include <ngtcp2/ngtcp2_crypto.h>
 #include <ngtcp2/ngtcp2_crypto_gnutls.h>
@@ -280,6 +281,7 @@ static void forget(struct connection *c) {
     s->connections[c->slot] = NULL;
     while (s->top && !s->connections[s->top - 1]) s->top--;
     free(c);
+    if (!s->top) malloc_trim(0); /* what a crowd took is given back when it is gone */
 }
 
 static ngtcp2_conn *conn_of(ngtcp2_crypto_conn_ref *ref) {

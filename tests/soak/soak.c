@@ -1,6 +1,6 @@
 /* soak GATEWAY FOLDER SEED SIZE GROWTH: keeps a gateway under load, kills its clients and itself, and holds its settings file, after each wave of
-   uploads, to what was sent. SIZE scales all counts; 10 is a full run. GROWTH is the memory in KiB that the gateway may keep beyond what it had after
-   its first crowds of clients. One line for each part; status 1 at the first failure.
+   uploads, to what was sent. SIZE scales all counts; 10 is a full run. GROWTH is the memory in KiB that the gateway may keep, when its clients are gone,
+   beyond what it had after its first request. One line for each part; status 1 at the first failure.
    The seed decides what is sent and where it is cut; moments are the machine's. */
 #define _GNU_SOURCE
 #include <inttypes.h>
@@ -539,8 +539,8 @@ static void begin_life(size_t *memory) {
     client *c = connected();
     ask(c, PUT_SETTINGS, 1000);
     client_close(c, H3_NO_ERROR);
-    some_crowds();
     *memory = serving_memory();
+    some_crowds();
 }
 
 static void end_life(size_t first, const char *of) {
