@@ -2,7 +2,8 @@
  *
  * The engine reads what a client sends on its streams: which bytes are content, which are a header section for the QPACK decoder, when a
  * request is whole, and which error code a fault has. "Document 01" is the paper that condenses RFC 9114 to the rules it keeps; every number
- * below is that paper's. docs/HOST.md leads a host through the events of a QUIC stack, one by one.
+ * below is that paper's, and docs/TRACE.md leads from each of its rules to the definition. docs/HOST.md leads a host through the events of a QUIC
+ * stack, one by one.
  *
  * WHAT IS PROMISED. Each call below meets a contract that is proved of its code: it returns, for every content of the memory that it is
  * lent and every number; it reads and writes no other memory; and for each input there is one answer and one content of the lent memory
@@ -31,8 +32,10 @@
  *   4. END A STREAM ONLY AT ITS FIN, AND WHEN EVERY BYTE WAS CONSUMED. A lost link, an idle timeout, a closed connection or a stream that
  *      the stack gave up is a reset, never an end. Half an upload is kept out by this and by the stated Content-Length, and by nothing else.
  *   5. Act on a request when it is whole (event EISTULKO_WHOLE) and not before.
- *   6. After a stream fault, reset the stream and ask the peer to stop sending, both with the code. After a connection fault, close the
- *      connection with the code; it is kept in `code`.
+ *   6. After a stream fault, reset the stream and ask the peer to stop sending, both with the code; what still comes on it is dropped without
+ *      a call. After a connection fault, close the connection with the code; it is kept in `code`.
+ *   7. Refuse an upload (PUT, POST, PATCH) whose header section states no Content-Length, if half of it would do harm: nothing tells its
+ *      half from its whole. Give it up as soon as its section was given: `eistulko_reset`, then as after a stream fault, with 0x010b.
  */
 #ifndef EISTULKO_H
 #define EISTULKO_H
@@ -50,8 +53,8 @@ extern "C" {
 /* ---- numbers: what a call answers, and what it leaves ----
  *
  * 0 is accepted. Every other number is a refusal: it hands over no part of the piece and gives no event.
- * The order, where several apply: 9; the code of a dead connection; 1 or 2; a barred ID before 3; 4 or 5; 6; protocol faults.
- * For our GOAWAY: the code of a dead connection, 8, 7. For the other writes: 8, 7. */
+ * The order, where several apply: 9; the code kept; 1 or 2; a barred ID before 3; 4 or 5; 6; protocol faults.
+ * For our GOAWAY: the code kept, 8, 7. For the other writes: 8, 7. */
 enum {
     EISTULKO_ACCEPTED = 0,
     /* Nothing is altered by any of these. */
@@ -64,14 +67,14 @@ enum {
     EISTULKO_ROOM_SHORT = 7,    /* the room of a write is too short */
     EISTULKO_BAD_VALUE = 8,     /* a value above 2^62-1 to write, or an ID that our GOAWAY cannot have */
     EISTULKO_OTHER_ROW = 9,     /* the row has other than 24 records */
-    /* Connection faults: the code is kept in the connection's record and all else stays as it was. Every later call answers it, but start
-     * and the writes other than our GOAWAY. Close the connection with it. */
+    /* Connection faults: the code is kept in the connection's record and all else stays as it was. Every later call answers the code kept, but
+     * start and the writes other than our GOAWAY; only 9 comes before it. Close the connection with it. */
     EISTULKO_STREAM_CREATION_ERROR = 0x0103,  /* a second control or QPACK stream of a type, or a push stream from a client */
     EISTULKO_CLOSED_CRITICAL_STREAM = 0x0104, /* the control stream or a QPACK stream was ended or reset */
     EISTULKO_FRAME_UNEXPECTED = 0x0105,       /* a frame where it may not be */
-    EISTULKO_FRAME_ERROR = 0x0106,            /* a frame of a wrong length, or the stream ended inside one */
+    EISTULKO_FRAME_ERROR = 0x0106,            /* a frame of a wrong length, a cut SETTINGS pair, or a request ended inside a frame */
     EISTULKO_EXCESSIVE_LOAD = 0x0107,         /* HEADERS above 16,384 bytes, SETTINGS above 256 */
-    EISTULKO_ID_ERROR = 0x0108,               /* an ID that rose or fell, or a cancelled push that was never promised */
+    EISTULKO_ID_ERROR = 0x0108,               /* a GOAWAY above an earlier one, a MAX_PUSH_ID below one, or a CANCEL_PUSH: we promise none */
     EISTULKO_SETTINGS_ERROR = 0x0109,         /* a setting of HTTP/2, or one that comes twice */
     EISTULKO_MISSING_SETTINGS = 0x010a,       /* the control stream begins with another frame than SETTINGS */
     /* Stream faults: the stream's record is freed (an ID that our GOAWAY bars is spent), and all else stays. Reset the stream with the code
@@ -88,11 +91,12 @@ static inline int eistulko_is_stream_fault(uint64_t number) { return number >= 0
 
 /* ---- events: what an accepted call tells, at most one a call ---- */
 enum {
-    EISTULKO_NOTHING = 0,
+    EISTULKO_NOTHING = 0,     /* always of an accepted open or give */
     EISTULKO_CONTENT = 1,     /* a part of the piece is content of the request */
     EISTULKO_SECTION = 2,     /* a part of the piece is section bytes, with more to come: keep them for the decoder */
     EISTULKO_SECTION_END = 3, /* the last of them, or all; the part may be empty. The section is now due: decode and give it */
-    EISTULKO_QPACK = 7,       /* a part of the piece belongs to the client's QPACK stream of type `value`: 2 encoder, 3 decoder */
+    EISTULKO_QPACK = 7,       /* a part of the piece belongs to the client's QPACK stream of type `value`: 2 its encoder's, for our decoder;
+                                 3 its decoder's, for our encoder */
     EISTULKO_SETTINGS = 8,    /* the client's SETTINGS came: see `limited`, `size`, `capacity`, `blocked` */
     EISTULKO_GOAWAY = 9,      /* the client's GOAWAY came; `value` is its push ID */
     EISTULKO_MAX_PUSH_ID = 10,/* the client's MAX_PUSH_ID came; `value` is it */
@@ -107,11 +111,11 @@ enum {
 /* One connection: 400 bytes. Readable where a comment says what it means; the rest is the engine's own. */
 typedef struct {
     uint64_t code;     /* of the connection fault; 0 while there was none */
-    uint64_t requests; /* the lowest request ID not opened yet */
+    uint64_t requests; /* the lowest request ID not opened yet; a barred one that was refused counts as opened */
     uint64_t oneways;  /* the lowest one-way ID not opened yet */
     uint64_t sent;     /* 0: we sent no GOAWAY */
     uint64_t ours;     /* the ID of our last one */
-    uint64_t control;  /* 0: the client's control stream has not come */
+    uint64_t control;  /* 0: the client's control stream has not come. This and the like are 0 or 1 */
     uint64_t encoder;  /* 0: nor its QPACK encoder stream */
     uint64_t decoder;  /* 0: nor its QPACK decoder stream */
     uint64_t set;      /* 0: its SETTINGS have not come; the next four are 0 until then */
@@ -127,7 +131,8 @@ typedef struct {
     uint8_t bytes[256];/* ..and the bytes */
 } eistulko_connection;
 
-/* One stream: 48 bytes. kind 0 is a free record, 1 a request, 2 to 6 a one-way stream; id is its ID. The rest is the engine's own. */
+/* One stream: 48 bytes. kind 0 is a free record, 1 a request, 2 a one-way stream before its type, 3 control, 4 QPACK encoder, 5 QPACK decoder,
+ * 6 one of another type; id is its ID. The rest is the engine's own. */
 typedef struct {
     uint64_t id;
     uint64_t acc, ftype, stated, sum;
@@ -140,17 +145,17 @@ typedef struct {
     uint64_t number; /* 0, or why the call was refused */
     uint64_t event;  /* what an accepted call tells */
     uint64_t start;  /* the event's part of the piece: where it begins.. */
-    uint64_t len;    /* ..and how long it is */
-    uint64_t used;   /* bytes of the piece consumed. 0 with numbers 1 to 9 and on a dead connection; with a fault, up to and
-                        including the byte that brought it */
-    uint64_t heads;  /* frame headers finished in this piece, a faulty one counted */
+    uint64_t len;    /* ..and how long it is; it ends where the consumed bytes do */
+    uint64_t used;   /* of a feed: bytes of the piece consumed; with a fault, up to and including the byte that brought it; 0 with
+                        numbers 1 to 9 and with the code kept */
+    uint64_t heads;  /* of a feed: frame headers finished in this piece, a faulty one counted; 0 where used is 0 by its number */
     uint64_t value;  /* the QPACK stream's type, or the push ID */
 } eistulko_report;
 
 /* What a write answers: 16 bytes. */
 typedef struct {
     uint64_t number; /* 0, or why nothing was written */
-    uint64_t count;  /* bytes written from the room's beginning; those behind stay as they were */
+    uint64_t count;  /* bytes written from the room's beginning, 0 on a refusal; those behind stay as they were */
 } eistulko_written;
 
 /* Held by proof in crates/board/proofs/Sizes.antt, here for the host's compiler, and by the size functions below at run time. */
@@ -167,13 +172,14 @@ EISTULKO_STATIC_ASSERT(sizeof(void *) == 8 && sizeof(size_t) == 8, "64-bit");
 uint64_t eistulko_start(eistulko_connection *connection, eistulko_record *row, size_t records);
 
 /* A stream is opened. Accepted exactly if the connection is alive, the ID is the next of its kind and below 2^62, no GOAWAY of ours bars it,
- * and a record is free. Refused with 9, the dead connection's code, 2, 0x010b, 3. After 0x010b the ID is spent and the next one is due. */
+ * and a record is free. Refused with 9, the code kept, 2, 0x010b, 3. After 0x010b the ID is spent and the next one is due. */
 eistulko_report eistulko_open(eistulko_connection *connection, eistulko_record *row, size_t records, uint64_t id);
 
-/* A piece of a stream's bytes, from the first one not consumed yet. It stops at the first event, at the end of the piece, or when `allow`
- * frame headers were finished in it; with allow at least 1 and a piece that is not empty, an accepted feed consumes a byte or more. Offer the
- * rest again. The allowance bounds the work of a call by frames, since 2^30 empty ones fit in a piece; UINT64_MAX is none. Cutting the stream
- * elsewhere, or another allowance, alters no verdict and no content.
+/* A piece of a stream's bytes, from the first one not consumed yet. It stops at the first event, at the end of the piece, or before a byte of a
+ * frame header once `allow` of them were finished in it. Payload and stream-type bytes are free of that; allow 0 before a header consumes
+ * nothing, while with allow at least 1 and a piece that is not empty an accepted feed consumes a byte or more. Offer the rest again. The
+ * allowance bounds the frames of a call, since a piece may hold very many empty ones; a host whose packets bound its pieces passes
+ * UINT64_MAX. Cutting the stream elsewhere, or another allowance, alters no verdict and no content. An empty piece is accepted with nothing.
  * Events: 0 to 3 on a request stream; 0, 7 to 10 on a one-way stream. Refused with 9, the code kept, 1, 4, 0x0103, 0x0105 to 0x010a, 0x010c,
  * 0x010e. */
 eistulko_report eistulko_feed(eistulko_connection *connection, eistulko_record *row, size_t records, uint64_t id, const uint8_t *piece,
@@ -182,7 +188,9 @@ eistulko_report eistulko_feed(eistulko_connection *connection, eistulko_record *
 /* The section that is due, decoded, as a section block: for each field line, in order, a two-byte count of what follows it, the two bytes
  * 01 00, a two-byte name length, the name, the value; numbers little-endian. `:method` `GET` is
  * 0e 00 01 00 07 00 3a 6d 65 74 68 6f 64 47 45 54. A section without a line is the empty block.
- * Refused with 9, the code kept, 1, 5, 6, 0x010b, 0x010e. After 6 the section is still due. */
+ * Names and values of more than 16,384 bytes together are 0x010e, and that is judged first: a host may stop at the line that goes beyond, and
+ * give what it has. Two bytes are enough for each length, as the HEADERS payload has at most 16,384 bytes and QPACK's codes at least 5 bits.
+ * Refused with 9, the code kept, 1, 5 (also on a one-way stream), 6, 0x010b, 0x010e. After 6 the section is still due. */
 eistulko_report eistulko_give(eistulko_connection *connection, eistulko_record *row, size_t records, uint64_t id, const uint8_t *block,
                               size_t bytes);
 
@@ -190,14 +198,16 @@ eistulko_report eistulko_give(eistulko_connection *connection, eistulko_record *
  * stream of an unknown type or none; the record is free. Refused with 9, the code kept, 1, 4, 0x0104, 0x0106, 0x010d, 0x010e. */
 eistulko_report eistulko_end(eistulko_connection *connection, eistulko_record *row, size_t records, uint64_t id);
 
-/* The peer reset the stream, or the link, the connection or the stack gave it up. Accepted with EISTULKO_FREED, whatever was due; the record is
- * free. Refused with 9, the code kept, 1, and 0x0104 for the control stream and the QPACK streams. */
+/* The peer reset the stream, or the link, the connection, the stack or the host itself gave it up. Accepted with EISTULKO_FREED, whatever was due;
+ * the record is free. Refused with 9, the code kept, 1 if it was over before, and 0x0104 for the control stream and the QPACK streams. */
 eistulko_report eistulko_reset(eistulko_connection *connection, eistulko_record *row, size_t records, uint64_t id);
 
 /* ---- writes: into the room, for the host to send. On a refusal room and records are untouched ---- */
 
-/* Our GOAWAY, for our control stream: requests from `id` upward will be refused with 0x010b, those open go on. A multiple of 4 below 2^62, no
- * higher than one sent before: `requests` of the connection lets in no new one. 10 bytes of room are always enough. */
+/* Our GOAWAY, for our control stream, behind its opening: requests from `id` upward will be refused with 0x010b, those open go on. A multiple of 4
+ * below 2^62, no higher than one sent before. The first is best sent with `requests` of the connection, which lets in no new one. A lower ID
+ * tells the client that open requests from it upward are not processed, and it may send them again elsewhere: then give these up, and do not act
+ * on them. 10 bytes of room are always enough. */
 eistulko_written eistulko_goaway(eistulko_connection *connection, uint64_t id, uint8_t *room, size_t bytes);
 
 /* A frame header, for a frame whose payload of `length` bytes the host sends behind it. 16 bytes of room are always enough. */

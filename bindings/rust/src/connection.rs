@@ -135,9 +135,9 @@ impl Connection {
 
     /// A piece of a stream's bytes, from the first one not consumed yet.
     ///
-    /// Stops at the first event, at the end of the piece, or when `allow` frame headers were finished in it.
-    /// With an allowance of 1 or more and a piece that is not empty, an accepted feed consumes a byte or
-    /// more. How a stream is cut, and the allowances, alter no verdict and no content.
+    /// Stops at the first event, at the end of the piece, or before a byte of a frame header once `allow` of
+    /// them were finished in it. With an allowance of 1 or more and a piece that is not empty, an accepted
+    /// feed consumes a byte or more. How a stream is cut, and the allowances, alter no verdict and no content.
     ///
     /// Refused as `NotOpen`, `SectionDue`, a connection fault other than `ClosedCriticalStream`,
     /// `RequestCancelled`, `MessageError`.
@@ -167,6 +167,7 @@ impl Connection {
     }
 
     /// The section that is due, decoded, as a section block: a [`Block`](crate::Block), or bytes in its form.
+    /// More than 16,384 bytes of names and values are a `MessageError`, before all else.
     ///
     /// Refused as `NotOpen`, `NoSection`, `Unreadable`, `RequestRejected`, `MessageError`.
     pub fn give(&mut self, id: StreamId, block: &[u8]) -> Result<(), Refused> {
@@ -187,8 +188,8 @@ impl Connection {
         }
     }
 
-    /// The peer reset the stream, or the link, the connection or the stack gave it up. Its record is free,
-    /// whatever was due.
+    /// The peer reset the stream, or the link, the connection, the stack or the host itself gave it up. Its
+    /// record is free, whatever was due.
     ///
     /// Refused as `NotOpen`, and as `ClosedCriticalStream` for the control stream and the QPACK streams.
     pub fn reset(&mut self, id: StreamId) -> Result<(), Refused> {

@@ -66,8 +66,13 @@
 //!    nothing else.
 //! 5. Act on a request when it is [`Ended::Whole`] and not before.
 //! 6. After a [stream fault](Refused::is_stream_fault), reset the stream and ask the peer to stop sending,
-//!    both with its [number](Refused::number). After a [connection fault](Refused::is_connection_fault),
-//!    close the connection with it; [`Connection::code`] keeps it.
+//!    both with its [number](Refused::number); what still comes on it is dropped without a call. After a
+//!    [connection fault](Refused::is_connection_fault), close the connection with it; [`Connection::code`]
+//!    keeps it.
+//! 7. Refuse an upload (PUT, POST, PATCH) whose header section states no Content-Length, if half of it would
+//!    do harm: nothing tells its half from its whole. Give it up as soon as its section was given:
+//!    [`reset`](Connection::reset), then as after a stream fault, with
+//!    [`RequestRejected`](Refused::RequestRejected).
 
 #![deny(missing_docs, unsafe_code, unsafe_op_in_unsafe_fn)]
 
