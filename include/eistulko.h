@@ -19,7 +19,7 @@
  *   - The connection, the row, and the piece, block or room of one call do not overlap.
  *   - A count is of elements: records for a row, bytes for a piece, a block or a room; what it covers is the host's to lend.
  *   - Two threads do not use one connection at once. Two connections have nothing in common.
- *   - The stack is the caller's too: measured and not proved (tests/link), a call takes up to 5 KB of it, and up to 21 KB for the SETTINGS with
+ *   - The stack is the caller's too: measured and not proved (tests/link), a call takes up to 6 KB of it, and up to 21 KB for the SETTINGS with
  *     the most pairs, whatever the piece's length.
  *
  * THE HOST'S DUTIES. The engine cannot see them kept, and every promise about requests leans on them.
