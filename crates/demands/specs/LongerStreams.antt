@@ -10,7 +10,7 @@ use Rattle.rules.specs.Block.{Section, lines}
 use Rattle.rules.specs.Frames.{framesFrom}
 use Rattle.rules.specs.Reading.{Verdict, whole, fault, waits, read, contents, headerBytes}
 use Rattle.rules.specs.Request.{document, request, Header.good as good-header}
-use Rattle.meaning.specs.Longer.{Extra, noTrailers, whole-content}
+use Rattle.meaning.specs.Longer.{Extra, noTrailers, countHeaders, whole-content}
 use Rattle.meaning.specs.Longer as L
 use Rattle.traces.specs.Demands.{is-legal, Longer}
 use Rattle.demands.specs.Streams.{sectionOf, streams}
@@ -41,6 +41,7 @@ pub record Added (bytes more : List ℕ) (blocks : List (List ℕ)) : Type 0 whe
   pub taken : List Section
   pub left : List Section
   pub are : sectionsOf blocks ≡ taken ++ left
+  pub each : length taken ≡ countHeaders (framesFrom 0 bytes)
   pub only : Extra document (noTrailers (framesFrom 0 bytes)) left (framesFrom (length bytes) more)
 
 -- ---- the proof
@@ -71,7 +72,7 @@ longer-of n b more s t w w2 a st =
     let v2 : read (request document) (f .0 ∷ y .0) (b ++ more) .verdict ≡ whole = rw (y .1) at (is-whole (readingOf (b ++ more) t .verdict) w2) in
     let l = L.longer document (f .0) (x .0) (y .0) b more n (f .2) v v2 in
     let h : headerBytes (readingOf b s .said) ≡ headerBytes (readingOf (b ++ more) t .said) = rw (x .1, y .1) (sym (l .same-header)) in
-    (ap₂ (λ p q. record { bytes = p; section = q }) h a, rw (x .1, y .1) (sym (l .same-content)), record { taken = l .taken; left = l .left; are = y .1 ∙ l .are; only = l .only })
+    (ap₂ (λ p q. record { bytes = p; section = q }) h a, rw (x .1, y .1) (sym (l .same-content)), record { taken = l .taken; left = l .left; are = y .1 ∙ l .are; each = l .each; only = l .only })
 
 pub not-half : (n : ℕ) (b : List ℕ) (s : List (List ℕ)) → reading .verdict b s ≡ is-legal → statedBy n (firstOf s) → length (reading .carried b s) ≡ n
 not-half n b s w st =

@@ -1,6 +1,6 @@
 -- DEMAND 3: what a longer request stream can add to one that is whole and states a Content-Length. Assumes nothing.
 use mathlib.Core.Path.{_≡_, refl, sym, ap, _∙_}
-use Prim.Native.Nat.{ℕ, _+_, _≤_, _<_}
+use Prim.Native.Nat.{ℕ, suc, _+_, _≤_, _<_}
 use native.Mathlib.Omega.{arith}
 use mathlib.Core.List.{List, [], _∷_, _++_, map, append-assoc, append-nil}
 use mathlib.Core.Bool.{Bool, true, false, not, _&&_}
@@ -34,6 +34,13 @@ noTrailers in-header = true
 noTrailers (in-payload h part) = true
 noTrailers (frame h payload fs) = elim (eqb (h .type) 1) [ true ↦ noHeaders fs | false ↦ noTrailers fs ]
 
+-- how many HEADERS frames there are
+unfoldable pub countHeaders : Frames → ℕ
+countHeaders no-more = 0
+countHeaders in-header = 0
+countHeaders (in-payload h part) = 0
+countHeaders (frame h payload fs) = elim (eqb (h .type) 1) [ true ↦ suc (countHeaders fs) | false ↦ countHeaders fs ]
+
 -- what may be added: frames of unknown type; before trailers, empty DATA; and trailers, once, where there were none
 pub data Extra (R : Rules) : (trailersMay : Bool) → List Section → Frames → Type 0 where
   end : {may : Bool} {sections : List Section} → Extra R may sections no-more
@@ -48,9 +55,10 @@ pub data Extra (R : Rules) : (trailersMay : Bool) → List Section → Frames �
 pub record Longer (R : Rules) (sections : List Section) (short long : Reading) (s t : List ℕ) : Type 0 where
   pub same-header : headerBytes (long .said) ≡ headerBytes (short .said)
   pub same-content : contents (long .said) ≡ contents (short .said)
-  pub taken : List Section  -- by the shorter one
+  pub taken : List Section  -- for the HEADERS frames that the shorter one has too
   pub left : List Section
   pub are : sections ≡ taken ++ left
+  pub each : length taken ≡ countHeaders (framesFrom 0 s)
   pub only : Extra R (noTrailers (framesFrom 0 s)) left (framesFrom (length s) t)
 
 -- ---- what legal frames carry
@@ -161,6 +169,11 @@ unknowns-extra : (R : Rules) (sections : List Section) {fs : Frames} → Unknown
 unknowns-extra R sections Unknowns.end = Extra.end
 unknowns-extra R sections (Unknowns.unknown u r) = Extra.unknown u (unknowns-extra R sections r)
 
+unknowns-headers : {fs : Frames} → Unknowns fs → countHeaders fs ≡ 0
+unfolding countHeaders
+unknowns-headers Unknowns.end = refl
+unknowns-headers (Unknowns.unknown {h} u r) = let o = unknown-not (h .type) 1 u (omega arith) in rw (o, countHeaders) (unknowns-headers r)
+
 -- an unknown type is not that of DATA or HEADERS
 no-mix : {A : Type 0} (t k : ℕ) → Unknown t → t ≡ k → k ≤ 9 → A
 unfolding Unknown
@@ -171,10 +184,11 @@ no-both t z o = absurd (omega arith)
 
 module _ (R : Rules) (n : ℕ) (gs : Frames) where
   -- of some sections, these are taken before gs comes, and gs is extra to what was before it
-  record Behind (sections : List Section) (may : Bool) : Type 0 where
+  record Behind (sections : List Section) (count : ℕ) (may : Bool) : Type 0 where
     taken : List Section
     left : List Section
     are : sections ≡ taken ++ left
+    each : length taken ≡ count
     extra : Extra R may left gs
 
   -- behind DATA of the sum n, where n is stated, nothing more carries content
@@ -188,24 +202,25 @@ module _ (R : Rules) (n : ℕ) (gs : Frames) where
       Extra.empty-data z y (full-extra g r)
   full-extra e (Rest.trailers {sections = sections} z l t a u) = Extra.with-trailers z l t (unknowns-extra R sections u)
 
-  rest-behind : {sum : ℕ} {sections others : List Section} {fs : Frames} → Rest R (some n) sum sections fs → Rest R (some n) sum others (join fs gs) → Behind others (noHeaders fs)
-  unfolding join noHeaders AddsUp
-  rest-behind {others = others} (Rest.end a) w = record { taken = []; left = others; are = refl; extra = full-extra a w }
-  rest-behind (Rest.unknown {h = h} u r) (Rest.unknown v w) = let o = unknown-not (h .type) 1 u (omega arith) in rw (o, noHeaders) (rest-behind r w)
+  rest-behind : {sum : ℕ} {sections others : List Section} {fs : Frames} → Rest R (some n) sum sections fs → Rest R (some n) sum others (join fs gs) → Behind others (countHeaders fs) (noHeaders fs)
+  unfolding join noHeaders countHeaders AddsUp
+  rest-behind {others = others} (Rest.end a) w = record { taken = []; left = others; are = refl; each = refl; extra = full-extra a w }
+  rest-behind (Rest.unknown {h = h} u r) (Rest.unknown v w) = let o = unknown-not (h .type) 1 u (omega arith) in rw (o, noHeaders, countHeaders) (rest-behind r w)
   rest-behind (Rest.unknown {h = h} u r) (Rest.data· z w) = no-mix (h .type) 0 u z (omega arith)
   rest-behind (Rest.unknown {h = h} u r) (Rest.trailers z l t a w) = no-mix (h .type) 1 u z (omega arith)
   rest-behind (Rest.data· {h = h} z r) (Rest.unknown v w) = no-mix (h .type) 0 v z (omega arith)
-  rest-behind (Rest.data· {h = h} z r) (Rest.data· y w) = rw (z, noHeaders) (rest-behind r w)
+  rest-behind (Rest.data· {h = h} z r) (Rest.data· y w) = rw (z, noHeaders, countHeaders) (rest-behind r w)
   rest-behind (Rest.data· {h = h} z r) (Rest.trailers y l t a w) = no-both (h .type) z y
   rest-behind (Rest.trailers {h = h} z l t a u) (Rest.unknown v w) = no-mix (h .type) 1 v z (omega arith)
   rest-behind (Rest.trailers {h = h} z l t a u) (Rest.data· y w) = no-both (h .type) y z
   rest-behind (Rest.trailers {h = h} z l t a u) (Rest.trailers {s = s} {sections = left} y k g b w) =
-      rw (z, noHeaders) (record { taken = s ∷ []; left = left; are = refl; extra = unknowns-extra R left (unknowns-behind gs u w) })
+      let q = unknowns-headers u in
+      rw (z, noHeaders, countHeaders, q) (record { taken = s ∷ []; left = left; are = refl; each = refl; extra = unknowns-extra R left (unknowns-behind gs u w) })
 
   legal-behind : {first : Section} {sections others : List Section} {fs : Frames} → R .header first ≡ good-header (some n)
-      → Legal R (first ∷ sections) fs → Legal R (first ∷ others) (join fs gs) → Behind (first ∷ others) (noTrailers fs)
-  unfolding join noTrailers
-  legal-behind e (Legal.unknown {h = h} u r) (Legal.unknown v w) = let o = unknown-not (h .type) 1 u (omega arith) in rw (o, noTrailers) (legal-behind e r w)
+      → Legal R (first ∷ sections) fs → Legal R (first ∷ others) (join fs gs) → Behind (first ∷ others) (countHeaders fs) (noTrailers fs)
+  unfolding join noTrailers countHeaders
+  legal-behind e (Legal.unknown {h = h} u r) (Legal.unknown v w) = let o = unknown-not (h .type) 1 u (omega arith) in rw (o, noTrailers, countHeaders) (legal-behind e r w)
   legal-behind e (Legal.unknown {h = h} u r) (Legal.headers z l s w) = no-mix (h .type) 1 u z (omega arith)
   legal-behind e (Legal.headers {h = h} z l s r) (Legal.unknown v w) = no-mix (h .type) 1 v z (omega arith)
   legal-behind {first} {sections} {others} e (Legal.headers {stated = x} {h = h} {fs = fs} z l s r) (Legal.headers {stated = y} z2 l2 s2 w) =
@@ -214,7 +229,7 @@ module _ (R : Rules) (n : ℕ) (gs : Frames) where
       let r′ : Rest R (some n) 0 sections fs = rw (← i) r in
       let w′ : Rest R (some n) 0 others (join fs gs) = rw (← j) w in
       let k = rest-behind r′ w′ in
-      rw (z, noTrailers) (record { taken = first ∷ k .taken; left = k .left; are = ap (λ l. first ∷ l) (k .are); extra = k .extra })
+      rw (z, noTrailers, countHeaders) (record { taken = first ∷ k .taken; left = k .left; are = ap (λ l. first ∷ l) (k .are); each = ap suc (k .each); extra = k .extra })
 
 -- ---- what is joined to a legal request
 
@@ -285,6 +300,7 @@ longer R first sections others s t n states w w2 =
       taken = b .taken;
       left = b .left;
       are = b .are;
+      each = b .each;
       only = b .extra;
     }
 
