@@ -4,3 +4,4 @@ pub mod Rows
 pub mod Search
 pub mod Writes
 pub mod Once
+pub mod Refuted
