@@ -23,6 +23,7 @@ pub mod Stands
 pub mod Steps
 pub mod Sends
 pub mod Runs
+pub mod Exports
 pub mod OverTheCalls
 pub mod OneAnswer
 pub mod Only

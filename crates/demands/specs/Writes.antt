@@ -1,6 +1,6 @@
 -- FRAMES WE WRITE are read back as those same frames, each number in its shortest form: over the calls that write, of any room that they are lent
 -- and whatever follows. And when a write is refused, with which number, and that the room is as it was. Assumes nothing.
-use mathlib.Core.Path.{_≡_, refl, sym, ap, _∙_}
+use mathlib.Core.Path.{_≡_, refl, sym, ap, subst, _∙_}
 use Prim.Native.Nat.{ℕ, zero, suc, _+_, _-_, _≤_, _<_}
 use native.Mathlib.Omega.{arith}
 use mathlib.Core.List.{List, [], _∷_, _++_, append-nil}
@@ -32,6 +32,7 @@ use Rattle.connection.specs.declared.Connection.{Connection}
 use Rattle.connection.specs.declared.Written.{Written}
 use Rattle.connection.specs.Halves.{stream-id, doorsIn}
 use Rattle.board.specs.Lent.{SaidGoaway}
+use Rattle.board.specs.Writes.{writtenOf, WroteInto}
 
 -- ---- what was written
 
@@ -392,6 +393,63 @@ opening-read {before} {after} {n} m =
     let q : twelve ≡ p .bytes = (let i = into-some (length before) (some opening) (p .is) in cc) in
     let e : n ≡ 12 = p .count ∙ ap length (sym q) in
     (e, p .leaves ∙ ap (λ b. b ++ drop n before) (sym q) ∙ ap (λ k. twelve ++ drop k before) e, twelve-opens)
+
+-- ---- the plain writes, over the lent calls: the answer is a number and a count
+
+-- where the number is 0, the write was accepted, and the count is what was written
+module _ {Above : Type 0} {size : ℕ} {before : List ℕ} {r : Written} where
+  counted : {a : Wrote} {after : List ℕ} → Ends Above size before a after → r ≡ writtenOf a → r .number ≡ 0 → a ≡ Count (r .count)
+  counted (eight h) e z = let x : r .number ≡ 8 = ap (λ y. y .number) e in absurd (omega arith)
+  counted (seven n l) e z = let x : r .number ≡ 7 = ap (λ y. y .number) e in absurd (omega arith)
+  counted (accepted n l) e z = sym (ap (λ y. Count (y .count)) e)
+
+  lent-meets : (w : Write) {after : List ℕ} → (Meets w before (wroteOf w) after → Ends Above size before (wroteOf w) after) → WroteInto w before r after → r .number ≡ 0 → Meets w before (Count (r .count)) after
+  lent-meets w {after} f m z =
+      let k : Meets w before (wroteOf w) after = record { answers = refl; leaves = m .room-left } in
+      subst (λ a. Meets w before a after) (counted (f k) (m .answered) z) k
+
+  -- and whatever it is, it is one of the three
+  lent-ends : (w : Write) {after : List ℕ} → (Meets w before (wroteOf w) after → Ends Above size before (wroteOf w) after) → WroteInto w before r after → (a : Wrote) × (r ≡ writtenOf a) × Ends Above size before a after
+  lent-ends w f m = (wroteOf w, m .answered, f (record { answers = refl; leaves = m .room-left }))
+
+module _ {before after : List ℕ} {r : Written} where
+  -- A FRAME HEADER
+  module _ (type len : ℕ) (m : WroteInto (write-header (length before) type len) before r after) where
+    pub lent-header-ends : (a : Wrote) × (r ≡ writtenOf a) × Ends (EitherAbove type len) (sizeOf type + sizeOf len) before a after
+    lent-header-ends = lent-ends (write-header (length before) type len) (header-ends type len) m
+
+    pub lent-header : r .number ≡ 0 → Meets (write-header (length before) type len) before (Count (r .count)) after
+    lent-header = lent-meets (write-header (length before) type len) (header-ends type len) m
+
+    pub lent-header-read : r .number ≡ 0 → (payload rest : List ℕ) → length payload ≡ len
+        → (bytes : List ℕ) × (r .count ≡ length bytes) × (after ≡ bytes ++ drop (r .count) before) × (framesFrom 0 (bytes ++ (payload ++ rest)) ≡ frame (head 0 (r .count) type len) payload (framesFrom (r .count + len) rest))
+    lent-header-read z = header-read type len (lent-header z)
+
+    pub lent-header-shortest : r .number ≡ 0 → {bs : List ℕ} {from : ℕ} {payload : List ℕ} → Bytes bs → firstOf (framesFrom 0 bs) ≡ some (head 0 from type len, payload) → r .count ≤ from
+    lent-header-shortest z = header-shortest type len (lent-header z)
+
+  -- AN INTEGER FRAME
+  module _ (type v : ℕ) (m : WroteInto (write-integer-frame (length before) type v) before r after) where
+    pub lent-integer-frame-ends : (a : Wrote) × (r ≡ writtenOf a) × Ends (EitherAbove type v) (sizeOf type + 1 + sizeOf v) before a after
+    lent-integer-frame-ends = lent-ends (write-integer-frame (length before) type v) (integer-frame-ends type v) m
+
+    pub lent-integer-frame : r .number ≡ 0 → Meets (write-integer-frame (length before) type v) before (Count (r .count)) after
+    lent-integer-frame = lent-meets (write-integer-frame (length before) type v) (integer-frame-ends type v) m
+
+    pub lent-integer-frame-read : r .number ≡ 0 → (bytes : List ℕ) × (r .count ≡ length bytes) × (after ≡ bytes ++ drop (r .count) before) × FrameBack 0 type v bytes (drop (r .count) before)
+    lent-integer-frame-read z = integer-frame-read type v (lent-integer-frame z)
+
+    pub lent-integer-frame-shortest : r .number ≡ 0 → {bs : List ℕ} {from len : ℕ} {payload : List ℕ} → Bytes bs
+        → firstOf (framesFrom 0 bs) ≡ some (head 0 from type len, payload) → {next : ℕ} {rest : List ℕ} → integer 0 payload ≡ got v next rest → r .count ≤ from + next
+    lent-integer-frame-shortest z = integer-frame-shortest type v (lent-integer-frame z)
+
+  -- OUR CONTROL OPENING
+  module _ (m : WroteInto (write-opening (length before)) before r after) where
+    pub lent-opening-ends : (a : Wrote) × (r ≡ writtenOf a) × Ends ⊥ 12 before a after
+    lent-opening-ends = lent-ends (write-opening (length before)) opening-ends m
+
+    pub lent-opening-read : r .number ≡ 0 → (r .count ≡ 12) × (after ≡ twelve ++ drop 12 before) × OpensControl twelve
+    lent-opening-read z = opening-read (lent-meets (write-opening (length before)) opening-ends m z)
 
 -- ---- our GOAWAY, over the lent call
 
