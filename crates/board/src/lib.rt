@@ -119,7 +119,16 @@ pub extern "C" fn eistulko_feed(
 ) -> Report
     ensures { λ r. ⌜ Stepped (now (conn .entry)) (now (row .entry)) 1 id allow (now (piece .entry)) (now (conn .exit)) (now (row .exit)) r ⌝ }
 {
-    step(conn, row, 1, id, allow, piece)
+    if row.len() == 24 {
+        let f = seek(&*row, 1, id);
+        let b = connection::brisk(conn.code, f, allow, piece);
+        if b.report.number == 0 {
+            store(row, f.at, b.row);
+            return b.report;
+        }
+    }
+    let t = step(conn, row, 1, id, allow, piece);
+    t
 }
 
 #[no_mangle]

@@ -8,3 +8,4 @@ pub mod Worked
 pub mod Leavings
 pub mod Pair
 pub mod ToCome
+pub mod Briefly

@@ -15,6 +15,7 @@ ghost use Rattle.record.specs.Row.{recordAt, no-cells};
 ghost use Rattle.connection.specs.Halves.{doorsIn, withDoors, sideIn, withSide};
 ghost use Rattle.connection.specs.Faults.{codeKept};
 ghost use Rattle.connection.specs.Turned.{fresh-connection, numbered, unaltered, firstRecord, takenBy, freeAt, openedAt, Asks, replied, Hears, overheard, Turned, begunOf, sweptOf, GoesAway};
+ghost use Rattle.connection.specs.Briefly.{Briefly};
 
 // What a host lends for a connection: integers alone, and each value means something.
 // code: of the connection fault, 0 while there was none. requests and oneways: the lowest ID of each kind that was not opened yet.
@@ -268,10 +269,10 @@ pub fn wanted(call: u64, id: u64, r: Record) -> bool
     if call == 0 {
         return record::is_free(r);
     }
-    if r.kind == 0 {
+    if r.id != id {
         return false;
     }
-    if r.id == id { true } else { false }
+    if r.kind == 0 { false } else { true }
 }
 
 // ---- an opening
@@ -426,6 +427,45 @@ pub fn decide(c: Connection, f: Found, call: u64, id: u64, allow: u64, piece: &[
         return reply_turn(c, ask(row, call, allow, piece));
     }
     heard_turn(c, heed(row, side_in(c), call, allow, piece))
+}
+
+// What a feed leaves of the record and answers, where it leaves the connection as it is.
+pub struct Brief {
+    pub row: Record,
+    pub report: Report,
+}
+
+// A feed, if it is content of a request: number 0, and the connection stays as it is. With any other number the answer says nothing.
+pub fn brisk(code: u64, f: Found, allow: u64, piece: &[u8]) -> Brief
+    ensures { λ r. ⌜ Briefly code f allow (now (piece .entry)) r ⌝ }
+{
+    let row = f.row;
+    if f.len == 24 {
+        if code == 0 {
+            if f.at < 24 {
+                if row.kind == 1 {
+                    let a = requests::brisk(row, piece, allow);
+                    let q = a.row;
+                    return Brief {
+                        row: q,
+                        report: Report {
+                            number: a.number,
+                            event: a.event,
+                            start: a.start as u64,
+                            len: a.len,
+                            used: a.used as u64,
+                            heads: a.heads,
+                            value: 0,
+                        },
+                    };
+                }
+            }
+        }
+    }
+    Brief {
+        row,
+        report: numbered_report(1),
+    }
 }
 
 // ---- start

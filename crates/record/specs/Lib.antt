@@ -5,3 +5,4 @@ pub mod Tidy
 pub mod ReadWrite
 pub mod Same
 pub mod Worked
+pub mod Body

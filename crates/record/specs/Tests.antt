@@ -41,7 +41,7 @@ abbrev row-with : Record → (owner room : ℕ) → Record
 row-with r o m = record { id = r .id; acc = r .acc; ftype = r .ftype; stated = r .stated; sum = r .sum; kind = r .kind; mode = r .mode; due = r .due; phase = r .phase; has = r .has; owner = o; room = m }
 
 module _ (r : Record) where
-  row-own : r .owner ≡ 0 → r .room ≡ 0 → r ≡ recordAt (r .kind) (r .id) (cellsIn r)
+  pub row-own : r .owner ≡ 0 → r .room ≡ 0 → r ≡ recordAt (r .kind) (r .id) (cellsIn r)
   row-own o m = ap (λ x. row-with r x (r .room)) o ∙ ap (λ y. row-with r 0 y) m
 
   module _ {c d : Cells} (e : d ≡ cellsIn r) where

@@ -1,11 +1,13 @@
 // A stream as a record of a host's row: integers alone, in one place and order for every host, and one record for each state.
 use streams::Cells;
 ghost use mathlib.Core.Path.{_≡_};
+ghost use mathlib.Core.Bool.{true};
 ghost use Prim.Native.Nat.{_<_, _≤_, _^_};
 ghost use Rattle.varint.specs.ByByte.{part, prog, partOf, Good};
 ghost use Rattle.streams.specs.Answers.{Sane};
 ghost use Rattle.record.specs.Row.{recordAt, no-cells, free-record};
-ghost use Rattle.record.specs.Sound.{Decides, Shaped, Fit, cellsIn, tidied, Read, Written};
+ghost use Rattle.record.specs.Sound.{Decides, Shaped, Fit, cellsIn, tidied, Sound, Read, Written};
+ghost use Rattle.record.specs.Body.{Body};
 ghost use Rattle.record.specs.Tidy.{headAs, headTidied, placeAs, placeTidied};
 
 // kind 0: free, 1: a request, 2: a one-way stream before its type is whole, 3: control, 4: QPACK encoder, 5: QPACK decoder, 6: skipped.
@@ -48,7 +50,8 @@ fn narrow(x: u64) -> u8
     x as u8
 }
 
-fn cells_in(r: Record) -> Cells
+// The numbers of a record, whatever they are.
+pub fn cells_in(r: Record) -> Cells
     ensures { λ c. ⌜ c ≡ cellsIn r ⌝ }
 {
     Cells {
@@ -400,6 +403,72 @@ pub fn read(r: Record) -> Stream
             cells: none(),
         }
     }
+}
+
+// Whether a record's numbers are a request's behind its header section; but for mode and acc.
+fn behind(r: Record) -> bool
+    ensures { λ b. ⌜ (b ≡ true → Body r) ⌝ }
+{
+    if r.kind != 1 {
+        return false;
+    }
+    if r.phase != 1 {
+        return false;
+    }
+    if r.due != 0 {
+        return false;
+    }
+    if r.owner != 0 {
+        return false;
+    }
+    if r.room != 0 {
+        return false;
+    }
+    if r.ftype != 0 {
+        return false;
+    }
+    if r.id % 4 != 0 {
+        return false;
+    }
+    if 4611686018427387904 <= r.id {
+        return false;
+    }
+    if 4611686018427387904 < r.sum {
+        return false;
+    }
+    if 4611686018427387904 < r.stated {
+        return false;
+    }
+    if r.has == 1 {
+        return true;
+    }
+    if r.has != 0 {
+        return false;
+    }
+    if r.stated == 0 { true } else { false }
+}
+
+// Whether it is an open request in content, or between two frames behind its header section. Another may be open too.
+pub fn in_body(r: Record) -> bool
+    ensures { λ b. ⌜ (b ≡ true → Sound r × (r .kind ≡ 1) × (r .mode ≤ 3)) ⌝ }
+{
+    if behind(r) {
+        if r.mode == 3 {
+            if r.acc == 0 {
+                return false;
+            }
+            if r.acc < 4611686018427387904 {
+                return true;
+            }
+            return false;
+        }
+        if r.mode == 0 {
+            if r.acc == 0 {
+                return true;
+            }
+        }
+    }
+    false
 }
 
 // The one record of an open stream's state.

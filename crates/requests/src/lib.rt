@@ -153,6 +153,29 @@ pub fn feed(r: Record, piece: &[u8], allow: u64) -> Reply
     }
 }
 
+// The same, if it is content: number 0. Any other number says nothing.
+pub fn brisk(r: Record, piece: &[u8], allow: u64) -> Reply
+    ensures { λ a. ⌜ (a .number ≡ 0 → Keeps r (fedAs r allow (now (piece .entry))) a) ⌝ }
+{
+    if record::in_body(r) {
+        let c = record::cells_in(r);
+        let b = streams::brisk(piece, c, allow);
+        if b.event == 1 {
+            let d = b.cells;
+            return Reply {
+                number: 0,
+                event: b.event,
+                start: b.start,
+                len: b.len,
+                used: b.used,
+                heads: b.heads,
+                row: kept(r.id, d),
+            };
+        }
+    }
+    told(1, 0, r)
+}
+
 // The section that is due.
 pub fn give(r: Record, block: &[u8]) -> Reply
     ensures { λ a. ⌜ Keeps r (givenAs r (now (block .entry))) a ⌝ }

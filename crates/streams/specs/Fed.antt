@@ -1,8 +1,10 @@
 -- One feed, from its parts: a law for each way it goes. Assumes nothing.
-use mathlib.Core.Path.{_≡_, refl, sym, ap, _∙_}
-use Prim.Native.Nat.{ℕ, zero, suc, _+_, _-_, _≤_, _<_, zero-le}
+use mathlib.Core.Path.{_≡_, refl, sym, ap, _∙_, subst}
+use Prim.Native.Nat.{ℕ, zero, suc, _+_, _-_, _≤_, _<_, _^_, zero-le}
+use native.Mathlib.Nat.{sub-zero}
 use native.Mathlib.Omega.{arith}
 use mathlib.Core.List.{List}
+use lib.ListN.{length}
 use mathlib.Core.Logic.{inl}
 use Rattle.rules.specs.Reading.{header-section, trailers}
 use Rattle.meaning.specs.Machine.{lives, due}
@@ -11,11 +13,14 @@ use Rattle.meaning.specs.FeedLaws.{past, past-none, past-past, feed-due}
 use Rattle.streams.specs.declared.Cells.{Cells}
 use Rattle.streams.specs.declared.Answer.{Answer}
 use Rattle.streams.specs.declared.Start.{Start}
-use Rattle.streams.specs.Both.{Place, both}
-use Rattle.streams.specs.Stops.{stopOf, Stop}
+use Rattle.varint.specs.Whole.{Ended, Valued}
+use Rattle.streams.specs.Both.{Place, rule, both}
+use Rattle.streams.specs.Uses.{placeOf, numberOf, not-nine, passes-skip, passes-data, data-lawful}
+use borrow.Author.Tests.{ne-eqb, le-leb}
+use Rattle.streams.specs.Stops.{stopOf, Stop, stop-here, header-stop, pass-stop, found}
 use Rattle.streams.specs.Answers.{stateAt, stateOf, answerAt, Sane, Held, Answers, fromPayload, some-coming, place-same, answer}
-use Rattle.streams.specs.Stopped.{fromStop}
-use Rattle.streams.specs.Begun.{Started}
+use Rattle.streams.specs.Stopped.{moreSum, fromStop, stop-content}
+use Rattle.streams.specs.Begun.{Started, begin-fresh}
 
 -- THE DEFINITION'S FEED of these cells
 abbrev pub fedBy : (c : Cells) (s : List ℕ) (allow : ℕ) → (n : ℕ) → Place → (sofar : List ℕ) → Feeding Place
@@ -116,3 +121,36 @@ module _ (c : Cells) (s : List ℕ) (allow : ℕ) where
     known = a .known;
     held = a .held;
   }
+
+  -- content that goes on
+  pub fed-content : {r : Answer} → Sane c → c .mode ≡ 3 → Answers c s 0 (fromPayload c s 0 0 3 (c .acc)) r → Fed c s allow r
+  fed-content {r} sane e a = fed-payload sane (omega arith) (λ x. omega arith) (λ x. omega arith) (subst (λ x. Answers c s 0 (fromPayload c s 0 0 x (c .acc)) r) (sym e) a)
+
+  -- what is not told as content says nothing
+  pub unsaid : {r : Answer} {at heads : ℕ} {d : Cells} → r ≡ answer 0 at 0 at heads d → r .event ≡ 1 → Fed c s allow r
+  unsaid q e = let z = ap (λ (x : Answer). x .event) q in absurd (omega arith)
+
+  -- a DATA frame that begins the piece, and has content: its header is whole
+  module _ (sane : Sane c) (m0 : c .mode ≡ 0) (d0 : c .due ≡ 0) (some : allow ≡ 0 → ⊥) {n m l t k : ℕ} (h : Ended s 0 n) (n0 : n ≡ 0 → ⊥) (g : Ended s n m) (m1 : m ≡ 0 → ⊥) (v : Valued s n l) (u : Valued s 0 t)
+      (known : k ≡ numberOf (rule (placeOf (c .phase) (c .has) (c .stated) (c .sum)) t l)) (one : k ≡ 1) where
+    pub data-law : (c .phase ≡ 1) × (c .sum + l ≤ 2 ^ 62)
+    data-law = data-lawful (c .phase) (c .has) (c .stated) (c .sum) t l (sane .stateds) (sym known ∙ one)
+
+    nine : k ≡ 9 → ⊥
+    nine e = not-nine (placeOf (c .phase) (c .has) (c .stated) (c .sum)) t l (sym known ∙ e)
+
+    module _ (l0 : l ≡ 0 → ⊥) where
+      data-stop : Stop s (c .phase) (c .has) (c .stated) (c .sum) 0 allow (stopOf s 0 0 allow 0) m l (allow - 1) k
+      data-stop =
+          let p = c .phase in
+          let here = stop-here s p (c .has) (c .stated) (c .sum) m l (allow - 1) k (g .within) (sym (passes-data l k (length s - m) one) ∙ ne-eqb l 0 l0) nine (v .small) (λ e. data-law) in
+          pass-stop s p (c .has) (c .stated) (c .sum) 0 0 0 allow (sym (passes-skip 0 0 (length s - 0) refl) ∙ le-leb 0 (length s - 0) zero-le)
+          (header-stop s p (c .has) (c .stated) (c .sum) 0 allow t n l m k (found s 0 n t h n0 u) (found s n m l g m1 v) some known nine zero-le here)
+
+      pub fed-data : {d : Cells} {r : Answer} → d ≡ moreSum c l → Answers d s 0 (fromPayload d s m 1 3 l) r → Fed c s allow r
+      fed-data {d} {r} q a =
+          let z : allow - 0 ≡ allow = sub-zero allow in
+          let e : 1 ≡ allow - (allow - 1) = omega arith in
+          let st : Stop s (c .phase) (c .has) (c .stated) (c .sum) 0 (allow - 0) (stopOf s 0 0 (allow - 0) 0) m l (allow - 1) k = rw z data-stop in
+          let x = stop-content c s m 1 l (allow - 1) (g .within) (sane .sums, sane .stateds) sane k d one (omega arith) (data-law .0) q a in
+          fed-read (record { at = 0; left = 0; number = 0; heads = 0; cells = c }) (omega arith) (begin-fresh c s allow sane m0 d0) (λ y. omega arith) st (subst (λ y. Answers c s 1 (fromStop s m y k l (allow - 1)) r) e x)

@@ -599,6 +599,50 @@ pub fn feed(s: &[u8], c: Cells, allow: u64) -> Answer
     }
 }
 
+// A feed that begins in content, or with a DATA frame's header that stands whole in the piece: event 1, and the answer is that of `feed`.
+// Any other event says nothing.
+pub fn brisk(s: &[u8], c: Cells, allow: u64) -> Answer
+    requires { ⌜ Sane c ⌝ }
+    ensures { λ r. ⌜ (r .event ≡ 1 → Fed c (now (s .entry)) allow r) ⌝ }
+{
+    if c.mode == 3 {
+        return handed(s, 0, c.acc, 3, c, 0);
+    }
+    if c.mode != 0 {
+        return quiet(0, 0, c);
+    }
+    if c.due != 0 {
+        return quiet(0, 0, c);
+    }
+    if allow == 0 {
+        return quiet(0, 0, c);
+    }
+    if s.len() == 0 {
+        return quiet(0, 0, c);
+    }
+    if s[0] != 0 {
+        return quiet(0, 0, c);
+    }
+    let n = varint::ends(s, 0);
+    if n == 0 {
+        return quiet(0, 0, c);
+    }
+    let m = varint::ends(s, n);
+    if m == 0 {
+        return quiet(0, 0, c);
+    }
+    let l = varint::value(s, n);
+    if l == 0 {
+        return quiet(0, 0, c);
+    }
+    let k = ruled(c.phase, c.has, c.stated, c.sum, varint::value(s, 0), l);
+    if k == 1 {
+        handed(s, m, l, 3, more_sum(c, l), 1)
+    } else {
+        quiet(0, 0, c)
+    }
+}
+
 // ---- the end
 
 // Between two frames.

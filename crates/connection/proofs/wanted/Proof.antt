@@ -16,15 +16,15 @@ returns c = wanted-vacant _ _ _ (c .before .if1 .taken) (c .is-free .ensures)
 
 -- src/lib.rt:272:9
 returns-2 : tie.Need-returns-2
-returns-2 c = let a = c .before .before .before .args in wanted-free (a .id) (a .r) (a .call) (c .before .before .if1 .left) (c .if2 .taken)
+returns-2 c = let a = c .before .before .before .args in wanted-other (a .id) (a .r) (a .call) (c .before .before .if1 .left) (c .if2 .taken)
 
 -- src/lib.rt:265:1
 returns-3 : tie.Need-returns-3
-returns-3 c = let a = c .before .before .before .before .before .args in wanted-own (a .id) (a .r) (a .call) (c .before .before .before .before .if1 .left) (c .before .before .if2 .left) (c .if3 .taken)
+returns-3 c = let a = c .before .before .before .before .before .args in wanted-free (a .id) (a .r) (a .call) (c .before .before .before .before .if1 .left) (c .if3 .taken)
 
 -- src/lib.rt:265:1
 returns-4 : tie.Need-returns-4
-returns-4 c = let a = c .before .before .before .before .before .args in wanted-other (a .id) (a .r) (a .call) (c .before .before .before .before .if1 .left) (c .if3 .left)
+returns-4 c = let a = c .before .before .before .before .before .args in wanted-own (a .id) (a .r) (a .call) (c .before .before .before .before .if1 .left) (c .if3 .left) (c .before .before .if2 .left)
 
 pub wanted-spec : {M : Type 1} → statement M
 wanted-spec = tie.close (tie.spec is-free-requires returns returns-2 returns-3 returns-4)

@@ -1,0 +1,30 @@
+-- A FEED THAT LEAVES THE CONNECTION AS IT IS: it is answered from the code alone, the same for every connection of that code. Assumes nothing.
+use mathlib.Core.Path.{_≡_, refl, ap, _∙_}
+use Prim.Native.Nat.{ℕ, _<_}
+use native.Mathlib.Omega.{arith}
+use mathlib.Core.List.{List}
+use Rattle.requests.specs.declared.Reply.{Reply}
+use Rattle.requests.specs.Reply.{fedAs, Keeps}
+use Rattle.connection.specs.declared.Connection.{Connection}
+use Rattle.connection.specs.declared.Found.{Found}
+use Rattle.connection.specs.declared.Report.{Report}
+use Rattle.connection.specs.declared.Brief.{Brief}
+use Rattle.connection.specs.Faults.{kept-none}
+use Rattle.connection.specs.Turned.{told, numbered, turn, Turned}
+use Rattle.connection.specs.Ways.{asks-feed, on-request}
+
+-- with number 0 it is what the call answers; any other number says nothing
+pub record Briefly (code : ℕ) (f : Found) (allow : ℕ) (piece : List ℕ) (b : Brief) : Type 0 where
+  pub turns : b .report .number ≡ 0 → (c : Connection) (id : ℕ) → c .code ≡ code → Turned c f 1 id allow piece (turn c (b .row) (b .report))
+
+module _ {code : ℕ} {f : Found} {allow : ℕ} {piece : List ℕ} where
+  pub briefly-not : {b : Brief} → b .report ≡ numbered 1 → Briefly code f allow piece b
+  briefly-not q = record { turns = λ z. (let y = ap (λ (x : Report). x .number) q in absurd (omega arith)) }
+
+  pub briefly-so : f .len ≡ 24 → code ≡ 0 → f .at < 24 → f .row .kind ≡ 1 → {a : Reply} → (a .number ≡ 0 → Keeps (f .row) (fedAs (f .row) allow piece) a)
+      → Briefly code f allow piece (record { row = a .row; report = told (a .number) (a .event) (a .start) (a .len) (a .used) (a .heads) 0 })
+  briefly-so l z w k {a} keeps = record {
+    turns = λ y c id e.
+        on-request id allow (record { long = l; alive = e ∙ z }) (λ x. omega arith) w {a = a} k (asks-feed (f .row) 1 allow piece refl (keeps y))
+        (ap (λ x. turn x (a .row) (told (a .number) (a .event) (a .start) (a .len) (a .used) (a .heads) 0)) (kept-none c (a .number) (λ h. omega (arith, y, h .0))));
+  }
