@@ -5,3 +5,4 @@ pub mod Laws
 pub mod Lines
 pub mod Decimal
 pub mod Refuted
+pub mod Outside

@@ -1,5 +1,6 @@
 // The bytes of field names and values (RFC 9110), and the section block that a HEADERS payload decodes to.
 ghost use mathlib.Core.Path.{_≡_};
+ghost use mathlib.Core.Bool.{_||_};
 ghost use Prim.Native.Nat.{_+_, _*_, _-_, _<_, _≤_, _^_};
 ghost use lib.Dec.{T};
 ghost use lib.ListN.{length, getD};
@@ -282,7 +283,7 @@ const CLASSES: [u8; 256] = [
 ];
 
 // The table, read once for a whole walk.
-fn classes() -> [u8; 256]
+pub fn classes() -> [u8; 256]
     ensures { λ r. ⌜ T (allRight r) ⌝ }
 {
     CLASSES
@@ -447,6 +448,70 @@ pub fn bad_value(value: &[u8]) -> bool
         return true;
     }
     ends_so(value, Byte::In(Class::Blank))
+}
+
+// The same with the table of the caller, who reads it once for many names and values.
+fn any_outside<'a>(table: &'a [u8; 256], v: &'a [u8], class: Class) -> bool
+    requires { ⌜ T (allRight (now table)) ⌝ }
+    ensures { λ r. ⌜ r ≡ any (passesByte (Byte.Outside class)) (now (v .entry)) ⌝ }
+{
+    let mut i = 0;
+    while i < v.len() {
+        let b = v[i];
+        if !has_class(table[b as usize], class) {
+            return true;
+        }
+        i += 1;
+    }
+    false
+}
+
+fn blank(b: u8) -> bool
+    ensures { λ r. ⌜ r ≡ isBlank b ⌝ }
+{
+    if b == b' ' {
+        return true;
+    }
+    b == b'\t'
+}
+
+fn blank_ends(v: &[u8]) -> bool
+    ensures { λ r. ⌜ r ≡ (begins isBlank (now (v .entry)) || ends isBlank (now (v .entry))) ⌝ }
+{
+    if v.len() == 0 {
+        return false;
+    }
+    if blank(v[0]) {
+        return true;
+    }
+    blank(v[v.len() - 1])
+}
+
+// A field line's bytes.
+pub fn bad_line<'a>(table: &'a [u8; 256], name: &'a [u8], value: &'a [u8]) -> bool
+    requires { ⌜ T (allRight (now table)) ⌝ }
+    ensures { λ r. ⌜ r ≡ (badNameBytes (now (name .entry)) || badValueBytes (now (value .entry))) ⌝ }
+{
+    if !begins_so(name, Byte::Is(b':')) {
+        if name.len() == 0 {
+            return true;
+        }
+        if any_outside(table, name, Class::Name) {
+            return true;
+        }
+        return bad_value_by(table, value);
+    }
+    bad_value_by(table, value)
+}
+
+fn bad_value_by<'a>(table: &'a [u8; 256], value: &'a [u8]) -> bool
+    requires { ⌜ T (allRight (now table)) ⌝ }
+    ensures { λ r. ⌜ r ≡ badValueBytes (now (value .entry)) ⌝ }
+{
+    if any_outside(table, value, Class::Value) {
+        return true;
+    }
+    blank_ends(value)
 }
 
 // Stands for every number above 2^62-1, so that a long row of digits never overflows.

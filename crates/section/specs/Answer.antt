@@ -8,7 +8,6 @@ use Rattle.rules.specs.Block as block
 use Rattle.rules.specs.Section as rules
 use Rattle.rules.specs.Section.{Judgement, refused, sound, Head, named, valueOf, methodOf, statedIn, header-section, codeOf, size-check, bytes-check, unknown-check, repeated-check, late-check, in-trailers-check, connection-check, te-check, method-check, no-method-check, repeated-length-check, length-in-trailers-check, digits-check, length-above-check, repeated-host-check, connect-check, present-check, scheme-check, path-check, authority-check, empty-check, differ-check, at-check, length-check}
 use Rattle.fields.specs.Walk.{part}
-use Rattle.section.specs.declared.Text.the-variants as text
 use Rattle.section.specs.declared.Reason.{Reason}
 use Rattle.section.specs.declared.Reason.the-variants.{TooLarge, BadBytes, UnknownPseudo, RepeatedPseudo, LatePseudo, PseudoInTrailers, ConnectionField, OtherTe, BadMethod, NoMethod, RepeatedLength, LengthInTrailers, NoDigits, LengthAbove, RepeatedHost, Connect, NoSchemeOrPath, OtherScheme, BadPath, NoAuthority, EmptyAuthority, AuthoritiesDiffer, AtInAuthority, LengthPastLimit}
 use Rattle.section.specs.declared.Stated.{Stated}
@@ -17,7 +16,7 @@ use Rattle.section.specs.declared.HeaderAnswer.{HeaderAnswer}
 use Rattle.section.specs.declared.HeaderAnswer.the-variants as header
 use Rattle.section.specs.declared.TrailerAnswer.{TrailerAnswer}
 use Rattle.section.specs.declared.TrailerAnswer.the-variants as trailer
-use Rattle.section.specs.Tests.{textOf}
+use Rattle.section.specs.Tests.{methodName, lengthName}
 use Rattle.section.specs.Finding.{first, valueFrom, valueTo}
 use Rattle.section.specs.Checks.{reasonOf}
 
@@ -43,14 +42,14 @@ toOf (some l) = valueTo l
 
 -- the line that names the method
 unfoldable pub methodLine : Section → Option Line
-methodLine s = first (named (textOf text.Method)) s
+methodLine s = first (named methodName) s
 
 unfoldable pub at-method : Section → Head → Headed
 at-method s h = record { head = h; from = fromOf (methodLine s); to = toOf (methodLine s) }
 
 -- what a sound header section says
 abbrev pub says : Section → Head
-says s = record { method = methodOf (valueOf (textOf text.Method) s); stated = statedIn (valueOf (textOf text.ContentLength) s) }
+says s = record { method = methodOf (valueOf methodName s); stated = statedIn (valueOf lengthName s) }
 
 unfoldable pub headOf : Section → Headed
 headOf s = at-method s (says s)

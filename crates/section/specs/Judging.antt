@@ -8,17 +8,18 @@ use native.Mathlib.Omega.{arith}
 use lib.Dec.{ltb, lit<}
 use lib.ListN.{length, getD}
 use borrow.Author.Tests.{ltb-false}
-use Rattle.rules.specs.Block.{Section, Lines, readable}
+use Rattle.rules.specs.Block.{Line, Section, Lines, readable}
 use Rattle.rules.specs.Block as block
 use Rattle.rules.specs.Section as rules
 use Rattle.rules.specs.Section.{Check, refused, sound, holds, decimal, named, valueOf, methodOf, statedIn, unless, firstBroken, length-check, length-limit, header-checks, trailer-checks, header-section}
-use Rattle.fields.specs.Walk.{isReadable}
+use Rattle.fields.specs.Walk.{isReadable, held, part}
 use Rattle.fields.specs.Decimal.{capped, capped-below}
-use Rattle.section.specs.declared.Text.the-variants as text
 use Rattle.section.specs.declared.Stated.{Stated}
 use Rattle.section.specs.declared.HeaderAnswer.the-variants as header
-use Rattle.section.specs.Tests.{textOf}
-use Rattle.section.specs.Finding.{first, FoundAt}
+use Rattle.section.specs.Tests.{methodName, lengthName}
+use Rattle.section.specs.Finding.{first}
+use Rattle.section.specs.Facts.{placeOf}
+use Rattle.section.specs.Places.{first-sits, all-sit}
 use Rattle.section.specs.Laws.{value-none, value-some}
 use Rattle.section.specs.Answer.{Told, unreadable, judged, Headed, fromOf, toOf, methodLine, at-method, says, headOf, placed-in, tellHeader, tellTrailers, readStated, readHeader}
 
@@ -78,7 +79,7 @@ module _ (s : Section) where
   length-passed e = passed header-checks 21 length-check (lit< tt) e
 
   -- a length within the limit is told as it is
-  pub exact : {v : List ℕ} → length-check .broken s ≡ false → valueOf (textOf text.ContentLength) s ≡ some v → capped (decimal v) ≡ decimal v
+  pub exact : {v : List ℕ} → length-check .broken s ≡ false → valueOf lengthName s ≡ some v → capped (decimal v) ≡ decimal v
   unfolding length-check holds length-limit
   exact {v} e f =
       let within : ltb length-limit (decimal v) ≡ false = sym (ap (holds (λ x. ltb length-limit (decimal x))) f) ∙ e in
@@ -96,13 +97,14 @@ same-head {m′} {o} {o′} {f} {f′} {t} p q r e =
     ∙ ap (λ x. judged (sound (record { head = record { method = m′; stated = o′ }; from = x; to = t }))) r
     ∙ ap (λ x. judged (sound (record { head = record { method = m′; stated = o′ }; from = f′; to = x }))) e
 
-module _ (block : List ℕ) (s : Section) (t : Stated) (states : readStated t ≡ statedIn (valueOf (textOf text.ContentLength) s)) where
-  pub no-method-reads : first (named (textOf text.Method)) s ≡ none → readHeader block (header.Sound 0 0 t) ≡ judged (sound (headOf s))
-  unfolding readHeader headOf at-method methodLine fromOf toOf methodOf
-  no-method-reads e = same-head (sym (ap methodOf (value-none _ s e))) states (sym (ap fromOf e)) (sym (ap toOf e))
-
-  pub method-reads : {value next : ℕ} → FoundAt (named (textOf text.Method)) block s value next
-      → readHeader block (header.Sound value next t) ≡ judged (sound (headOf s))
-  unfolding readHeader headOf at-method methodLine fromOf toOf methodOf
-  method-reads f =
-      same-head (f .bytes ∙ sym (ap methodOf (value-some _ s (f .line) (f .is)))) states (f .from ∙ sym (ap fromOf (f .is))) (f .to ∙ sym (ap toOf (f .is)))
+-- the first line of the method, as it stands in the block
+module _ (block : List ℕ) (t : Stated) (states : readStated t ≡ statedIn (valueOf lengthName (held block))) where
+  pub method-reads : readHeader block (header.Sound (placeOf methodName (held block) .from) (placeOf methodName (held block) .to) t)
+      ≡ judged (sound (headOf (held block)))
+  unfolding readHeader headOf at-method methodLine placeOf fromOf toOf methodOf
+  method-reads = same-head (go (first (named methodName) (held block)) refl) states refl refl
+    where
+      go : (o : Option Line) → first (named methodName) (held block) ≡ o
+          → part (fromOf o) (toOf o) block ≡ methodOf (valueOf methodName (held block))
+      go none e = sym (ap methodOf (value-none _ (held block) e))
+      go (some l) e = first-sits _ block (held block) l (all-sit block) e .bytes ∙ sym (ap methodOf (value-some _ (held block) l e))

@@ -1,8 +1,12 @@
 pub mod Tests
+pub mod Names
 pub mod Finding
 pub mod Laws
-pub mod Size
 pub mod Checks
 pub mod Answer
+pub mod Facts
+pub mod Places
+pub mod Walking
+pub mod Clean
 pub mod Judging
 pub mod Request

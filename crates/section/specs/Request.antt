@@ -18,8 +18,7 @@ use Rattle.section.specs.declared.TrailerAnswer.{TrailerAnswer}
 use Rattle.section.specs.declared.TrailerAnswer.the-variants as trailer
 use Rattle.section.specs.Checks.{reasonOf}
 use Rattle.section.specs.Answer.{Told, judged, Headed, at-method, placed-in, tellHeader, tellTrailers, readStated, readHeader, readTrailers, says}
-use Rattle.section.specs.declared.Text.the-variants as text
-use Rattle.section.specs.Tests.{textOf}
+use Rattle.section.specs.Tests.{lengthName}
 use Rattle.section.specs.Judging.{length-passed}
 use Rattle.section.specs.Answer as answer
 
@@ -98,7 +97,7 @@ within (some v) e n f = let g : decimal v ≡ n = cc in let h = ltb-false length
 judged-within : (s : Section) (r : Option rules.Reason) → firstBroken header-checks s ≡ r → (n : ℕ)
     → header-by (unless r (says s)) ≡ request.Header.good (some n) → n ≤ 2 ^ 62
 unfolding header-by unless length-check
-judged-within s none q n e = within (valueOf (textOf text.ContentLength) s) (length-passed s q) n (cc)
+judged-within s none q n e = within (valueOf lengthName s) (length-passed s q) n (cc)
 judged-within s (some x) q n e = let z : _≡_ {A = ℕ} 0 1 = cc in absurd (omega arith)
 
 pub stated-within : (s : Section) (stated : Option ℕ) → document .header s ≡ request.Header.good stated → (n : ℕ) → stated ≡ some n → n ≤ 2 ^ 62

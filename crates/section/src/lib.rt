@@ -3,36 +3,28 @@
 use fields::Byte;
 use fields::Class;
 use fields::Record;
-ghost use mathlib.Core.List.{[]};
 ghost use mathlib.Core.Path.{_≡_};
-ghost use mathlib.Core.Bool.{false};
+ghost use mathlib.Core.Bool.{true, false, not, _||_, _&&_};
 ghost use mathlib.Core.Option.{none};
-ghost use Prim.Native.Nat.{ℕ};
-ghost use lib.Dec.{ltb};
-ghost use Rattle.rules.specs.Text.{any, same};
+ghost use Prim.Native.Nat.{_+_, _<_, _≤_, _^_};
+ghost use lib.Dec.{T};
+ghost use lib.ListN.{length};
+ghost use Rattle.rules.specs.Text.{same, all};
 ghost use Rattle.rules.specs.Block.{lines};
-ghost use Rattle.rules.specs.Section.{pseudo-fields, connection-fields, lineWith, lineSize, size, size-limit, holds, valueOf, has, repeated, firstBroken, length-check, header-checks, statedIn, sound, codeOf};
-ghost use Rattle.fields.specs.Walk.{held, sectionFrom};
-ghost use Rattle.section.specs.Tests.{textOf, isOneName, valueTest, bare, lineTest};
+ghost use Rattle.rules.specs.Section.{isEmpty, holds, valueOf, firstBroken, length-check, header-checks, statedIn, sound, codeOf};
+ghost use Rattle.fields.specs.Bytes.{isIn};
+ghost use Rattle.fields.specs.Table.{allRight};
+ghost use Rattle.fields.specs.Walk.{held};
+ghost use Rattle.section.specs.Tests.{textOf, valueTest, lengthName};
+ghost use Rattle.section.specs.Names.{otherName, oneName, ofSeven, ofTen, nameOf};
+ghost use Rattle.section.specs.Facts.{noPlace, noFacts, seenAt, notePlain, notePseudo, noteBy, lineStep, factsOf, Walks, valueIn, isThere, pseudoAgain};
+ghost use Rattle.section.specs.Clean.{Unflagged, WellAuthored};
 ghost use Rattle.section.specs.Answer.{judged, readStated, readHeader, tellHeader, headOf, readTrailers, tellTrailers};
 ghost use Rattle.section.specs.Checks.{checkOf, reasonOf, stepAt, reasonsOf, checksOf, readVerdict};
-ghost use Rattle.section.specs.Finding.{Finds, after};
 
-// ---- texts that names and values are compared with
+// ---- texts that values are compared with
 
 enum Text {
-    Method,
-    Scheme,
-    Authority,
-    Path,
-    Host,
-    ContentLength,
-    Te,
-    Connection,
-    KeepAlive,
-    ProxyConnection,
-    TransferEncoding,
-    Upgrade,
     Trailers,
     Connect,
     Options,
@@ -45,18 +37,6 @@ fn is_text(v: &[u8], text: Text) -> bool
     ensures { λ r. ⌜ r ≡ same (now (v .entry)) (textOf text) ⌝ }
 {
     match text {
-        Text::Method => fields::same_bytes(v, b":method"),
-        Text::Scheme => fields::same_bytes(v, b":scheme"),
-        Text::Authority => fields::same_bytes(v, b":authority"),
-        Text::Path => fields::same_bytes(v, b":path"),
-        Text::Host => fields::same_bytes(v, b"host"),
-        Text::ContentLength => fields::same_bytes(v, b"content-length"),
-        Text::Te => fields::same_bytes(v, b"te"),
-        Text::Connection => fields::same_bytes(v, b"connection"),
-        Text::KeepAlive => fields::same_bytes(v, b"keep-alive"),
-        Text::ProxyConnection => fields::same_bytes(v, b"proxy-connection"),
-        Text::TransferEncoding => fields::same_bytes(v, b"transfer-encoding"),
-        Text::Upgrade => fields::same_bytes(v, b"upgrade"),
         Text::Trailers => fields::same_bytes(v, b"trailers"),
         Text::Connect => fields::same_bytes(v, b"CONNECT"),
         Text::Options => fields::same_bytes(v, b"OPTIONS"),
@@ -66,40 +46,7 @@ fn is_text(v: &[u8], text: Text) -> bool
     }
 }
 
-fn is_pseudo_field(name: &[u8]) -> bool
-    ensures { λ r. ⌜ r ≡ isOneName pseudo-fields (now (name .entry)) ⌝ }
-{
-    if is_text(name, Text::Method) {
-        return true;
-    }
-    if is_text(name, Text::Scheme) {
-        return true;
-    }
-    if is_text(name, Text::Authority) {
-        return true;
-    }
-    is_text(name, Text::Path)
-}
-
-fn is_connection_field(name: &[u8]) -> bool
-    ensures { λ r. ⌜ r ≡ isOneName connection-fields (now (name .entry)) ⌝ }
-{
-    if is_text(name, Text::Connection) {
-        return true;
-    }
-    if is_text(name, Text::KeepAlive) {
-        return true;
-    }
-    if is_text(name, Text::ProxyConnection) {
-        return true;
-    }
-    if is_text(name, Text::TransferEncoding) {
-        return true;
-    }
-    is_text(name, Text::Upgrade)
-}
-
-// ---- what is asked of a value, and of a line
+// ---- what is asked of a value
 
 const LARGEST: u64 = 4_611_686_018_427_387_903;
 
@@ -108,10 +55,7 @@ const LENGTH_LIMIT: u64 = 1_048_576;
 enum Value {
     Empty,
     Is(Text),
-    OtherThan(Text),
     HttpOrHttps,
-    NotAll(Class),
-    AboveLargest,
     PastLimit,
     Begins(u8),
     Holds(u8),
@@ -119,7 +63,7 @@ enum Value {
 
 // Empty, or with a byte outside a class.
 fn not_all(v: &[u8], class: Class) -> bool
-    ensures { λ r. ⌜ r ≡ valueTest (Value.NotAll class) (now (v .entry)) ⌝ }
+    ensures { λ r. ⌜ r ≡ (isEmpty (now (v .entry)) || not (all (isIn class) (now (v .entry)))) ⌝ }
 {
     if v.len() == 0 {
         return true;
@@ -142,167 +86,365 @@ fn value_passes(v: &[u8], test: Value) -> bool
     match test {
         Value::Empty => v.len() == 0,
         Value::Is(text) => is_text(v, text),
-        Value::OtherThan(text) => !is_text(v, text),
         Value::HttpOrHttps => is_http(v),
-        Value::NotAll(class) => not_all(v, class),
-        Value::AboveLargest => LARGEST < fields::decimal_of(v),
         Value::PastLimit => LENGTH_LIMIT < fields::decimal_of(v),
         Value::Begins(b) => fields::begins_so(v, Byte::Is(b)),
         Value::Holds(b) => fields::any_byte(v, Byte::Is(b)),
     }
 }
 
-enum Test {
-    Pseudo,
+// ---- what a name is to the rules
+
+enum Name {
+    Method,
+    Scheme,
+    Authority,
+    Path,
+    Host,
+    ContentLength,
+    Te,
+    Connection,
+    Unknown,
     Plain,
-    UnknownPseudo,
-    BadBytes,
-    ConnectionField,
-    Named(Text),
-    With(Text, Value),
 }
 
-fn unknown_pseudo(name: &[u8]) -> bool
-    ensures { λ r. ⌜ r ≡ lineTest Test.UnknownPseudo (bare (now (name .entry)) []) ⌝ }
+fn other_name(name: &[u8]) -> Name
+    ensures { λ r. ⌜ r ≡ otherName (now (name .entry)) ⌝ }
 {
     if fields::begins_so(name, Byte::Is(b':')) {
-        return !is_pseudo_field(name);
+        return Name::Unknown;
     }
-    false
+    Name::Plain
 }
 
-fn bad_bytes(name: &[u8], value: &[u8]) -> bool
-    ensures { λ r. ⌜ r ≡ lineTest Test.BadBytes (bare (now (name .entry)) (now (value .entry))) ⌝ }
+// The one name of its length.
+fn one_name<'a>(name: &'a [u8], text: &'a [u8], is: Name) -> Name
+    ensures { λ r. ⌜ r ≡ oneName (now (text .entry)) is (now (name .entry)) ⌝ }
 {
-    if fields::bad_name(name) {
+    if fields::same_bytes(name, text) {
+        return is;
+    }
+    other_name(name)
+}
+
+fn of_seven(name: &[u8]) -> Name
+    ensures { λ r. ⌜ r ≡ ofSeven (now (name .entry)) ⌝ }
+{
+    if fields::same_bytes(name, b":method") {
+        return Name::Method;
+    }
+    if fields::same_bytes(name, b":scheme") {
+        return Name::Scheme;
+    }
+    one_name(name, b"upgrade", Name::Connection)
+}
+
+fn of_ten(name: &[u8]) -> Name
+    ensures { λ r. ⌜ r ≡ ofTen (now (name .entry)) ⌝ }
+{
+    if fields::same_bytes(name, b":authority") {
+        return Name::Authority;
+    }
+    if fields::same_bytes(name, b"connection") {
+        return Name::Connection;
+    }
+    one_name(name, b"keep-alive", Name::Connection)
+}
+
+// By its length, and then by the names of that length.
+fn name_of(name: &[u8]) -> Name
+    ensures { λ r. ⌜ r ≡ nameOf (now (name .entry)) ⌝ }
+{
+    let n = name.len();
+    if n == 7 {
+        return of_seven(name);
+    }
+    if n == 10 {
+        return of_ten(name);
+    }
+    if n == 5 {
+        return one_name(name, b":path", Name::Path);
+    }
+    if n == 14 {
+        return one_name(name, b"content-length", Name::ContentLength);
+    }
+    if n == 4 {
+        return one_name(name, b"host", Name::Host);
+    }
+    if n == 2 {
+        return one_name(name, b"te", Name::Te);
+    }
+    if n == 16 {
+        return one_name(name, b"proxy-connection", Name::Connection);
+    }
+    if n == 17 {
+        return one_name(name, b"transfer-encoding", Name::Connection);
+    }
+    other_name(name)
+}
+
+// ---- what one walk of the lines collects
+
+// The first line of a name: where its value begins and ends in the block, both 0 where there is none.
+struct Place {
+    from: usize,
+    to: usize,
+}
+
+struct Facts {
+    size: usize,
+    bad: bool,
+    unknown: bool,
+    pseudo: bool,
+    plain: bool,
+    late: bool,
+    connection: bool,
+    te: bool,
+    wrong: bool,
+    digitless: bool,
+    above: bool,
+    methods: bool,
+    schemes: bool,
+    authorities: bool,
+    paths: bool,
+    hosts: bool,
+    lengths: bool,
+    method: Place,
+    scheme: Place,
+    authority: Place,
+    path: Place,
+    host: Place,
+    length: Place,
+}
+
+fn either(a: bool, b: bool) -> bool
+    ensures { λ r. ⌜ r ≡ (a || b) ⌝ }
+{
+    if a {
         return true;
     }
-    fields::bad_value(value)
+    b
 }
 
-fn named_with(name: &[u8], value: &[u8], text: Text, test: Value) -> bool
-    ensures { λ r. ⌜ r ≡ lineTest (Test.With text test) (bare (now (name .entry)) (now (value .entry))) ⌝ }
+fn nowhere() -> Place
+    ensures { λ r. ⌜ r ≡ noPlace ⌝ }
 {
-    if is_text(name, text) {
-        return value_passes(value, test);
+    Place { from: 0, to: 0 }
+}
+
+fn nothing() -> Facts
+    ensures { λ r. ⌜ r ≡ noFacts ⌝ }
+{
+    let p = nowhere();
+    Facts {
+        size: 0,
+        bad: false,
+        unknown: false,
+        pseudo: false,
+        plain: false,
+        late: false,
+        connection: false,
+        te: false,
+        wrong: false,
+        digitless: false,
+        above: false,
+        methods: false,
+        schemes: false,
+        authorities: false,
+        paths: false,
+        hosts: false,
+        lengths: false,
+        method: p,
+        scheme: p,
+        authority: p,
+        path: p,
+        host: p,
+        length: p,
     }
-    false
 }
 
-fn line_passes(name: &[u8], value: &[u8], test: Test) -> bool
-    ensures { λ r. ⌜ r ≡ lineTest test (bare (now (name .entry)) (now (value .entry))) ⌝ }
+fn seen(p: Place, from: usize, to: usize) -> Place
+    ensures { λ r. ⌜ r ≡ seenAt p from to ⌝ }
 {
-    match test {
-        Test::Pseudo => fields::begins_so(name, Byte::Is(b':')),
-        Test::Plain => !fields::begins_so(name, Byte::Is(b':')),
-        Test::UnknownPseudo => unknown_pseudo(name),
-        Test::BadBytes => bad_bytes(name, value),
-        Test::ConnectionField => is_connection_field(name),
-        Test::Named(text) => is_text(name, text),
-        Test::With(text, v) => named_with(name, value, text, v),
+    if p.to == 0 {
+        return Place { from, to };
+    }
+    p
+}
+
+fn seen_again(p: Place, again: bool) -> bool
+    ensures { λ r. ⌜ r ≡ (isThere p || again) ⌝ }
+{
+    either(p.to != 0, again)
+}
+
+fn plain_line(f: Facts) -> Facts
+    ensures { λ r. ⌜ r ≡ notePlain f ⌝ }
+{
+    let mut g = f;
+    g.plain = true;
+    g
+}
+
+fn pseudo_line(f: Facts) -> Facts
+    ensures { λ r. ⌜ r ≡ notePseudo f ⌝ }
+{
+    let late = either(f.plain, f.late);
+    let mut g = f;
+    g.pseudo = true;
+    g.late = late;
+    g
+}
+
+fn noted(f: Facts, name: Name, value: &[u8], from: usize, to: usize) -> Facts
+    ensures { λ r. ⌜ r ≡ noteBy name f (now (value .entry)) from to ⌝ }
+{
+    match name {
+        Name::Method => {
+            let p = f.method;
+            let q = seen(p, from, to);
+            let again = seen_again(p, f.methods);
+            let bad = either(not_all(value, Class::Token), f.wrong);
+            let mut g = pseudo_line(f);
+            g.method = q;
+            g.methods = again;
+            g.wrong = bad;
+            g
+        }
+        Name::Scheme => {
+            let p = f.scheme;
+            let q = seen(p, from, to);
+            let again = seen_again(p, f.schemes);
+            let mut g = pseudo_line(f);
+            g.scheme = q;
+            g.schemes = again;
+            g
+        }
+        Name::Authority => {
+            let p = f.authority;
+            let q = seen(p, from, to);
+            let again = seen_again(p, f.authorities);
+            let mut g = pseudo_line(f);
+            g.authority = q;
+            g.authorities = again;
+            g
+        }
+        Name::Path => {
+            let p = f.path;
+            let q = seen(p, from, to);
+            let again = seen_again(p, f.paths);
+            let mut g = pseudo_line(f);
+            g.path = q;
+            g.paths = again;
+            g
+        }
+        Name::Host => {
+            let p = f.host;
+            let q = seen(p, from, to);
+            let again = seen_again(p, f.hosts);
+            let mut g = plain_line(f);
+            g.host = q;
+            g.hosts = again;
+            g
+        }
+        Name::ContentLength => {
+            let p = f.length;
+            let q = seen(p, from, to);
+            let again = seen_again(p, f.lengths);
+            let digitless = either(not_all(value, Class::Digit), f.digitless);
+            let above = either(LARGEST < fields::decimal_of(value), f.above);
+            let mut g = plain_line(f);
+            g.length = q;
+            g.lengths = again;
+            g.digitless = digitless;
+            g.above = above;
+            g
+        }
+        Name::Te => {
+            let other = either(!is_text(value, Text::Trailers), f.te);
+            let mut g = plain_line(f);
+            g.te = other;
+            g
+        }
+        Name::Connection => {
+            let mut g = plain_line(f);
+            g.connection = true;
+            g
+        }
+        Name::Unknown => {
+            let mut g = pseudo_line(f);
+            g.unknown = true;
+            g
+        }
+        Name::Plain => plain_line(f),
     }
 }
 
-// ---- walks of the lines
-
-// The first line that passes a test: where its value stands, and where the next record begins.
-enum Found {
-    Nothing,
-    At { value: usize, next: usize },
+// A line more.
+fn with_line<'a>(
+    f: Facts,
+    table: &'a [u8; 256],
+    name: &'a [u8],
+    value: &'a [u8],
+    from: usize,
+    to: usize,
+) -> Facts
+    requires { ⌜ (f .size + length (now name) + length (now value) < 2 ^ 64) × T (allRight (now table)) ⌝ }
+    ensures { λ r. ⌜ r ≡ lineStep f (now (name .entry)) (now (value .entry)) from to ⌝ }
+{
+    let size = f.size + name.len() + value.len();
+    let bad = either(fields::bad_line(table, name, value), f.bad);
+    let mut g = noted(f, name_of(name), value, from, to);
+    g.size = size;
+    g.bad = bad;
+    g
 }
 
-fn find(block: &[u8], from: usize, test: Test) -> Found
-    ensures { λ r. ⌜ ((n : ℕ) → Finds (lineTest test) (now (block .entry)) (sectionFrom (now (block .entry)) n from) r) ⌝ }
+enum Walked {
+    Unreadable,
+    Facts(Facts),
+}
+
+// The one walk of the lines.
+fn walk_lines(block: &[u8]) -> Walked
+    ensures { λ r. ⌜ Walks (now (block .entry)) r ⌝ }
 {
-    let mut at = from;
+    let table = fields::classes();
+    let mut at = 0;
+    let mut f = nothing();
     loop {
         match fields::line_at(block, at) {
-            Record::End => return Found::Nothing,
-            Record::Unreadable => return Found::Nothing,
+            Record::End => return Walked::Facts(f),
+            Record::Unreadable => return Walked::Unreadable,
             Record::Line { name, value, next } => {
-                if line_passes(&block[name..value], &block[value..next], test) {
-                    return Found::At { value, next };
-                }
+                f = with_line(
+                    f,
+                    &table,
+                    &block[name..value],
+                    &block[value..next],
+                    value,
+                    next,
+                );
                 at = next;
             }
         }
-    }
-}
-
-fn any_line(block: &[u8], from: usize, test: Test) -> bool
-    ensures { λ r. ⌜ ((n : ℕ) → r ≡ any (lineTest test) (sectionFrom (now (block .entry)) n from)) ⌝ }
-{
-    match find(block, from, test) {
-        Found::Nothing => false,
-        Found::At { value: _, next: _ } => true,
-    }
-}
-
-// Whether a line passes a test behind the first line that passes another.
-fn behind(block: &[u8], first: Test, test: Test) -> bool
-    ensures { λ r. ⌜ r ≡ any (lineTest test) (after (lineTest first) (held (now (block .entry)))) ⌝ }
-{
-    match find(block, 0, first) {
-        Found::Nothing => false,
-        Found::At { value: _, next } => any_line(block, next, test),
     }
 }
 
 // What a test says of the value of a name's first line.
-fn first_value(block: &[u8], name: Text, test: Value) -> bool
-    ensures { λ r. ⌜ r ≡ holds (valueTest test) (valueOf (textOf name) (held (now (block .entry)))) ⌝ }
+fn first_value(block: &[u8], p: Place, test: Value) -> bool
+    requires { ⌜ (p .from ≤ p .to) × (p .to ≤ length (now block)) ⌝ }
+    ensures { λ r. ⌜ r ≡ holds (valueTest test) (valueIn (now (block .entry)) p) ⌝ }
 {
-    match find(block, 0, Test::Named(name)) {
-        Found::Nothing => false,
-        Found::At { value, next } => value_passes(&block[value..next], test),
+    let from = p.from;
+    let to = p.to;
+    if to == 0 {
+        return false;
     }
-}
-
-fn has_line(block: &[u8], name: Text) -> bool
-    ensures { λ r. ⌜ r ≡ has (textOf name) (held (now (block .entry))) ⌝ }
-{
-    any_line(block, 0, Test::Named(name))
-}
-
-fn line_with(block: &[u8], name: Text, test: Value) -> bool
-    ensures { λ r. ⌜ r ≡ lineWith (textOf name) (valueTest test) (held (now (block .entry))) ⌝ }
-{
-    any_line(block, 0, Test::With(name, test))
-}
-
-fn repeats(block: &[u8], name: Text) -> bool
-    ensures { λ r. ⌜ r ≡ repeated (textOf name) (held (now (block .entry))) ⌝ }
-{
-    behind(block, Test::Named(name), Test::Named(name))
+    value_passes(&block[from..to], test)
 }
 
 const SIZE_LIMIT: usize = 16_384;
-
-fn line_size(name: &[u8], value: &[u8]) -> usize
-    ensures { λ r. ⌜ r ≡ lineSize (bare (now (name .entry)) (now (value .entry))) ⌝ }
-{
-    name.len() + value.len()
-}
-
-fn too_large(block: &[u8]) -> bool
-    ensures { λ r. ⌜ r ≡ ltb size-limit (size (held (now (block .entry)))) ⌝ }
-{
-    let mut at = 0;
-    let mut total: usize = 0;
-    loop {
-        match fields::line_at(block, at) {
-            Record::End => return false,
-            Record::Unreadable => return false,
-            Record::Line { name, value, next } => {
-                total += line_size(&block[name..value], &block[value..next]);
-                if SIZE_LIMIT < total {
-                    return true;
-                }
-                at = next;
-            }
-        }
-    }
-}
 
 // ---- the checks
 
@@ -344,105 +486,117 @@ pub fn code(reason: Reason) -> u64
     }
 }
 
-fn repeated_pseudo(block: &[u8]) -> bool
-    ensures { λ r. ⌜ r ≡ checkOf Reason.RepeatedPseudo .broken (held (now (block .entry))) ⌝ }
+fn repeated_pseudo(f: Facts) -> bool
+    ensures { λ r. ⌜ r ≡ pseudoAgain f ⌝ }
 {
-    if repeats(block, Text::Method) {
-        return true;
-    }
-    if repeats(block, Text::Scheme) {
-        return true;
-    }
-    if repeats(block, Text::Authority) {
-        return true;
-    }
-    repeats(block, Text::Path)
+    either(either(f.methods, f.schemes), either(f.authorities, f.paths))
 }
 
-fn no_scheme_or_path(block: &[u8]) -> bool
-    ensures { λ r. ⌜ r ≡ checkOf Reason.NoSchemeOrPath .broken (held (now (block .entry))) ⌝ }
+fn no_scheme_or_path(f: Facts) -> bool
+    ensures { λ r. ⌜ r ≡ not (isThere (f .scheme) && isThere (f .path)) ⌝ }
 {
-    if has_line(block, Text::Scheme) {
-        return !has_line(block, Text::Path);
+    if f.scheme.to == 0 {
+        return true;
     }
-    true
+    f.path.to == 0
 }
 
 // `*` is fine with OPTIONS.
-fn bad_path(block: &[u8]) -> bool
+fn bad_path(block: &[u8], f: Facts) -> bool
+    requires { ⌜ f ≡ factsOf (held (now block)) ⌝ }
     ensures { λ r. ⌜ r ≡ checkOf Reason.BadPath .broken (held (now (block .entry))) ⌝ }
 {
-    if first_value(block, Text::Path, Value::Begins(b'/')) {
+    let path = f.path;
+    if first_value(block, path, Value::Begins(b'/')) {
         return false;
     }
-    if first_value(block, Text::Path, Value::Is(Text::Star)) {
-        return !first_value(block, Text::Method, Value::Is(Text::Options));
+    if first_value(block, path, Value::Is(Text::Star)) {
+        let method = f.method;
+        return !first_value(block, method, Value::Is(Text::Options));
     }
     true
 }
 
-fn no_authority(block: &[u8]) -> bool
-    ensures { λ r. ⌜ r ≡ checkOf Reason.NoAuthority .broken (held (now (block .entry))) ⌝ }
+fn no_authority(f: Facts) -> bool
+    ensures { λ r. ⌜ r ≡ not (isThere (f .authority) || isThere (f .host)) ⌝ }
 {
-    if has_line(block, Text::Authority) {
-        return false;
+    if f.authority.to == 0 {
+        return f.host.to == 0;
     }
-    !has_line(block, Text::Host)
+    false
 }
 
-fn empty_authority(block: &[u8]) -> bool
+fn empty_authority(block: &[u8], f: Facts) -> bool
+    requires { ⌜ f ≡ factsOf (held (now block)) ⌝ }
     ensures { λ r. ⌜ r ≡ checkOf Reason.EmptyAuthority .broken (held (now (block .entry))) ⌝ }
 {
-    if first_value(block, Text::Authority, Value::Empty) {
+    let authority = f.authority;
+    if first_value(block, authority, Value::Empty) {
         return true;
     }
-    first_value(block, Text::Host, Value::Empty)
+    let host = f.host;
+    first_value(block, host, Value::Empty)
 }
 
-fn authorities_differ(block: &[u8]) -> bool
+fn authorities_differ(block: &[u8], f: Facts) -> bool
+    requires { ⌜ f ≡ factsOf (held (now block)) ⌝ }
     ensures { λ r. ⌜ r ≡ checkOf Reason.AuthoritiesDiffer .broken (held (now (block .entry))) ⌝ }
 {
-    match find(block, 0, Test::Named(Text::Authority)) {
-        Found::Nothing => false,
-        Found::At {
-            value: from,
-            next: to,
-        } => match find(block, 0, Test::Named(Text::Host)) {
-            Found::Nothing => false,
-            Found::At { value, next } => !fields::same_bytes(&block[from..to], &block[value..next]),
-        },
+    let from = f.authority.from;
+    let to = f.authority.to;
+    if to == 0 {
+        return false;
     }
+    let value = f.host.from;
+    let next = f.host.to;
+    if next == 0 {
+        return false;
+    }
+    !fields::same_bytes(&block[from..to], &block[value..next])
 }
 
 // Whether a check is broken.
-fn broken(block: &[u8], reason: Reason) -> bool
+fn broken(block: &[u8], f: Facts, reason: Reason) -> bool
+    requires { ⌜ f ≡ factsOf (held (now block)) ⌝ }
     ensures { λ r. ⌜ r ≡ checkOf reason .broken (held (now (block .entry))) ⌝ }
 {
     match reason {
-        Reason::TooLarge => too_large(block),
-        Reason::BadBytes => any_line(block, 0, Test::BadBytes),
-        Reason::UnknownPseudo => any_line(block, 0, Test::UnknownPseudo),
-        Reason::RepeatedPseudo => repeated_pseudo(block),
-        Reason::LatePseudo => behind(block, Test::Plain, Test::Pseudo),
-        Reason::PseudoInTrailers => any_line(block, 0, Test::Pseudo),
-        Reason::ConnectionField => any_line(block, 0, Test::ConnectionField),
-        Reason::OtherTe => line_with(block, Text::Te, Value::OtherThan(Text::Trailers)),
-        Reason::BadMethod => line_with(block, Text::Method, Value::NotAll(Class::Token)),
-        Reason::NoMethod => !has_line(block, Text::Method),
-        Reason::RepeatedLength => repeats(block, Text::ContentLength),
-        Reason::LengthInTrailers => has_line(block, Text::ContentLength),
-        Reason::NoDigits => line_with(block, Text::ContentLength, Value::NotAll(Class::Digit)),
-        Reason::LengthAbove => line_with(block, Text::ContentLength, Value::AboveLargest),
-        Reason::RepeatedHost => repeats(block, Text::Host),
-        Reason::Connect => first_value(block, Text::Method, Value::Is(Text::Connect)),
-        Reason::NoSchemeOrPath => no_scheme_or_path(block),
-        Reason::OtherScheme => !first_value(block, Text::Scheme, Value::HttpOrHttps),
-        Reason::BadPath => bad_path(block),
-        Reason::NoAuthority => no_authority(block),
-        Reason::EmptyAuthority => empty_authority(block),
-        Reason::AuthoritiesDiffer => authorities_differ(block),
-        Reason::AtInAuthority => first_value(block, Text::Authority, Value::Holds(b'@')),
-        Reason::LengthPastLimit => first_value(block, Text::ContentLength, Value::PastLimit),
+        Reason::TooLarge => SIZE_LIMIT < f.size,
+        Reason::BadBytes => f.bad,
+        Reason::UnknownPseudo => f.unknown,
+        Reason::RepeatedPseudo => repeated_pseudo(f),
+        Reason::LatePseudo => f.late,
+        Reason::PseudoInTrailers => f.pseudo,
+        Reason::ConnectionField => f.connection,
+        Reason::OtherTe => f.te,
+        Reason::BadMethod => f.wrong,
+        Reason::NoMethod => f.method.to == 0,
+        Reason::RepeatedLength => f.lengths,
+        Reason::LengthInTrailers => f.length.to != 0,
+        Reason::NoDigits => f.digitless,
+        Reason::LengthAbove => f.above,
+        Reason::RepeatedHost => f.hosts,
+        Reason::Connect => {
+            let p = f.method;
+            first_value(block, p, Value::Is(Text::Connect))
+        }
+        Reason::NoSchemeOrPath => no_scheme_or_path(f),
+        Reason::OtherScheme => {
+            let p = f.scheme;
+            !first_value(block, p, Value::HttpOrHttps)
+        }
+        Reason::BadPath => bad_path(block, f),
+        Reason::NoAuthority => no_authority(f),
+        Reason::EmptyAuthority => empty_authority(block, f),
+        Reason::AuthoritiesDiffer => authorities_differ(block, f),
+        Reason::AtInAuthority => {
+            let p = f.authority;
+            first_value(block, p, Value::Holds(b'@'))
+        }
+        Reason::LengthPastLimit => {
+            let p = f.length;
+            first_value(block, p, Value::PastLimit)
+        }
     }
 }
 
@@ -527,7 +681,8 @@ enum Verdict {
     Broken(Reason),
 }
 
-fn first_broken(block: &[u8], kind: Kind) -> Verdict
+fn first_broken(block: &[u8], f: Facts, kind: Kind) -> Verdict
+    requires { ⌜ f ≡ factsOf (held (now block)) ⌝ }
     ensures { λ r. ⌜ readVerdict r ≡ firstBroken (checksOf kind) (held (now (block .entry))) ⌝ }
 {
     let mut i = 0;
@@ -535,13 +690,105 @@ fn first_broken(block: &[u8], kind: Kind) -> Verdict
         match check_at(kind, i) {
             Step::Done => return Verdict::Passed,
             Step::Check(reason) => {
-                if broken(block, reason) {
+                if broken(block, f, reason) {
                     return Verdict::Broken(reason);
                 }
             }
         }
         i += 1;
     }
+}
+
+// ---- the sound case, which goes by no list
+
+// Whether the walk met a line that breaks a rule.
+fn flagged(f: Facts) -> bool
+    ensures { λ r. ⌜ (r ≡ false → Unflagged f) ⌝ }
+{
+    if f.bad {
+        return true;
+    }
+    if f.unknown {
+        return true;
+    }
+    if f.late {
+        return true;
+    }
+    if f.connection {
+        return true;
+    }
+    if f.te {
+        return true;
+    }
+    if f.wrong {
+        return true;
+    }
+    if f.digitless {
+        return true;
+    }
+    if f.above {
+        return true;
+    }
+    if f.lengths {
+        return true;
+    }
+    if f.hosts {
+        return true;
+    }
+    repeated_pseudo(f)
+}
+
+// Whether the host or the authority is at fault.
+fn bad_authority(block: &[u8], f: Facts) -> bool
+    requires { ⌜ f ≡ factsOf (held (now block)) ⌝ }
+    ensures { λ r. ⌜ (r ≡ false → WellAuthored (held (now (block .entry)))) ⌝ }
+{
+    if no_authority(f) {
+        return true;
+    }
+    if empty_authority(block, f) {
+        return true;
+    }
+    if authorities_differ(block, f) {
+        return true;
+    }
+    let p = f.authority;
+    first_value(block, p, Value::Holds(b'@'))
+}
+
+// A header section that breaks no check.
+fn clean(block: &[u8], f: Facts) -> bool
+    requires { ⌜ f ≡ factsOf (held (now block)) ⌝ }
+    ensures { λ r. ⌜ (r ≡ true → firstBroken header-checks (held (now (block .entry))) ≡ none) ⌝ }
+{
+    if SIZE_LIMIT < f.size {
+        return false;
+    }
+    if flagged(f) {
+        return false;
+    }
+    if f.method.to == 0 {
+        return false;
+    }
+    let m = f.method;
+    if first_value(block, m, Value::Is(Text::Connect)) {
+        return false;
+    }
+    if no_scheme_or_path(f) {
+        return false;
+    }
+    let s = f.scheme;
+    if !first_value(block, s, Value::HttpOrHttps) {
+        return false;
+    }
+    if bad_path(block, f) {
+        return false;
+    }
+    if bad_authority(block, f) {
+        return false;
+    }
+    let l = f.length;
+    !first_value(block, l, Value::PastLimit)
 }
 
 // ---- the judgement
@@ -569,55 +816,54 @@ pub enum TrailerAnswer {
     Sound,
 }
 
-fn stated_length(block: &[u8]) -> Stated
-    requires { ⌜ length-check .broken (held (now block)) ≡ false ⌝ }
-    ensures { λ r. ⌜ readStated r ≡ statedIn (valueOf (textOf Text.ContentLength) (held (now (block .entry)))) ⌝ }
+fn stated_length(block: &[u8], f: Facts) -> Stated
+    requires { ⌜ (f ≡ factsOf (held (now block))) × (length-check .broken (held (now block)) ≡ false) ⌝ }
+    ensures { λ r. ⌜ readStated r ≡ statedIn (valueOf lengthName (held (now (block .entry)))) ⌝ }
 {
-    match find(block, 0, Test::Named(Text::ContentLength)) {
-        Found::Nothing => Stated::Nothing,
-        Found::At { value, next } => Stated::Length(fields::decimal_of(&block[value..next])),
+    let from = f.length.from;
+    let to = f.length.to;
+    if to == 0 {
+        return Stated::Nothing;
     }
+    Stated::Length(fields::decimal_of(&block[from..to]))
 }
 
-fn sound_header(block: &[u8]) -> HeaderAnswer
-    requires { ⌜ firstBroken header-checks (held (now block)) ≡ none ⌝ }
+fn sound_header(block: &[u8], f: Facts) -> HeaderAnswer
+    requires { ⌜ (f ≡ factsOf (held (now block))) × (firstBroken header-checks (held (now block)) ≡ none) ⌝ }
     ensures { λ r. ⌜ readHeader (now (block .entry)) r ≡ judged (sound (headOf (held (now (block .entry))))) ⌝ }
 {
-    let stated = stated_length(block);
-    match find(block, 0, Test::Named(Text::Method)) {
-        Found::Nothing => HeaderAnswer::Sound {
-            method: 0,
-            end: 0,
-            stated,
-        },
-        Found::At { value, next } => HeaderAnswer::Sound {
-            method: value,
-            end: next,
-            stated,
-        },
+    HeaderAnswer::Sound {
+        method: f.method.from,
+        end: f.method.to,
+        stated: stated_length(block, f),
     }
 }
 
 pub fn header_section(block: &[u8]) -> HeaderAnswer
     ensures { λ r. ⌜ readHeader (now (block .entry)) r ≡ tellHeader (lines (now (block .entry))) ⌝ }
 {
-    if !fields::readable(block) {
-        return HeaderAnswer::Unreadable;
-    }
-    match first_broken(block, Kind::Header) {
-        Verdict::Broken(reason) => HeaderAnswer::Refused(reason),
-        Verdict::Passed => sound_header(block),
+    match walk_lines(block) {
+        Walked::Unreadable => HeaderAnswer::Unreadable,
+        Walked::Facts(f) => {
+            if clean(block, f) {
+                return sound_header(block, f);
+            }
+            match first_broken(block, f, Kind::Header) {
+                Verdict::Broken(reason) => HeaderAnswer::Refused(reason),
+                Verdict::Passed => sound_header(block, f),
+            }
+        }
     }
 }
 
 pub fn trailers(block: &[u8]) -> TrailerAnswer
     ensures { λ r. ⌜ readTrailers r ≡ tellTrailers (lines (now (block .entry))) ⌝ }
 {
-    if !fields::readable(block) {
-        return TrailerAnswer::Unreadable;
-    }
-    match first_broken(block, Kind::Trailers) {
-        Verdict::Broken(reason) => TrailerAnswer::Refused(reason),
-        Verdict::Passed => TrailerAnswer::Sound,
+    match walk_lines(block) {
+        Walked::Unreadable => TrailerAnswer::Unreadable,
+        Walked::Facts(f) => match first_broken(block, f, Kind::Trailers) {
+            Verdict::Broken(reason) => TrailerAnswer::Refused(reason),
+            Verdict::Passed => TrailerAnswer::Sound,
+        },
     }
 }

@@ -1,25 +1,13 @@
--- `section::no_authority` meets its contract: by the two names in order. Assumes nothing.
-use mathlib.Core.Path.{ap, _∙_}
-use mathlib.Core.Bool.{not}
-use borrow.Author.Needs.{needs}
-use Rattle.rules.specs.Section.{authority-check}
-use Rattle.section.specs.Laws.{or-held, or-not}
+-- `section::no_authority` meets its contract. Assumes nothing.
+use Rattle.section.specs.Laws.{neither, not-neither}
 use Rattle.section.proofs.no_authority.Statement.{statement}
 use Rattle.section.proofs.no_authority.Tie as tie
 
-has-line-requires : tie.Need-has-line-requires
-has-line-requires c κs = search needs
-
 returns : tie.Need-returns
-unfolding authority-check
-returns c = ap not (or-held _ (c .before .has-line .ensures) (c .if1 .taken))
-
-has-line-requires-2 : tie.Need-has-line-requires-2
-has-line-requires-2 c κs = search needs
+returns c = neither (c .before .before .before .args .f .authority .to) (c .before .before .before .args .f .host .to) (c .before .if1 .taken)
 
 returns-2 : tie.Need-returns-2
-unfolding authority-check
-returns-2 c = ap not (c .has-line2 .ensures ∙ or-not _ (c .before .before .has-line .ensures) (c .before .if1 .left))
+returns-2 c = not-neither (c .before .before .args .f .authority .to) _ (c .if1 .left)
 
 pub no-authority-spec : {M : Type 1} → statement M
-no-authority-spec = tie.close (tie.spec has-line-requires returns has-line-requires-2 returns-2)
+no-authority-spec = tie.close (tie.spec returns returns-2)
