@@ -1,4 +1,4 @@
-/* Times the proved feed, libnghttp3 and a bare scanner beside each other over the same streams, and prints the table.
+/* Times the library's feed, libnghttp3 and a bare scanner beside each other over the same streams, and prints the table.
    bench: reads the instructions of each row and reader from standard input, times all, prints.
    bench count ROW READER: that row once, inside `counted`, for a tool that counts instructions there. */
 #include <nghttp3/nghttp3.h>
@@ -71,7 +71,7 @@ static int nghttp3_run(const Byte *bytes, Count n, Count piece, int fin, Tally *
 
 enum { OURS, NGHTTP3, SCANNER, READERS };
 static const Reader readers[READERS] = {
-    {"the proved feed", ours_open, ours_run},
+    {"the library's feed", ours_open, ours_run},
     {"libnghttp3", nghttp3_open, nghttp3_run},
     {"the bare scanner", scan_open, scan_run},
 };
@@ -90,6 +90,7 @@ static const Row rows[] = {
     {"16-byte DATA, 64 KiB pieces", 0x00, 16, 65536, 65536, 0},
     {"empty unknown, 64 KiB pieces", 0x21, 0, 65536, 65536, 0},
     {"1 MiB PUT, 1200-byte pieces", 0x00, 16384, 64, 1200, 1},
+    {"the same, no section, no end", 0x00, 16384, 64, 1200, 0},
 };
 
 /* PUT https://localhost/ with a Content-Length of 1 MiB, as its HEADERS frame has it and as a block. */

@@ -4,13 +4,12 @@
 
 #include "../host/qpack.h"
 #include "../tests/peer/h3.h"
-#include "bench.h"
 #include "eistulko.h"
 
 #define PIECE 1200
 #define CONTENT (2 * PIECE - 3) /* behind the three bytes of its frame's head: two pieces */
 
-enum kind { OPEN, FEED_HEADERS, GIVE, FEED_HEAD, FEED_INSIDE, END, RESET, ALONE };
+enum kind { OPEN, FEED_HEADERS, GIVE, FEED_HEAD, FEED_INSIDE, END, RESET };
 const char *const kinds[KINDS] = {
     "open",
     "feed: a HEADERS frame",
@@ -19,7 +18,6 @@ const char *const kinds[KINDS] = {
     "feed: 1,200 bytes inside DATA",
     "end",
     "reset",
-    "feeds_c: 1,200 bytes inside DATA",
 };
 
 #define PAIR &connection, row, EISTULKO_RECORDS
@@ -28,8 +26,8 @@ static eistulko_connection connection;
 static eistulko_record row[EISTULKO_RECORDS];
 static struct bytes stream;
 static size_t section_end;
-Byte block[256];
-Count block_bytes;
+static uint8_t block[256];
+static size_t block_bytes;
 
 static void expect(bool held, const char *what) {
     if (held) return;
@@ -46,7 +44,6 @@ static eistulko_report call(enum kind kind, uint64_t id) {
     case FEED_INSIDE: return eistulko_feed(PAIR, id, stream.at + section_end + PIECE, PIECE, UINT64_MAX);
     case END: return eistulko_end(PAIR, id);
     case RESET: return eistulko_reset(PAIR, id);
-    case ALONE: break;
     }
     abort();
 }
@@ -73,26 +70,12 @@ static void prepare(void) {
     free(control.bytes);
 }
 
-/* The feed without the board, as the first table has it: with the loop of its host, bench/host.c. */
-static void alone(enum part part) {
-    Tally before = {0}, t = {0};
-    ours_open();
-    expect(ours_run(stream.at, section_end + PIECE, PIECE, 0, &before), kinds[ALONE]);
-    chosen = part;
-    mark(ENGINE);
-    int taken = ours_run(stream.at + section_end + PIECE, PIECE, PIECE, 0, &t);
-    mark(ENGINE);
-    chosen = NONE;
-    expect(taken && t.calls == 1 && t.content == PIECE, kinds[ALONE]);
-}
-
 /* The kinds up to the one asked for, which alone is counted: bench/marks.c has the engine's marks. */
 void one_call(size_t kind) {
     static const uint64_t events[] = {EISTULKO_NOTHING, EISTULKO_SECTION_END, EISTULKO_NOTHING, EISTULKO_CONTENT, EISTULKO_CONTENT, EISTULKO_WHOLE, EISTULKO_FREED};
     enum part part = chosen;
     chosen = NONE;
     prepare();
-    if (kind == ALONE) return alone(part);
     for (size_t k = 0; k <= kind; k++) {
         uint64_t id = k == RESET ? 4 : 0;
         if (k == RESET) expect(!call(OPEN, id).number, kinds[OPEN]);

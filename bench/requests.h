@@ -11,7 +11,7 @@ struct bytes request_stream(const char *method, const char *path, size_t stated,
 
 /* The engine's calls, one of each kind; bench/calls.c. */
 extern const char *const kinds[];
-#define KINDS 8
+#define KINDS 7
 void one_call(size_t kind);
 
 /* A connection without a QUIC stack: bench/stand_in.c stands in for one above host/http.h, with the gateway's files in the folder. */
