@@ -1,4 +1,4 @@
--- A FEED THAT LEAVES THE CONNECTION AS IT IS: it is answered from the code alone, the same for every connection of that code. Assumes nothing.
+-- A FEED OF CONTENT: it is answered from the connection's code alone, the same for every connection of that code. Assumes nothing.
 use mathlib.Core.Path.{_≡_, refl, ap, _∙_}
 use Prim.Native.Nat.{ℕ, _<_}
 use native.Mathlib.Omega.{arith}
@@ -13,9 +13,13 @@ use Rattle.connection.specs.Faults.{kept-none}
 use Rattle.connection.specs.Turned.{told, numbered, turn, Turned}
 use Rattle.connection.specs.Ways.{asks-feed, on-request}
 
+-- WHAT CONTENT LEAVES OF THE CONNECTION: all as it is
+abbrev pub contentLeaves : Connection → Brief → Connection
+contentLeaves c b = c
+
 -- with number 0 it is what the call answers; any other number says nothing
 pub record Briefly (code : ℕ) (f : Found) (allow : ℕ) (piece : List ℕ) (b : Brief) : Type 0 where
-  pub turns : b .report .number ≡ 0 → (c : Connection) (id : ℕ) → c .code ≡ code → Turned c f 1 id allow piece (turn c (b .row) (b .report))
+  pub turns : b .report .number ≡ 0 → (c : Connection) (id : ℕ) → c .code ≡ code → Turned c f 1 id allow piece (turn (contentLeaves c b) (b .row) (b .report))
 
 module _ {code : ℕ} {f : Found} {allow : ℕ} {piece : List ℕ} where
   pub briefly-not : {b : Brief} → b .report ≡ numbered 1 → Briefly code f allow piece b

@@ -49,7 +49,7 @@ use Rattle.connection.specs.declared.Found.{Found}
 use Rattle.connection.specs.declared.Brief.{Brief}
 use Rattle.connection.specs.Whose.{FoundIn}
 use Rattle.connection.specs.Turned.{turn}
-use Rattle.connection.specs.Briefly.{Briefly}
+use Rattle.connection.specs.Briefly.{contentLeaves, Briefly}
 use Rattle.connection.proofs.Connection as C
 use Rattle.connection.proofs.Connection.Laws as C′
 use Rattle.connection.proofs.Found as F
@@ -227,7 +227,7 @@ module _ {M : Type 1} (𝓤 : URA M) (H : Heap 𝓤) (A : Atoms 𝓤) (W : Given
           move ! (45 ∷ 46 ∷ []) $ free1 ! $ move ! (43 ∷ 44 ∷ []) $ free1 ! $ move ! (41 ∷ 42 ∷ []) $ free1 ! $ move ! (39 ∷ 40 ∷ []) $ free1 ! $ move ! (37 ∷ 38 ∷ []) $ free1 ! $ move ! (35 ∷ 36 ∷ []) $ free1 ! $ move ! (33 ∷ 34 ∷ []) $ free1 ! $ move ! (31 ∷ 32 ∷ []) $ free1 ! $ move ! (29 ∷ 30 ∷ []) $ free1 ! $ move ! (27 ∷ 28 ∷ []) $ free1 ! $ move ! (25 ∷ 26 ∷ []) $ free1 ! $ move ! (23 ∷ 24 ∷ []) $ free1 ! $ move ! (21 ∷ 22 ∷ []) $ free1 ! $ move ! (19 ∷ 20 ∷ []) $ free1 ! $ move ! (17 ∷ 18 ∷ []) $ free1 ! $ move ! (15 ∷ 16 ∷ []) $ free1 ! $ move ! (13 ∷ 14 ∷ []) $ free1 ! $ move ! (11 ∷ 12 ∷ []) $ free1 ! $ move ! (9 ∷ 10 ∷ []) $ free1 ! $ move ! (7 ∷ 8 ∷ []) $ free1 ! $ move ! (5 ∷ 6 ∷ []) $ free1 ! $ free0 ! $
           keep ! (0 ∷ 1 ∷ 2 ∷ 3 ∷ 4 ∷ []) $ by ! (exits r u c′ zs e l))
 
-      -- the record is stored, and the connection stays as it is
+      -- the record is stored, and the connection is left as content leaves it
       swiftly : Is (MutSlice (named 1) κ₁ R) x (rows-val x ∷ []) → (f : Found) (t : Brief) → f .at < 2 ^ 64 → FoundIn 1 id ys f → Briefly (c .code) f allow (piece .now) t → t .report .number ≡ 0 → Is R (t .row) (vals (t .row)) → Is N.the-row (t .report) (LL.vals N.the-type N′.the-laws (t .report))
           → Sq W ((‵ (flft κ₂ q₂) ⊛ ‵ ftrue) ∷ ‵ (OwnPiece κ₂ piece) ∷ ‵ (fobs γ₀ (C.the-row .coded .code c)) ∷ ‵ (fbor κ₀ (Body (cells C.the-row) b₀ o₀ γ₀)) ∷ ‵ (flft κ₀ q₀) ∷ ‵ (OwnRow κ₁ x) ∷ ‵ (flft κ₁ q₁) ∷ ‵ (froom (sliceTy (row-ref erased)) l20 0) ∷ ‵ (fdies (sliceTy (row-ref erased)) l20) ∷ ‵ (froom (row-ref erased) l19 0) ∷ ‵ (fdies (row-ref erased) l19) ∷ ‵ (froom (conn-ref erased) l18 0) ∷ ‵ (fdies (conn-ref erased) l18) ∷ ‵ (froom (sliceTy (row-ref erased)) l17 0) ∷ ‵ (fdies (sliceTy (row-ref erased)) l17) ∷ ‵ (froom (row-ref erased) l16 0) ∷ ‵ (fdies (row-ref erased) l16) ∷ ‵ (froom tyUnit l15 0) ∷ ‵ (fdies tyUnit l15) ∷ ‵ (froom tyBool l14 0) ∷ ‵ (fdies tyBool l14) ∷ ‵ (froom (tyInt w64) l13 0) ∷ ‵ (fdies (tyInt w64) l13) ∷ ‵ (froom (sliceTy seen-ref) l12 0) ∷ ‵ (fdies (sliceTy seen-ref) l12) ∷ ‵ (froom seen-ref l11 0) ∷ ‵ (fdies seen-ref l11) ∷ ‵ (froom tyBool l10 0) ∷ ‵ (fdies tyBool l10) ∷ ‵ (froom (tyInt w64) l9 0) ∷ ‵ (fdies (tyInt w64) l9) ∷ ‵ (froom N′.mir l8 0) ∷ ‵ (fdies N′.mir l8) ∷ ‵ (fat fullShare B′.mir l7 0 (only (brief-vals t))) ∷ ‵ (fdies B′.mir l7) ∷ ‵ (fat fullShare F′.mir l6 0 (only (found-vals f))) ∷ ‵ (fdies F′.mir l6) ∷ ‵ (fat fullShare (tyInt w64) l5 0 (vint w64 allow)) ∷ ‵ (fdies (tyInt w64) l5) ∷ ‵ (fat fullShare (sliceTy (tyRef (named 2) imm (tyInt w8))) l4 0 (bytes-val piece)) ∷ ‵ (fdies (sliceTy (tyRef (named 2) imm (tyInt w8))) l4) ∷ ‵ (fat fullShare (tyInt w64) l3 0 (vint w64 id)) ∷ ‵ (fdies (tyInt w64) l3) ∷ ‵ (fat fullShare (sliceTy (row-ref (named 1))) l2 0 (rows-val x)) ∷ ‵ (fdies (sliceTy (row-ref (named 1))) l2) ∷ ‵ (fat fullShare (conn-ref (named 0)) l1 0 (conn-val cr)) ∷ ‵ (fdies (conn-ref (named 0)) l1) ∷ ‵ (froom N′.mir l0 0) ∷ ‵ (fdies N′.mir l0) ∷ []) (runs Cs Λ En swift-body arm)
       swiftly p f t at-fits e e′ none is-row is-report =
@@ -256,7 +256,7 @@ module _ {M : Type 1} (𝓤 : URA M) (H : Heap 𝓤) (A : Atoms 𝓤) (W : Given
           -- [conn's last value; κ₁; rows; κ₂; piece; conn's borrow; κ₀]
           move ! (3 ∷ []) $ move ! (2 ∷ []) $ split ! $ move ! (1 ∷ []) $ drop ! $ move ! (0 ∷ 1 ∷ []) $ join ! $ move ! (5 ∷ 0 ∷ []) $ join ! $
           owned ! N.the-row (Is N.the-row) (LL.makes N.the-type N′.the-plain 𝓤 H A) (t .report) _ is-report $
-          keep ! (0 ∷ 1 ∷ 2 ∷ 3 ∷ 4 ∷ []) $ by ! (exits (t .report) _ c (zs .0) (record { found = f; turn = turn c (t .row) (t .report); is-found = e; turned = e′ .turns none c id refl; conn-left = refl; rows-left = e″; answered = refl }) l)))))))
+          keep ! (0 ∷ 1 ∷ 2 ∷ 3 ∷ 4 ∷ []) $ by ! (exits (t .report) _ (contentLeaves c t) (zs .0) (record { found = f; turn = turn (contentLeaves c t) (t .row) (t .report); is-found = e; turned = e′ .turns none c id refl; conn-left = refl; rows-left = e″; answered = refl }) l)))))))
 
       -- what was found is handed to `brisk`, with the connection's code
       briskly : Is (MutSlice (named 1) κ₁ R) x (rows-val x ∷ []) → (f : Found) → f .at < 2 ^ 64 → FoundIn 1 id ys f → Is F.the-row f (found-vals f)
