@@ -10,6 +10,9 @@ ghost use mathlib.Core.Path.{_≡_};
 ghost use mathlib.Core.List.{[], map};
 ghost use lib.ListN.{length, set, getD};
 ghost use Rattle.rules.specs.Writer.{write-header, write-integer-frame, write-opening};
+ghost use Rattle.record.specs.Row.{free-record};
+ghost use Rattle.record.specs.Sound.{cellsIn};
+ghost use Rattle.record.specs.Body.{contentIn};
 ghost use Rattle.connection.specs.Whose.{FoundIn};
 ghost use Rattle.connection.specs.Turned.{sweptOf};
 ghost use Rattle.board.specs.Layout.{connectionSize, recordSize, reportSize, writtenSize};
@@ -45,6 +48,17 @@ fn store(row: &mut [Record], i: usize, r: Record)
 {
     if i < row.len() {
         row[i] = r;
+    }
+}
+
+// The same of what content alters of a record.
+fn store_content(row: &mut [Record], i: usize, r: Record)
+    ensures { λ _. ⌜ now (row .exit) ≡ set (now (row .entry)) i (contentIn (getD (now (row .entry)) i free-record) (cellsIn r)) ⌝ }
+{
+    if i < row.len() {
+        row[i].acc = r.acc;
+        row[i].mode = r.mode;
+        row[i].sum = r.sum;
     }
 }
 
@@ -123,7 +137,7 @@ pub extern "C" fn eistulko_feed(
         let f = seek(&*row, 1, id);
         let b = connection::brisk(conn.code, f, allow, piece);
         if b.report.number == 0 {
-            store(row, f.at, b.row);
+            store_content(row, f.at, b.row);
             return b.report;
         }
     }

@@ -1,15 +1,16 @@
--- A request's record behind its header section, in content or between two frames: a few numbers say that it is sound. Assumes nothing.
-use mathlib.Core.Path.{_≡_, refl, sym, ap, _∙_}
+-- A request's record behind its header section, in content or between two frames: a few numbers say that it is sound, and content alters three of them. Assumes nothing.
+use mathlib.Core.Path.{_≡_, refl, sym, ap, _∙_, subst}
 use Prim.Native.Nat.{ℕ, zero, suc, _%_, _≤_, _<_, _^_}
 use native.Mathlib.Omega.{arith}
 use mathlib.Core.Bool.{true, false}
 use lib.Dec.{lit≤, lit<}
 use Rattle.varint.specs.ByByte.{part, Good}
 use Rattle.streams.specs.declared.Cells.{Cells}
-use Rattle.streams.specs.Answers.{Sane}
+use Rattle.streams.specs.Answers.{Sane, Content, goes-on, is-over}
 use Rattle.record.specs.declared.Record.{Record}
 use Rattle.record.specs.Row.{recordAt}
-use Rattle.record.specs.Sound.{Fit, cellsIn, tidied, Sound}
+use Rattle.record.specs.Sound.{Fit, cellsIn, tidied, Sound, stream, Written}
+use Rattle.record.specs.Same.{written-own}
 use Rattle.record.specs.Tests.{row-own, request-shape}
 use Rattle.record.specs.Tidy.{headAs, headTidied, placeAs, placeTidied, tidy-type, tidy-payload, tidy-unstated, tidy-stated, tidy-both, value-none}
 
@@ -72,3 +73,38 @@ module _ (r : Record) (b : Body r) where
       let g : Good (part (r .acc) (r .due)) = rw (a, d) (record { few = lit≤ tt; small = lit< tt }) in
       let s : Sane c = record { modes = omega arith; header = λ h. g; small = omega arith; type = omega arith; some = λ g h i. absurd (omega arith); sums = b .sums; stateds = b .stateds } in
       sound s (omega arith) (tidy-type c m (value-none (c .due) (c .acc) d) (head-own 0 a ∙ ap (λ x. headAs c 0 x 0) (sym d)))
+
+-- WHAT CONTENT ALTERS of a record: the bytes to come, the mode and the sum
+abbrev pub contentIn : Record → Cells → Record
+contentIn r c = record {
+  id = r .id;
+  acc = c .acc;
+  ftype = r .ftype;
+  stated = r .stated;
+  sum = c .sum;
+  kind = r .kind;
+  mode = c .mode;
+  due = r .due;
+  phase = r .phase;
+  has = r .has;
+  owner = r .owner;
+  room = r .room;
+}
+
+module _ (r : Record) (b : Body r) where
+  body-again : {d : Cells} → Sane d → Body (contentIn r d)
+  body-again s = record { kind = b .kind; phase = b .phase; due = b .due; owner = b .owner; room = b .room; type = b .type; ids = b .ids; id = b .id; sums = s .sums; stateds = b .stateds; has = b .has; none = b .none }
+
+  sound-again : {d : Cells} → Sane d → Content (cellsIn r) d → (cellsIn (contentIn r d) ≡ d) × Sound (contentIn r d)
+  sound-again {d} s (goes-on acc sum) =
+      let q = contentIn r d in
+      let z : 0 < acc = s .some (omega arith) (λ e. omega arith) (λ e. omega arith) in
+      (head-own q (body-again s) acc refl, content-sound q (body-again s) refl (λ e. omega arith) (s .small))
+  sound-again {d} s (is-over sum) = let q = contentIn r d in (head-own q (body-again s) 0 refl, between-sound q (body-again s) refl refl)
+
+  -- SO ALTERED IT IS the one record of the state behind the content
+  pub content-written : {d : Cells} → Sane d → Content (cellsIn r) d → Written (stream 1 (r .id) d) (contentIn r d)
+  content-written {d} s h =
+      let q = contentIn r d in
+      let w : Written (stream (r .kind) (r .id) (cellsIn q)) q = written-own q (sound-again s h .1) in
+      subst (λ x. Written (stream 1 (r .id) x) q) (sound-again s h .0) (subst (λ k. Written (stream k (r .id) (cellsIn q)) q) (b .kind) w)

@@ -170,6 +170,9 @@ one-read r s t (is-unsound n u p) (is-unsound m v q) = p ∙ sym q
 pub sound-is : (r : Record) → Sound r → (p : Place) (k : List ℕ) → StandsIn (cellsIn r) p → r ≡ recordOf (r .kind) (r .id) (stateOf (cellsIn r) p k)
 sound-is r s p k st = s .own ∙ ap (recordAt (r .kind) (r .id)) (sym (one-state (cellsIn r) p k st))
 
+pub written-own : (r : Record) → Sound r → Written (stream (r .kind) (r .id) (cellsIn r)) r
+written-own r s = is-record (s .fit) (sound-is r s)
+
 -- TWO RECORDS OF ONE STATE ARE EQUAL
 pub one-record : (r q : Record) → Sound r → Sound q → r .kind ≡ q .kind → r .id ≡ q .id
     → (p p′ : Place) (k k′ : List ℕ) → StandsIn (cellsIn r) p → StandsIn (cellsIn q) p′ → stateOf (cellsIn r) p k ≡ stateOf (cellsIn q) p′ k′ → r ≡ q

@@ -7,7 +7,7 @@ ghost use Rattle.varint.specs.ByByte.{part, prog, partOf, Good};
 ghost use Rattle.streams.specs.Answers.{Sane};
 ghost use Rattle.record.specs.Row.{recordAt, no-cells, free-record};
 ghost use Rattle.record.specs.Sound.{Decides, Shaped, Fit, cellsIn, tidied, Sound, Read, Written};
-ghost use Rattle.record.specs.Body.{Body};
+ghost use Rattle.record.specs.Body.{Body, contentIn};
 ghost use Rattle.record.specs.Tidy.{headAs, headTidied, placeAs, placeTidied};
 
 // kind 0: free, 1: a request, 2: a one-way stream before its type is whole, 3: control, 4: QPACK encoder, 5: QPACK decoder, 6: skipped.
@@ -450,7 +450,7 @@ fn behind(r: Record) -> bool
 
 // Whether it is an open request in content, or between two frames behind its header section. Another may be open too.
 pub fn in_body(r: Record) -> bool
-    ensures { λ b. ⌜ (b ≡ true → Sound r × (r .kind ≡ 1) × (r .mode ≤ 3)) ⌝ }
+    ensures { λ b. ⌜ (b ≡ true → Sound r × Body r × (r .mode ≤ 3)) ⌝ }
 {
     if behind(r) {
         if r.mode == 3 {
@@ -469,6 +469,18 @@ pub fn in_body(r: Record) -> bool
         }
     }
     false
+}
+
+// The record with what content alters of it.
+pub fn in_content(r: Record, c: Cells) -> Record
+    requires { ⌜ c .mode < 256 ⌝ }
+    ensures { λ q. ⌜ q ≡ contentIn r c ⌝ }
+{
+    let mut q = r;
+    q.acc = c.acc;
+    q.mode = narrow(c.mode);
+    q.sum = c.sum;
+    q
 }
 
 // The one record of an open stream's state.

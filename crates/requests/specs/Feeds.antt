@@ -17,7 +17,7 @@ use Rattle.streams.specs.Both.{Place, of-request, judged}
 use Rattle.streams.specs.Uses.{placeOf}
 use Rattle.streams.specs.Heads.{headState}
 use Rattle.streams.specs.Parts.{judgedAs}
-use Rattle.streams.specs.Answers.{keptAt, stateAt, stateOf, placeAt, answerAt, Sane, Held}
+use Rattle.streams.specs.Answers.{keptAt, stateAt, stateOf, placeAt, answerAt, Sane, Held, Content}
 use Rattle.streams.specs.Fed.{Fed}
 use Rattle.streams.specs.Apart.{message, state-carried, request-fed}
 use Rattle.record.specs.declared.Record.{Record}
@@ -25,6 +25,7 @@ use Rattle.record.specs.Row.{recordOf, requestRecord}
 use Rattle.record.specs.Sound.{Fit, cellsIn, ownPlace, stream, Written}
 use Rattle.record.specs.Tests.{request-shape}
 use Rattle.record.specs.Same.{written-as, written-sound}
+use Rattle.record.specs.Body.{Body, contentIn, content-written}
 use Rattle.requests.specs.declared.Reply.{Reply}
 use Rattle.requests.specs.Reply.{Open, stateIn, reply, refused, leftBy, saidBy, said, unlessDue, fedAs, Keeps, opened}
 use Rattle.requests.specs.Plain.{Plain, Plainly, plain-feed}
@@ -256,3 +257,8 @@ module _ (r : Record) (o : Open r) (piece : List ℕ) (allow : ℕ) where
               ∙ part-said r (ans .start) (ans .len) (ans .used) (ans .heads) (ans .cells) next [] piece (ans .event) z (omega (arith, h, four)) ∙ want-is);
           stays = λ z. open-w;
         }
+
+      -- content alters three numbers of the record
+      pub feed-content : Body r → Content (cellsIn r) (ans .cells) → ans .event ≡ 1 → {q : Record} → q ≡ contentIn r (ans .cells)
+          → Keeps r (fedAs r allow piece) (reply 0 (ans .event) (ans .start) (ans .len) (ans .used) (ans .heads) q) × (q ≡ contentIn r (cellsIn q))
+      feed-content b h e q = rw q (feed-part (contentIn r (ans .cells)) (content-written r b (fed .sane not-taken) h) (λ z. omega arith) (omega arith), refl)

@@ -3,7 +3,8 @@ use record::Record;
 use record::Stream;
 use streams::Cells;
 ghost use mathlib.Core.Path.{_≡_};
-ghost use Rattle.record.specs.Sound.{Fit, stream, Written};
+ghost use Rattle.record.specs.Sound.{Fit, cellsIn, stream, Written};
+ghost use Rattle.record.specs.Body.{contentIn};
 ghost use Rattle.requests.specs.Reply.{reply, leftBy, fedAs, givenAs, endedAs, resetAs, Answered, Keeps};
 
 // number 0: accepted; 1: not an open request; 4, 5, 6; else the code. event 0: none, 1: content, 2: section bytes, 3: the last of them,
@@ -155,7 +156,7 @@ pub fn feed(r: Record, piece: &[u8], allow: u64) -> Reply
 
 // The same, if it is content: number 0. Any other number says nothing.
 pub fn brisk(r: Record, piece: &[u8], allow: u64) -> Reply
-    ensures { λ a. ⌜ (a .number ≡ 0 → Keeps r (fedAs r allow (now (piece .entry))) a) ⌝ }
+    ensures { λ a. ⌜ (a .number ≡ 0 → Keeps r (fedAs r allow (now (piece .entry))) a × (a .row ≡ contentIn r (cellsIn (a .row)))) ⌝ }
 {
     if record::in_body(r) {
         let c = record::cells_in(r);
@@ -169,7 +170,7 @@ pub fn brisk(r: Record, piece: &[u8], allow: u64) -> Reply
                 len: b.len,
                 used: b.used,
                 heads: b.heads,
-                row: kept(r.id, d),
+                row: record::in_content(r, d),
             };
         }
     }

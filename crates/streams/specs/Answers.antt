@@ -170,5 +170,17 @@ place-same c p st = stands-same (c .has) (c .stated) (c .sum) st
 abbrev pub inMode : Cells → (mode acc : ℕ) → Cells
 inMode c mode acc = record { mode = mode; acc = acc; due = 0; ftype = 0; phase = c .phase; has = c .has; stated = c .stated; sum = c .sum }
 
+-- WHAT CONTENT LEAVES of the cells: more of it is to come, or another frame; but for the sum the place is the same
+abbrev pub contentAt : Cells → (mode acc sum : ℕ) → Cells
+contentAt c mode acc sum = record { mode = mode; acc = acc; due = 0; ftype = 0; phase = c .phase; has = c .has; stated = c .stated; sum = sum }
+
+pub data Content (c : Cells) : Cells → Type 0 where
+  goes-on : (acc sum : ℕ) → Content c (contentAt c 3 acc sum)
+  is-over : (sum : ℕ) → Content c (contentAt c 0 0 sum)
+
+-- a payload handed on, from its beginning or from where it was cut
+abbrev pub Hands : Cells → (s : List ℕ) → (at heads mode left : ℕ) → Answer → Type 0
+Hands c s at heads mode left r = Answers c s 0 (fromPayload c s at heads mode left) r × (mode ≡ 3 → Content c (r .cells))
+
 abbrev pub answer : (event start len used heads : ℕ) → Cells → Answer
 answer event start len used heads c = record { event = event; start = start; len = len; used = used; heads = heads; cells = c }

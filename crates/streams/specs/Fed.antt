@@ -18,7 +18,7 @@ use Rattle.streams.specs.Both.{Place, rule, both}
 use Rattle.streams.specs.Uses.{placeOf, numberOf, not-nine, passes-skip, passes-data, data-lawful}
 use borrow.Author.Tests.{ne-eqb, le-leb}
 use Rattle.streams.specs.Stops.{stopOf, Stop, stop-here, header-stop, pass-stop, found}
-use Rattle.streams.specs.Answers.{stateAt, stateOf, answerAt, Sane, Held, Answers, fromPayload, some-coming, place-same, answer}
+use Rattle.streams.specs.Answers.{stateAt, stateOf, answerAt, Sane, Held, Answers, fromPayload, some-coming, place-same, Content, goes-on, is-over, Hands, answer}
 use Rattle.streams.specs.Stopped.{moreSum, fromStop, stop-content}
 use Rattle.streams.specs.Begun.{Started, begin-fresh}
 
@@ -42,6 +42,11 @@ state-free (suc (suc (suc (suc (suc zero))))) a d t p k h = refl
 state-free (suc (suc (suc (suc (suc (suc zero)))))) a d t p k h = refl
 state-free (suc (suc (suc (suc (suc (suc (suc zero))))))) a d t p k h = refl
 state-free (suc (suc (suc (suc (suc (suc (suc (suc m)))))))) a d t p k h = refl
+
+-- content of a frame that began here
+content-more : (c : Cells) (len : ℕ) {d : Cells} → Content (moreSum c len) d → Content c d
+content-more c len (goes-on acc sum) = goes-on acc sum
+content-more c len (is-over sum) = is-over sum
 
 module _ (c : Cells) (s : List ℕ) (allow : ℕ) where
   -- a payload that goes on
@@ -123,11 +128,11 @@ module _ (c : Cells) (s : List ℕ) (allow : ℕ) where
   }
 
   -- content that goes on
-  pub fed-content : {r : Answer} → Sane c → c .mode ≡ 3 → Answers c s 0 (fromPayload c s 0 0 3 (c .acc)) r → Fed c s allow r
-  fed-content {r} sane e a = fed-payload sane (omega arith) (λ x. omega arith) (λ x. omega arith) (subst (λ x. Answers c s 0 (fromPayload c s 0 0 x (c .acc)) r) (sym e) a)
+  pub fed-content : {r : Answer} → Sane c → c .mode ≡ 3 → Hands c s 0 0 3 (c .acc) r → Fed c s allow r × Content c (r .cells)
+  fed-content {r} sane e a = (fed-payload sane (omega arith) (λ x. omega arith) (λ x. omega arith) (subst (λ x. Answers c s 0 (fromPayload c s 0 0 x (c .acc)) r) (sym e) (a .0)), a .1 refl)
 
   -- what is not told as content says nothing
-  pub unsaid : {r : Answer} {at heads : ℕ} {d : Cells} → r ≡ answer 0 at 0 at heads d → r .event ≡ 1 → Fed c s allow r
+  pub unsaid : {says : Type 0} {r : Answer} {at heads : ℕ} {d : Cells} → r ≡ answer 0 at 0 at heads d → r .event ≡ 1 → says
   unsaid q e = let z = ap (λ (x : Answer). x .event) q in absurd (omega arith)
 
   -- a DATA frame that begins the piece, and has content: its header is whole
@@ -147,10 +152,11 @@ module _ (c : Cells) (s : List ℕ) (allow : ℕ) where
           pass-stop s p (c .has) (c .stated) (c .sum) 0 0 0 allow (sym (passes-skip 0 0 (length s - 0) refl) ∙ le-leb 0 (length s - 0) zero-le)
           (header-stop s p (c .has) (c .stated) (c .sum) 0 allow t n l m k (found s 0 n t h n0 u) (found s n m l g m1 v) some known nine zero-le here)
 
-      pub fed-data : {d : Cells} {r : Answer} → d ≡ moreSum c l → Answers d s 0 (fromPayload d s m 1 3 l) r → Fed c s allow r
+      pub fed-data : {d : Cells} {r : Answer} → d ≡ moreSum c l → Hands d s m 1 3 l r → Fed c s allow r × Content c (r .cells)
       fed-data {d} {r} q a =
           let z : allow - 0 ≡ allow = sub-zero allow in
           let e : 1 ≡ allow - (allow - 1) = omega arith in
           let st : Stop s (c .phase) (c .has) (c .stated) (c .sum) 0 (allow - 0) (stopOf s 0 0 (allow - 0) 0) m l (allow - 1) k = rw z data-stop in
-          let x = stop-content c s m 1 l (allow - 1) (g .within) (sane .sums, sane .stateds) sane k d one (omega arith) (data-law .0) q a in
-          fed-read (record { at = 0; left = 0; number = 0; heads = 0; cells = c }) (omega arith) (begin-fresh c s allow sane m0 d0) (λ y. omega arith) st (subst (λ y. Answers c s 1 (fromStop s m y k l (allow - 1)) r) e x)
+          let x = stop-content c s m 1 l (allow - 1) (g .within) (sane .sums, sane .stateds) sane k d one (omega arith) (data-law .0) q (a .0) in
+          let h : Content (moreSum c l) (r .cells) = rw q at (a .1 refl) in
+          (fed-read (record { at = 0; left = 0; number = 0; heads = 0; cells = c }) (omega arith) (begin-fresh c s allow sane m0 d0) (λ y. omega arith) st (subst (λ y. Answers c s 1 (fromStop s m y k l (allow - 1)) r) e x), content-more c l h)

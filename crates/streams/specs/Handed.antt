@@ -19,7 +19,7 @@ use Rattle.streams.specs.declared.Telling.{Telling}
 use Rattle.streams.specs.Both.{Place, both}
 use Rattle.streams.specs.Heads.{headState}
 use Rattle.streams.specs.Parts.{Shown, content-shown, section-shown, judgedAs, kept-judged, part-whole, part-short}
-use Rattle.streams.specs.Answers.{keptAt, stateAt, placeIn, answerAt, Sane, Numbers, HandedMode, tell, Tells, tells-content, tells-header, tells-trailers, tells-kept, emptied, coming, Answers, fromPayload, some-coming, inMode, answer}
+use Rattle.streams.specs.Answers.{keptAt, stateAt, placeIn, answerAt, Sane, Numbers, HandedMode, tell, Tells, tells-content, tells-header, tells-trailers, tells-kept, emptied, coming, Answers, fromPayload, some-coming, inMode, Content, goes-on, is-over, answer}
 
 -- cells that go on
 pub sane-in : (c : Cells) (mode acc : ℕ) → Numbers c → mode ≤ 11 → acc < 2 ^ 62 → (mode < 2 → acc ≡ 0) → (2 ≤ mode → (mode ≡ 6 → ⊥) → (mode ≡ 7 → ⊥) → 0 < acc) → Sane (inMode c mode acc)
@@ -62,6 +62,16 @@ part-held tells-content e = absurd (omega arith)
 part-held tells-header e = absurd (omega arith)
 part-held tells-trailers e = absurd (omega arith)
 part-held (tells-kept m h) e = omega arith
+
+-- the cells of content that goes on, and of content that is all there
+pub content-on : (c : Cells) {mode acc : ℕ} {d : Cells} → d ≡ inMode c mode acc → mode ≡ 3 → Content c d
+content-on c {mode} {acc} q e = rw (q, e) (goes-on acc (c .sum))
+
+pub content-past : (c : Cells) {mode : ℕ} {t : Telling} {d : Cells} → Tells mode t → d ≡ inMode c (t .behind) 0 → mode ≡ 3 → Content c d
+content-past c tells-content q e = rw q (is-over (c .sum))
+content-past c tells-header q e = absurd (omega arith)
+content-past c tells-trailers q e = absurd (omega arith)
+content-past c (tells-kept m h) q e = absurd (omega arith)
 
 module _ (c : Cells) (s : List ℕ) (at heads : ℕ) (w : at ≤ length s) (g : Numbers c) (fresh : ℕ) where
   -- the piece ends where the payload begins or goes on

@@ -8,7 +8,7 @@ ghost use Rattle.streams.specs.Both.{rule};
 ghost use Rattle.streams.specs.Uses.{placeOf, numberOf, passesOf};
 ghost use Rattle.streams.specs.Ruled.{oneOf};
 ghost use Rattle.streams.specs.Heads.{GoodHead, HeadStepped, HeadRead};
-ghost use Rattle.streams.specs.Answers.{Sane, Numbers, HandedMode, Tells, Answers, fromPayload, inMode, answer};
+ghost use Rattle.streams.specs.Answers.{Sane, Numbers, HandedMode, Tells, Answers, inMode, Content, Hands, answer};
 ghost use Rattle.streams.specs.Stopped.{moreSum, fromStop};
 ghost use Rattle.streams.specs.Begun.{headCells, fromCut, Started};
 ghost use Rattle.streams.specs.Fed.{Fed};
@@ -373,7 +373,7 @@ fn told(mode: u64) -> Telling
 // A payload that is handed on, or kept by the caller and judged when it is complete: as much of it as is there. mode 3 to 5, 8 to 11.
 fn handed(s: &[u8], at: usize, left: u64, mode: u64, c: Cells, heads: u64) -> Answer
     requires { ⌜ (at ≤ length (now s)) × (left < 2 ^ 62) × Numbers c × HandedMode mode × (mode ≡ 3 → 0 < left) ⌝ }
-    ensures { λ r. ⌜ Answers c (now (s .entry)) 0 (fromPayload c (now (s .entry)) at heads mode left) r ⌝ }
+    ensures { λ r. ⌜ Hands c (now (s .entry)) at heads mode left r ⌝ }
 {
     let t = told(mode);
     let room = (s.len() - at) as u64;
@@ -603,7 +603,7 @@ pub fn feed(s: &[u8], c: Cells, allow: u64) -> Answer
 // Any other event says nothing.
 pub fn brisk(s: &[u8], c: Cells, allow: u64) -> Answer
     requires { ⌜ Sane c ⌝ }
-    ensures { λ r. ⌜ (r .event ≡ 1 → Fed c (now (s .entry)) allow r) ⌝ }
+    ensures { λ r. ⌜ (r .event ≡ 1 → Fed c (now (s .entry)) allow r × Content c (r .cells)) ⌝ }
 {
     if c.mode == 3 {
         return handed(s, 0, c.acc, 3, c, 0);

@@ -17,7 +17,7 @@ returns c = said-no
 
 -- src/lib.rt:461:17
 returns-2 : tie.Need-returns-2
-returns-2 c = let r = c .before .before .before .before .before .before .before .before .args .r in let b = c .before .before .before .before .before .before .before .behind .ensures (c .before .before .before .before .before .before .if1 .taken) in λ e. (content-sound r b (c .before .before .before .before .if2 .taken) (c .before .before .if3 .left) (c .if4 .taken), b .kind, omega (arith, c .before .before .before .before .if2 .taken))
+returns-2 c = let r = c .before .before .before .before .before .before .before .before .args .r in let b = c .before .before .before .before .before .before .before .behind .ensures (c .before .before .before .before .before .before .if1 .taken) in λ e. (content-sound r b (c .before .before .before .before .if2 .taken) (c .before .before .if3 .left) (c .if4 .taken), b, omega (arith, c .before .before .before .before .if2 .taken))
 
 -- src/lib.rt:463:13
 returns-3 : tie.Need-returns-3
@@ -25,7 +25,7 @@ returns-3 c = said-no
 
 -- src/lib.rt:467:17
 returns-4 : tie.Need-returns-4
-returns-4 c = let r = c .before .before .before .before .before .before .before .before .args .r in let b = c .before .before .before .before .before .before .before .behind .ensures (c .before .before .before .before .before .before .if1 .taken) in λ e. (between-sound r b (c .before .before .if5 .taken) (c .if6 .taken), b .kind, omega (arith, c .before .before .if5 .taken))
+returns-4 c = let r = c .before .before .before .before .before .before .before .before .args .r in let b = c .before .before .before .before .before .before .before .behind .ensures (c .before .before .before .before .before .before .if1 .taken) in λ e. (between-sound r b (c .before .before .if5 .taken) (c .if6 .taken), b, omega (arith, c .before .before .if5 .taken))
 
 -- src/lib.rt:452:1
 returns-5 : tie.Need-returns-5

@@ -1,10 +1,11 @@
 use denote.Ref.{now}
 use native.Mathlib.Omega.{arith}
 use mathlib.Core.Path.{ap}
+use Rattle.streams.specs.Answers.{Content}
 use Rattle.streams.specs.Fed.{Fed}
 use Rattle.record.specs.Sound.{cellsIn}
 use Rattle.requests.specs.Reply.{Open}
-use Rattle.requests.specs.Feeds.{feed-fit, feed-part}
+use Rattle.requests.specs.Feeds.{feed-content}
 use borrow.Author.Needs.{needs}
 use Rattle.requests.proofs.brisk.Statement.{statement}
 use Rattle.requests.proofs.brisk.Tie as tie
@@ -12,7 +13,7 @@ use Rattle.requests.proofs.brisk.Reads as reads
 use Rattle.requests.proofs.brisk.Lts as lts
 use Rattle.record.proofs.cells_in.Reads as cells-in-reads
 use Rattle.record.proofs.in_body.Reads as in-body-reads
-use Rattle.requests.proofs.kept.Reads as kept-reads
+use Rattle.record.proofs.in_content.Reads as in-content-reads
 use Rattle.requests.proofs.told.Reads as told-reads
 use Rattle.streams.proofs.brisk.Reads as brisk-reads
 
@@ -26,15 +27,22 @@ cells-in-requires c κs = search needs
 
 -- src/lib.rt:162:13
 brisk-requires : tie.Need-brisk-requires
-brisk-requires c κs = let g = c .before .before .before .before .args in let s = c .before .before .in-body .ensures (c .before .if1 .taken) in let o : Open (g .r) = record { sound = s .0; kind = s .1 } in let e = c .cells-in .ensures in rw e (s .0 .fit .sane)
+brisk-requires c κs = let s = c .before .before .in-body .ensures (c .before .if1 .taken) in let e = c .cells-in .ensures in rw e (s .0 .fit .sane)
 
 -- src/lib.rt:172:22
-kept-requires : tie.Need-kept-requires
-kept-requires c κs = let g = c .before .before .before .before .before .before .before .before .args in let s = c .before .before .before .before .before .before .in-body .ensures (c .before .before .before .before .before .if1 .taken) in let o : Open (g .r) = record { sound = s .0; kind = s .1 } in let e = c .before .before .before .before .cells-in .ensures in let f : Fed (cellsIn (g .r)) (now (g .piece)) (g .allow) _ = rw e at (c .before .before .before .brisk .ensures (c .before .if2 .taken)) in feed-fit (g .r) o (now (g .piece)) (g .allow) (λ x. omega (arith, x, s .2)) (λ x. omega (arith, x, s .2)) _ f (λ x. omega (arith, x, c .before .if2 .taken))
+in-content-requires : tie.Need-in-content-requires
+in-content-requires c κs = omega (arith, c .before .before .before .brisk .ensures (c .before .if2 .taken) .0 .sane (λ x. omega (arith, x, c .before .if2 .taken)) .modes)
 
 -- src/lib.rt:165:13
 returns : tie.Need-returns
-returns c = let g = c .before .before .before .before .before .before .before .before .before .args in let s = c .before .before .before .before .before .before .before .in-body .ensures (c .before .before .before .before .before .before .if1 .taken) in let o : Open (g .r) = record { sound = s .0; kind = s .1 } in let e = c .before .before .before .before .before .cells-in .ensures in let f : Fed (cellsIn (g .r)) (now (g .piece)) (g .allow) _ = rw e at (c .before .before .before .before .brisk .ensures (c .before .before .if2 .taken)) in λ z. feed-part (g .r) o (now (g .piece)) (g .allow) (λ x. omega (arith, x, s .2)) (λ x. omega (arith, x, s .2)) _ f (λ x. omega (arith, x, c .before .before .if2 .taken)) _ (c .kept .ensures) (λ x. omega (arith, x, c .before .before .if2 .taken)) (omega (arith, c .before .before .if2 .taken))
+returns c =
+    let g = c .before .before .before .before .before .before .before .before .before .args in
+    let s = c .before .before .before .before .before .before .before .in-body .ensures (c .before .before .before .before .before .before .if1 .taken) in
+    let o : Open (g .r) = record { sound = s .0; kind = s .1 .kind } in
+    let e = c .before .before .before .before .before .cells-in .ensures in
+    let one = c .before .before .if2 .taken in
+    let f : Fed (cellsIn (g .r)) (now (g .piece)) (g .allow) _ × Content (cellsIn (g .r)) _ = rw e at (c .before .before .before .before .brisk .ensures one) in
+    λ z. feed-content (g .r) o (now (g .piece)) (g .allow) (λ x. omega (arith, x, s .2)) (λ x. omega (arith, x, s .2)) _ (f .0) (λ x. omega (arith, x, one)) (s .1) (f .1) one (c .in-content .ensures)
 
 -- src/lib.rt:176:5
 told-requires : tie.Need-told-requires
@@ -51,7 +59,7 @@ brisk-spec =
     in-body-requires
     cells-in-requires
     brisk-requires
-    kept-requires
+    in-content-requires
     returns
     told-requires
     returns-2)

@@ -33,7 +33,7 @@ returns c = search needs
 
 -- src/lib.rt:623:1
 returns-2 : tie.Need-returns-2
-returns-2 c = let a = c .before .before .before .before .before .before in fed-payload (a .args .c) (now (a .args .s)) (a .args .allow) (a .pre) (omega (arith, c .before .before .before .if1 .left)) (λ e. omega (arith, e, c .before .if2 .taken)) (λ e. omega (arith, e, c .before .if2 .taken)) (c .handed .ensures)
+returns-2 c = let a = c .before .before .before .before .before .before in fed-payload (a .args .c) (now (a .args .s)) (a .args .allow) (a .pre) (omega (arith, c .before .before .before .if1 .left)) (λ e. omega (arith, e, c .before .if2 .taken)) (λ e. omega (arith, e, c .before .if2 .taken)) (c .handed .ensures .0)
 
 -- src/lib.rt:623:1
 returns-3 : tie.Need-returns-3
@@ -41,7 +41,7 @@ returns-3 c = let a = c .before .before .before .before .before .before .before 
 
 -- src/lib.rt:623:1
 returns-4 : tie.Need-returns-4
-returns-4 c = let a = c .before .before .before .before .before .before .before .before in fed-payload (a .args .c) (now (a .args .s)) (a .args .allow) (a .pre) (omega (arith, c .before .if3 .left)) (λ e. omega (arith, e, c .before .if3 .left)) (λ e. omega (arith, e, c .before .if3 .left)) (c .handed2 .ensures)
+returns-4 c = let a = c .before .before .before .before .before .before .before .before in fed-payload (a .args .c) (now (a .args .s)) (a .args .allow) (a .pre) (omega (arith, c .before .if3 .left)) (λ e. omega (arith, e, c .before .if3 .left)) (λ e. omega (arith, e, c .before .if3 .left)) (c .handed2 .ensures .0)
 
 pub feed-spec : {M : Type 1} → statement M
 feed-spec =

@@ -1,6 +1,6 @@
 use native.Mathlib.Omega.{arith}
 use denote.Ref.{now}
-use Rattle.streams.specs.Handed.{none-here, handed-over, handed-on}
+use Rattle.streams.specs.Handed.{none-here, handed-over, handed-on, content-on, content-past}
 use borrow.Author.Needs.{needs}
 use Rattle.streams.proofs.handed.Statement.{statement}
 use Rattle.streams.proofs.handed.Tie as tie
@@ -44,15 +44,15 @@ in-mode-requires-3 c κs = search needs
 
 -- src/lib.rt:364:1
 returns : tie.Need-returns
-returns c = let a = c .before .before .before .before in handed-over (a .args .c) (now (a .args .s)) (a .args .at) (a .args .heads) (a .pre .0) (a .pre .2) 0 (a .args .left) (a .args .mode) _ (c .before .before .told .ensures) (a .pre .4) (c .before .if1 .taken) (c .in-mode .ensures)
+returns c = let a = c .before .before .before .before in (handed-over (a .args .c) (now (a .args .s)) (a .args .at) (a .args .heads) (a .pre .0) (a .pre .2) 0 (a .args .left) (a .args .mode) _ (c .before .before .told .ensures) (a .pre .4) (c .before .if1 .taken) (c .in-mode .ensures), content-past (a .args .c) (c .before .before .told .ensures) (c .in-mode .ensures))
 
 -- src/lib.rt:364:1
 returns-2 : tie.Need-returns-2
-returns-2 c = let a = c .before .before .before .before .before .before in rw (c .quiet .ensures) (none-here (a .args .c) (now (a .args .s)) (a .args .at) (a .args .heads) (a .pre .0) (a .pre .2) 0 (a .args .left) (a .args .mode) (omega (arith, c .before .before .before .if1 .left)) (a .pre .1) (a .pre .3) (c .before .before .if2 .taken) (c .before .in-mode2 .ensures))
+returns-2 c = let a = c .before .before .before .before .before .before in rw (c .quiet .ensures) (none-here (a .args .c) (now (a .args .s)) (a .args .at) (a .args .heads) (a .pre .0) (a .pre .2) 0 (a .args .left) (a .args .mode) (omega (arith, c .before .before .before .if1 .left)) (a .pre .1) (a .pre .3) (c .before .before .if2 .taken) (c .before .in-mode2 .ensures), content-on (a .args .c) (c .before .in-mode2 .ensures))
 
 -- src/lib.rt:364:1
 returns-3 : tie.Need-returns-3
-returns-3 c = let a = c .before .before .before .before .before in handed-on (a .args .c) (now (a .args .s)) (a .args .at) (a .args .heads) (a .pre .0) (a .pre .2) 0 (a .args .left) (c .before .before .if1 .left) (c .before .if2 .left) (a .args .mode) _ (a .pre .1) (a .pre .3) (c .before .before .before .told .ensures) (c .in-mode3 .ensures)
+returns-3 c = let a = c .before .before .before .before .before in (handed-on (a .args .c) (now (a .args .s)) (a .args .at) (a .args .heads) (a .pre .0) (a .pre .2) 0 (a .args .left) (c .before .before .if1 .left) (c .before .if2 .left) (a .args .mode) _ (a .pre .1) (a .pre .3) (c .before .before .before .told .ensures) (c .in-mode3 .ensures), content-on (a .args .c) (c .in-mode3 .ensures))
 
 pub handed-spec : {M : Type 1} → statement M
 handed-spec =

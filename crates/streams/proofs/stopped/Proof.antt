@@ -67,7 +67,7 @@ handed-requires-3 c κs = search needs
 
 -- src/lib.rt:458:1
 returns : tie.Need-returns
-returns c = let a = c .before .before .before .before in stop-content (a .args .c) (now (a .args .s)) (a .args .to) (a .args .heads) (a .args .len) (a .args .rest) (a .pre .0) (a .pre .2 .sums, a .pre .2 .stateds) (a .pre .2) (a .args .number) _ (c .before .before .if1 .taken) (a .pre .3 .some (c .before .before .if1 .taken)) (a .pre .3 .lawful (c .before .before .if1 .taken) .0) (c .before .more-sum .ensures) (c .handed .ensures)
+returns c = let a = c .before .before .before .before in stop-content (a .args .c) (now (a .args .s)) (a .args .to) (a .args .heads) (a .args .len) (a .args .rest) (a .pre .0) (a .pre .2 .sums, a .pre .2 .stateds) (a .pre .2) (a .args .number) _ (c .before .before .if1 .taken) (a .pre .3 .some (c .before .before .if1 .taken)) (a .pre .3 .lawful (c .before .before .if1 .taken) .0) (c .before .more-sum .ensures) (c .handed .ensures .0)
 
 -- src/lib.rt:458:1
 returns-2 : tie.Need-returns-2
@@ -83,11 +83,11 @@ returns-4 c = let a = c .before .before .before .before .before .before in stop-
 
 -- src/lib.rt:458:1
 returns-5 : tie.Need-returns-5
-returns-5 c = let a = c .before .before .before .before .before .before in stop-section (a .args .c) (now (a .args .s)) (a .args .to) (a .args .heads) (a .args .len) (a .args .rest) (a .pre .0) (a .pre .2 .sums, a .pre .2 .stateds) (a .pre .2) (a .args .number) (omega (arith, c .before .before .before .before .if1 .left, c .before .before .before .if2 .left)) (c .before .if5 .taken) (c .handed2 .ensures)
+returns-5 c = let a = c .before .before .before .before .before .before in stop-section (a .args .c) (now (a .args .s)) (a .args .to) (a .args .heads) (a .args .len) (a .args .rest) (a .pre .0) (a .pre .2 .sums, a .pre .2 .stateds) (a .pre .2) (a .args .number) (omega (arith, c .before .before .before .before .if1 .left, c .before .before .before .if2 .left)) (c .before .if5 .taken) (c .handed2 .ensures .0)
 
 -- src/lib.rt:458:1
 returns-6 : tie.Need-returns-6
-returns-6 c = let a = c .before .before .before .before .before .before .before in stop-kept (a .args .c) (now (a .args .s)) (a .args .to) (a .args .heads) (a .args .len) (a .args .rest) (a .pre .0) (a .pre .2 .sums, a .pre .2 .stateds) (a .pre .2) (a .args .number) (c .before .before .if5 .left) (c .before .if6 .taken) (c .handed3 .ensures)
+returns-6 c = let a = c .before .before .before .before .before .before .before in stop-kept (a .args .c) (now (a .args .s)) (a .args .to) (a .args .heads) (a .args .len) (a .args .rest) (a .pre .0) (a .pre .2 .sums, a .pre .2 .stateds) (a .pre .2) (a .args .number) (c .before .before .if5 .left) (c .before .if6 .taken) (c .handed3 .ensures .0)
 
 -- src/lib.rt:458:1
 returns-7 : tie.Need-returns-7
