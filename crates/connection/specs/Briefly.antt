@@ -15,7 +15,7 @@ use Rattle.connection.specs.Ways.{asks-feed, on-request}
 
 -- with number 0 it is what the call answers; any other number says nothing
 pub record Briefly (code : ℕ) (f : Found) (allow : ℕ) (piece : List ℕ) (b : Brief) : Type 0 where
-  pub turns : b .report .number ≡ 0 → (c : Connection) (id : ℕ) → c .code ≡ code → Turned c f 1 id allow piece (turn c (b .row) (b .report))
+  pub turns : b .report .number ≡ 0 → (c : Connection) (id : ℕ) → c .doors .code ≡ code → Turned c f 1 id allow piece (turn c (b .row) (b .report))
 
 module _ {code : ℕ} {f : Found} {allow : ℕ} {piece : List ℕ} where
   pub briefly-not : {b : Brief} → b .report ≡ numbered 1 → Briefly code f allow piece b

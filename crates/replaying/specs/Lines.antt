@@ -28,7 +28,7 @@ maybe there n = pick (eqb there 0) (ascii " -") (blank n)
 
 -- the section size, the QPACK table's capacity and the blocked streams
 unfoldable pub settingsText : Connection → List ℕ
-settingsText c = pick (eqb (c .set) 0) (ascii " - 0 0") (maybe (c .limited) (c .size) ++ blank (c .capacity) ++ blank (c .blocked))
+settingsText c = let k = c .side .kept in pick (eqb (k .set) 0) (ascii " - 0 0") (maybe (k .limited) (k .size) ++ blank (k .capacity) ++ blank (k .blocked))
 
 -- the number, the bytes consumed, the headers finished
 unfoldable pub headText : (number used heads : ℕ) → List ℕ
@@ -106,7 +106,8 @@ rowsText index (r ∷ rs) = recordText index r ++ rowsText (suc index) rs
 
 unfoldable pub connText : Connection → List ℕ
 connText c =
-    ascii "0 0 0 state" ++ blank (c .code) ++ blank (c .requests) ++ blank (c .oneways) ++ maybe (c .sent) (c .ours) ++ maybe (c .goaways) (c .theirs) ++ maybe (c .pushes) (c .push) ++ settingsText c
+    let d = c .doors in let k = c .side .kept in
+    ascii "0 0 0 state" ++ blank (d .code) ++ blank (d .requests) ++ blank (d .oneways) ++ maybe (d .goaways) (d .goaway .0) ++ maybe (k .goaways) (k .goaway .0) ++ maybe (k .pushes) (k .push .0) ++ settingsText c
 
 unfoldable pub stateLine : Connection → List Record → List ℕ
 stateLine c rows = connText c ++ rowsText 0 rows ++ line-feed

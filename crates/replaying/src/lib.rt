@@ -58,12 +58,14 @@ fn settings(room: &mut [u8; 2048], to: usize, c: Connection) -> usize
     requires { ⌜ to + 63 ≤ 2048 ⌝ }
     ensures { λ r. ⌜ Puts (now (room .entry)) to (settingsText c) 63 (now (room .exit)) r ⌝ }
 {
-    if c.set == 0 {
+    let side = c.side;
+    let kept = side.kept;
+    if kept.set == 0 {
         return listing::put(room, to, b" - 0 0");
     }
-    let a = maybe(room, to, c.limited, c.size);
-    let b = spaced(room, a, c.capacity);
-    spaced(room, b, c.blocked)
+    let a = maybe(room, to, kept.limited, kept.size);
+    let b = spaced(room, a, kept.capacity);
+    spaced(room, b, kept.blocked)
 }
 
 // A hexadecimal digit.
@@ -277,13 +279,19 @@ fn records(room: &mut [u8; 2048], to: usize, rows: [Record; 32]) -> usize
 fn conn_text(room: &mut [u8; 2048], c: Connection) -> usize
     ensures { λ q. ⌜ Puts (now (room .entry)) 0 (connText c) 200 (now (room .exit)) q ⌝ }
 {
+    let doors = c.doors;
+    let ours = doors.goaway;
+    let side = c.side;
+    let kept = side.kept;
+    let theirs = kept.goaway;
+    let push = kept.push;
     let a = listing::put(room, 0, b"0 0 0 state");
-    let b = spaced(room, a, c.code);
-    let d = spaced(room, b, c.requests);
-    let e = spaced(room, d, c.oneways);
-    let f = maybe(room, e, c.sent, c.ours);
-    let g = maybe(room, f, c.goaways, c.theirs);
-    let h = maybe(room, g, c.pushes, c.push);
+    let b = spaced(room, a, doors.code);
+    let d = spaced(room, b, doors.requests);
+    let e = spaced(room, d, doors.oneways);
+    let f = maybe(room, e, doors.goaways, ours.0);
+    let g = maybe(room, f, kept.goaways, theirs.0);
+    let h = maybe(room, g, kept.pushes, push.0);
     settings(room, h, c)
 }
 
