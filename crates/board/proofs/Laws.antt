@@ -2,6 +2,7 @@
 --     R, vals, val     a record's type, and its machine value.        size             how many bytes a record takes
 --     typed            a record's machine value has the record's MIR type.        offset-fits      an element's offset is a usize
 --     next-fits, falls a loop's index goes on within a usize, and comes nearer to the length
+--     then-of b        the first arm of the branch b, likewise
 --     tail k b         what is left of the sequence b after k statements: the name of a piece of MIR that has none, as within a turn of a loop
 -- Assumes `Given` where a model is named.
 use mathlib.Core.Path.{_≡_, ap, subst}
@@ -69,6 +70,19 @@ tail (suc k) (switch c arms) = switch c arms
 tail (suc k) (exit n) = exit n
 tail (suc k) return = return
 tail (suc k) (call f xs d) = call f xs d
+
+-- what a branch runs where its test holds
+abbrev pub then-of : Body → Body
+then-of (cond c a b) = a
+then-of skip = skip
+then-of (seq a b) = seq a b
+then-of (assign p v) = assign p v
+then-of (block b) = block b
+then-of (loop b) = loop b
+then-of (switch c arms) = switch c arms
+then-of (exit n) = exit n
+then-of return = return
+then-of (call f xs d) = call f xs d
 
 module _ {M : Type 1} (𝓤 : URA M) (H : Heap 𝓤) (A : Atoms 𝓤) where
   pub rec-shows : Shows 𝓤 H A R (Is R)

@@ -12,6 +12,7 @@ use Rattle.connection.specs.declared.Turn.{Turn}
 use Rattle.connection.specs.declared.Gone.{Gone}
 use Rattle.connection.specs.declared.Written.{Written}
 use Rattle.connection.specs.Whose.{Wanted, FoundIn}
+use Rattle.connection.specs.Halves.{withDoors}
 use Rattle.connection.specs.Turned.{Turned, begunOf, sweptOf, GoesAway}
 
 -- i is the place of the first record that the call is about, and the length if there is none
@@ -39,6 +40,6 @@ pub record Started (c : Connection) (rows : List Record) (c′ : Connection) (ro
 -- OUR GOAWAY, sent into the room
 pub record SaidGoaway (c : Connection) (id : ℕ) (room : List ℕ) (c′ : Connection) (room′ : List ℕ) (w : Written) : Type 0 where
   pub gone : Gone
-  pub goes : GoesAway c id room gone room′
-  pub conn-left : c′ ≡ gone .conn
+  pub goes : GoesAway (c .doors) id room gone room′
+  pub conn-left : c′ ≡ withDoors c (gone .doors)
   pub answered : w ≡ gone .written

@@ -14,6 +14,7 @@ use Rattle.connection.specs.declared.Found.{Found}
 use Rattle.connection.specs.declared.Turn.{Turn}
 use Rattle.connection.specs.declared.Written.{Written}
 use Rattle.connection.specs.Whose.{found-one}
+use Rattle.connection.specs.Halves.{withDoors}
 use Rattle.connection.specs.Turned.{numbered, unaltered, Turned, other-row, dead, opens, not-open, request, one-way, begunOf, sweptOf}
 use Rattle.connection.specs.Ways.{begun-fresh, swept-free}
 use Rattle.connection.specs.One.{one-turn, one-goaway}
@@ -102,7 +103,7 @@ module _ {c : Connection} {rows : List Record} where
 module _ {c : Connection} {id : ℕ} {room : List ℕ} where
   pub one-sent : {c₁ c₂ : Connection} {x y : List ℕ} {r₁ r₂ : Written} → SaidGoaway c id room c₁ x r₁ → SaidGoaway c id room c₂ y r₂ → (c₁ ≡ c₂) × (x ≡ y) × (r₁ ≡ r₂)
   one-sent a b = let e = one-goaway (a .goes) (b .goes) in
-      (a .conn-left ∙ ap (λ g. g .conn) (e .0) ∙ sym (b .conn-left), e .1, a .answered ∙ ap (λ g. g .written) (e .0) ∙ sym (b .answered))
+      (a .conn-left ∙ ap (λ g. withDoors c (g .doors)) (e .0) ∙ sym (b .conn-left), e .1, a .answered ∙ ap (λ g. g .written) (e .0) ∙ sym (b .answered))
 
   pub goaway-pairs : {rows : List Record} {c′ : Connection} {x : List ℕ} {r : Written} → SaidGoaway c id room c′ x r → Paired c rows → Paired c′ rows
   goaway-pairs {rows} a p = subst (λ y. Paired y rows) (sym (a .conn-left)) (goaway-pair (a .goes) p)

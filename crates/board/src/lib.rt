@@ -1,5 +1,6 @@
 // Every call, lent the connection's record and the host's row of stream records (document 01, "Calls and the host's memory").
 // One record is found, stepped by value and stored back; the others are not touched.
+use connection::Brief;
 use connection::Connection;
 use connection::Found;
 use connection::Report;
@@ -14,7 +15,7 @@ ghost use Rattle.record.specs.Row.{free-record};
 ghost use Rattle.record.specs.Sound.{cellsIn};
 ghost use Rattle.record.specs.Body.{contentIn};
 ghost use Rattle.connection.specs.Whose.{FoundIn};
-ghost use Rattle.connection.specs.Turned.{sweptOf};
+ghost use Rattle.connection.specs.Turned.{turn, Turned, sweptOf};
 ghost use Rattle.board.specs.Layout.{connectionSize, recordSize, reportSize, writtenSize};
 ghost use Rattle.board.specs.Lent.{FirstIn, Stepped, Started, SaidGoaway};
 ghost use Rattle.board.specs.Writes.{writtenOf, WroteInto};
@@ -87,6 +88,26 @@ fn empty(row: &mut [Record])
 
 // ---- a call on one stream
 
+// A call on the record that was found: what it leaves of the connection and of the record. The side is read and stored for a one-way stream alone.
+fn settle(conn: &mut Connection, f: Found, call: u64, id: u64, allow: u64, piece: &[u8]) -> Brief
+    ensures { λ r. ⌜ Turned (now (conn .entry)) f call id allow (now (piece .entry)) (turn (now (conn .exit)) (r .row) (r .report)) ⌝ }
+{
+    let n = connection::answer(conn.doors, f, call, id, allow, piece);
+    if n.aside {
+        let t = connection::decide(*conn, f, call, id, allow, piece);
+        *conn = t.conn;
+        return Brief {
+            row: t.row,
+            report: t.report,
+        };
+    }
+    conn.doors = n.doors;
+    Brief {
+        row: n.row,
+        report: n.report,
+    }
+}
+
 pub fn step(
     conn: &mut Connection,
     row: &mut [Record],
@@ -98,10 +119,9 @@ pub fn step(
     ensures { λ r. ⌜ Stepped (now (conn .entry)) (now (row .entry)) call id allow (now (piece .entry)) (now (conn .exit)) (now (row .exit)) r ⌝ }
 {
     let f = seek(&*row, call, id);
-    let t = connection::decide(*conn, f, call, id, allow, piece);
-    *conn = t.conn;
-    store(row, f.at, t.row);
-    t.report
+    let b = settle(conn, f, call, id, allow, piece);
+    store(row, f.at, b.row);
+    b.report
 }
 
 // ---- what a host calls
@@ -135,7 +155,7 @@ pub extern "C" fn eistulko_feed(
 {
     if row.len() == 24 {
         let f = seek(&*row, 1, id);
-        let b = connection::brisk(conn.code, f, allow, piece);
+        let b = connection::brisk(conn.doors.code, f, allow, piece);
         if b.report.number == 0 {
             store_content(row, f.at, b.row);
             return b.report;
@@ -175,8 +195,8 @@ pub extern "C" fn eistulko_reset(conn: &mut Connection, row: &mut [Record], id: 
 pub extern "C" fn eistulko_goaway(conn: &mut Connection, id: u64, room: &mut [u8]) -> Written
     ensures { λ r. ⌜ SaidGoaway (now (conn .entry)) id (now (room .entry)) (now (conn .exit)) (now (room .exit)) r ⌝ }
 {
-    let g = connection::say_goaway(*conn, id, room);
-    *conn = g.conn;
+    let g = connection::say_goaway(conn.doors, id, room);
+    conn.doors = g.doors;
     g.written
 }
 

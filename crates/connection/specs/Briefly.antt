@@ -21,7 +21,7 @@ contentLeaves c b = c
 
 -- with number 0 it is what the call answers; any other number says nothing
 pub record Briefly (code : ℕ) (f : Found) (allow : ℕ) (piece : List ℕ) (b : Brief) : Type 0 where
-  pub turns : b .report .number ≡ 0 → (c : Connection) (id : ℕ) → c .code ≡ code → Turned c f 1 id allow piece (turn (contentLeaves c b) (b .row) (b .report))
+  pub turns : b .report .number ≡ 0 → (c : Connection) (id : ℕ) → c .doors .code ≡ code → Turned c f 1 id allow piece (turn (contentLeaves c b) (b .row) (b .report))
   pub alters : b .report .number ≡ 0 → b .row ≡ contentIn (f .row) (cellsIn (b .row))  -- three numbers of the record
 
 module _ {code : ℕ} {f : Found} {allow : ℕ} {piece : List ℕ} where

@@ -9,3 +9,4 @@ pub mod Leavings
 pub mod Pair
 pub mod ToCome
 pub mod Briefly
+pub mod Nearly

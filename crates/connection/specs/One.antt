@@ -5,6 +5,7 @@ use native.Mathlib.Omega.{arith}
 use mathlib.Core.List.{List}
 use mathlib.Core.Logic.{_⊎_, inl, inr}
 use Rattle.requests.specs.Reply.{Open, stateIn}
+use Rattle.doors.specs.declared.Doors.{Doors}
 use Rattle.doors.specs.Goaway.{sends-one}
 use Rattle.oneways.specs.Heard.{Heeds, stateHere}
 use Rattle.connection.specs.declared.Connection.{Connection}
@@ -37,7 +38,7 @@ module _ (c : Connection) (f : Found) (call id allow : ℕ) (piece : List ℕ) w
   Living t = ((call ≡ 0) × (t ≡ openedAt c f id)) ⊎ ((call ≡ 0 → ⊥) × OnOpen t)
 
   abbrev On24 : Turn → Type 0
-  On24 t = ((c .code ≡ 0 → ⊥) × (t ≡ unaltered (c .code) c f)) ⊎ ((c .code ≡ 0) × Living t)
+  On24 t = ((c .doors .code ≡ 0 → ⊥) × (t ≡ unaltered (c .doors .code) c f)) ⊎ ((c .doors .code ≡ 0) × Living t)
 
   abbrev Tested : Turn → Type 0
   Tested t = ((f .len ≡ 24 → ⊥) × (t ≡ unaltered 9 c f)) ⊎ ((f .len ≡ 24) × On24 t)
@@ -69,6 +70,6 @@ module _ (c : Connection) (f : Found) (call id allow : ℕ) (piece : List ℕ) w
       on24 : On24 t → On24 u → t ≡ u
       on24 = fork-one (λ n e. n e) same living
 
--- OUR GOAWAY HAS ONE ANSWER, and leaves one connection and one room
-pub one-goaway : {c : Connection} {id : ℕ} {l a b : List ℕ} {r q : Gone} → GoesAway c id l r a → GoesAway c id l q b → (r ≡ q) × (a ≡ b)
-one-goaway {c} x y = let s = sends-one (x .sends) (y .sends) in (x .is ∙ ap (goneBy c) (s .0) ∙ sym (y .is), s .1)
+-- OUR GOAWAY HAS ONE ANSWER, and leaves the doors and the room in one way
+pub one-goaway : {d : Doors} {id : ℕ} {l a b : List ℕ} {r q : Gone} → GoesAway d id l r a → GoesAway d id l q b → (r ≡ q) × (a ≡ b)
+one-goaway x y = let s = sends-one (x .sends) (y .sends) in (x .is ∙ ap goneBy (s .0) ∙ sym (y .is), s .1)

@@ -52,8 +52,8 @@ Known r = Vacant r ⊎ (Open r ⊎ Heeds r)
 
 -- its ID is one of its kind, and was opened
 pub record Spent (c : Connection) (r : Record) : Type 0 where
-  pub request : r .kind ≡ 1 → (r .id % 4 ≡ 0) × (r .id < c .requests)
-  pub one-way : 2 ≤ r .kind → (r .id % 4 ≡ 2) × (r .id < c .oneways)
+  pub request : r .kind ≡ 1 → (r .id % 4 ≡ 0) × (r .id < c .doors .requests)
+  pub one-way : 2 ≤ r .kind → (r .id % 4 ≡ 2) × (r .id < c .doors .oneways)
 
 -- every record is known and its ID spent; no two streams have one ID; at most one is a control stream, and none is before one has come
 pub record Paired (c : Connection) (rows : List Record) : Type 0 where
@@ -61,15 +61,15 @@ pub record Paired (c : Connection) (rows : List Record) : Type 0 where
   pub known : (i : ℕ) → Known (at rows i)
   pub spent : (i : ℕ) → Spent c (at rows i)
   pub distinct : (i j : ℕ) → (at rows i .kind ≡ 0 → ⊥) → (at rows j .kind ≡ 0 → ⊥) → at rows i .id ≡ at rows j .id → i ≡ j
-  pub control : (i : ℕ) → at rows i .kind ≡ 3 → c .control ≡ 0 → ⊥
+  pub control : (i : ℕ) → at rows i .kind ≡ 3 → c .side .control ≡ 0 → ⊥
   pub single : (i j : ℕ) → at rows i .kind ≡ 3 → at rows j .kind ≡ 3 → i ≡ j
 
 -- ---- another connection: IDs are spent, and what has come stays so
 
 pub record Later (c d : Connection) : Type 0 where
-  pub requests : c .requests ≤ d .requests
-  pub oneways : c .oneways ≤ d .oneways
-  pub control : d .control ≡ 0 → c .control ≡ 0
+  pub requests : c .doors .requests ≤ d .doors .requests
+  pub oneways : c .doors .oneways ≤ d .doors .oneways
+  pub control : d .side .control ≡ 0 → c .side .control ≡ 0
 
 later-spent : {c d : Connection} {r : Record} → Later c d → Spent c r → Spent d r
 later-spent l s = record {
@@ -92,7 +92,7 @@ later-code : {c d : Connection} (n : ℕ) → Later c d → Later c (codeKept d 
 unfolding keptIf
 later-code {c} {d} n l = by (keepsRow (rowOf n))
   where
-    by : (b : Bool) → Later c (keptIf b n d)
+    by : (b : Bool) → Later c (withDoors d (keptIf b n (d .doors)))
     by true = record { requests = l .requests; oneways = l .oneways; control = l .control }
     by false = l
 
@@ -102,7 +102,7 @@ pub record Fits (c : Connection) (rows : List Record) (k : ℕ) (q : Record) : T
   pub known : Known q
   pub spent : Spent c q
   pub apart : (j : ℕ) → (j ≡ k → ⊥) → (q .kind ≡ 0 → ⊥) → (at rows j .kind ≡ 0 → ⊥) → at rows j .id ≡ q .id → ⊥
-  pub control : q .kind ≡ 3 → c .control ≡ 0 → ⊥
+  pub control : q .kind ≡ 3 → c .side .control ≡ 0 → ⊥
   pub single : (j : ℕ) → (j ≡ k → ⊥) → q .kind ≡ 3 → at rows j .kind ≡ 3 → ⊥
 
 module _ (rows : List Record) (k : ℕ) (q : Record) where
@@ -142,7 +142,7 @@ module _ (rows : List Record) (k : ℕ) (q : Record) where
       distinct {i} {j} (elsewhere n e) (here y l g) a b h = absurd (f .apart i (λ x. n x l) (rw g at b) (rw e at a) (rw (e, g) at h))
       distinct {i} {j} (elsewhere n e) (elsewhere m g) a b h = p .distinct i j (rw e at a) (rw g at b) (rw (e, g) at h)
 
-      control : {i : ℕ} → Spot i → at (set rows k q) i .kind ≡ 3 → c .control ≡ 0 → ⊥
+      control : {i : ℕ} → Spot i → at (set rows k q) i .kind ≡ 3 → c .side .control ≡ 0 → ⊥
       control (here x l e) a = f .control (rw e at a)
       control {i} (elsewhere n e) a = p .control i (rw e at a)
 
@@ -192,7 +192,7 @@ module _ {c : Connection} {rows : List Record} (p : Paired c rows) (k : ℕ) {d 
           single = λ j n z b. omega arith;
         })
 
-    next-one-way : 2 ≤ at rows k .kind → Heeds q → (q .kind ≡ 3 → (d .control ≡ 0 → ⊥) × ((c .control ≡ 0) ⊎ (at rows k .kind ≡ 3))) → Paired d (set rows k q)
+    next-one-way : 2 ≤ at rows k .kind → Heeds q → (q .kind ≡ 3 → (d .side .control ≡ 0 → ⊥) × ((c .side .control ≡ 0) ⊎ (at rows k .kind ≡ 3))) → Paired d (set rows k q)
     next-one-way w m t = let two = m .kind in
         leave (record {
           known = inr (inr m);
@@ -202,7 +202,7 @@ module _ {c : Connection} {rows : List Record} (p : Paired c rows) (k : ℕ) {d 
           single = λ j n z b. lone j n b (t z .1);
         })
       where
-        lone : (j : ℕ) → (j ≡ k → ⊥) → at rows j .kind ≡ 3 → (c .control ≡ 0) ⊎ (at rows k .kind ≡ 3) → ⊥
+        lone : (j : ℕ) → (j ≡ k → ⊥) → at rows j .kind ≡ 3 → (c .side .control ≡ 0) ⊎ (at rows k .kind ≡ 3) → ⊥
         lone j n b (inl e) = p .control j b e
         lone j n b (inr e) = n (p .single j k b e)
 
@@ -218,7 +218,7 @@ first-is-one-way id r e = rw e refl
 
 module _ {c : Connection} {rows : List Record} (p : Paired c rows) (id : ℕ) where
   -- the next ID of a kind is no stream's
-  not-taken : ((id % 4 ≡ 0) × (id ≡ c .requests)) ⊎ ((id % 4 ≡ 2) × (id ≡ c .oneways)) → (j : ℕ) → (at rows j .kind ≡ 0 → ⊥) → at rows j .id ≡ id → ⊥
+  not-taken : ((id % 4 ≡ 0) × (id ≡ c .doors .requests)) ⊎ ((id % 4 ≡ 2) × (id ≡ c .doors .oneways)) → (j : ℕ) → (at rows j .kind ≡ 0 → ⊥) → at rows j .id ≡ id → ⊥
   not-taken w j n e = by (ℕ-discrete (at rows j .kind) 1) w
     where
       above : (k : ℕ) → (k ≡ 0 → ⊥) → (k ≡ 1 → ⊥) → 2 ≤ k
@@ -226,7 +226,7 @@ module _ {c : Connection} {rows : List Record} (p : Paired c rows) (id : ℕ) wh
       above (suc zero) a b = absurd (b refl)
       above (suc (suc k)) a b = omega arith
 
-      by : Dec (at rows j .kind ≡ 1) → ((id % 4 ≡ 0) × (id ≡ c .requests)) ⊎ ((id % 4 ≡ 2) × (id ≡ c .oneways)) → ⊥
+      by : Dec (at rows j .kind ≡ 1) → ((id % 4 ≡ 0) × (id ≡ c .doors .requests)) ⊎ ((id % 4 ≡ 2) × (id ≡ c .doors .oneways)) → ⊥
       by (yes o) (inl x) = let s = p .spent j .request o in omega (arith, s .1, x .1)
       by (yes o) (inr x) = let s = p .spent j .request o in omega (arith, ap (λ y. y % 4) e, s .0, x .0)
       by (no m) (inl x) = let s = p .spent j .one-way (above (at rows j .kind) n m) in omega (arith, ap (λ y. y % 4) e, s .0, x .0)
@@ -282,14 +282,14 @@ side-later d (in-qpack encoder) e = e
 side-later d (in-qpack decoder) e = e
 side-later d in-skipped e = e
 
-later-side : {c : Connection} (d : Side) → (d .control ≡ 0 → c .control ≡ 0) → Later c (withSide c d)
+later-side : {c : Connection} (d : Side) → (d .control ≡ 0 → c .side .control ≡ 0) → Later c (withSide c d)
 later-side d h = record { requests = omega arith; oneways = omega arith; control = h }
 
 module _ {c : Connection} {rows : List Record} (p : Paired c rows) (k : ℕ) {r : Record} (was : r ≡ at rows k) (two : 2 ≤ r .kind) (call allow : ℕ) (piece : List ℕ) (a : Heard) where
   abbrev after : Connection
   after = codeKept (withSide c (a .side)) (a .number)
 
-  later-heard : (a .side .control ≡ 0 → c .control ≡ 0) → Later c after
+  later-heard : (a .side .control ≡ 0 → c .side .control ≡ 0) → Later c after
   later-heard h = later-code (a .number) (later-side (a .side) h)
 
   next-standing : (x : OneState) → feeding (sideIn c) allow piece (stateHere r (sideIn c)) .after ≡ lives x → a .side ≡ sideAfter (sideIn c) x → Heeds (a .row)
@@ -299,12 +299,12 @@ module _ {c : Connection} {rows : List Record} (p : Paired c rows) (k : ℕ) {r 
       next-one-way p k (later-heard (λ z. side-later (sideIn c) x (rw g at z))) (a .row) (i ∙ ap (λ y. y .id) was) (rw was at two) h (λ z. absurd (n z))
   next-standing (in-control s) f g h (controls i w) =
       next-one-way p k (later-heard (λ z. side-later (sideIn c) (in-control s) (rw g at z))) (a .row) (i ∙ ap (λ y. y .id) was) (rw was at two) h
-      (λ z. (come, was-one (control-once (c .control) (c .encoder) (c .decoder) allow (stateHere r (sideIn c)) piece f)))
+      (λ z. (come, was-one (control-once (c .side .control) (c .side .encoder) (c .side .decoder) allow (stateHere r (sideIn c)) piece f)))
     where
-      come : after .control ≡ 0 → ⊥
+      come : after .side .control ≡ 0 → ⊥
       come z = let y = later-code {c = withSide c (a .side)} (a .number) later-same .control z in let m : _≡_ {A = ℕ} 1 0 = sym (ap (λ x. x .control) g) ∙ y in omega arith
 
-      was-one : (c .control ≡ 0) ⊎ ((y : State Control) × (stateHere r (sideIn c) ≡ in-control y)) → (c .control ≡ 0) ⊎ (at rows k .kind ≡ 3)
+      was-one : (c .side .control ≡ 0) ⊎ ((y : State Control) × (stateHere r (sideIn c) ≡ in-control y)) → (c .side .control ≡ 0) ⊎ (at rows k .kind ≡ 3)
       was-one (inl e) = inl e
       was-one (inr y) = inr (sym (ap (λ x. x .kind) was) ∙ control-kind (cellsIn r) (placeHere r (sideIn c)) (sofarHere r (sideIn c)) (r .kind) (y .1))
 
@@ -321,7 +321,7 @@ module _ {c : Connection} {rows : List Record} {f : Found} {call id : ℕ} (foun
 
   pub kept-pair : {allow : ℕ} {piece : List ℕ} {t : Turn} → Turned c f call id allow piece t → Paired (t .conn) (set rows (f .at) (t .row))
   kept-pair (other-row n q) = unaltered-pair 9 q
-  kept-pair (dead l n q) = unaltered-pair (c .code) q
+  kept-pair (dead l n q) = unaltered-pair (c .doors .code) q
   kept-pair (opens v e q) = rw q (after-opening p id (f .at) (found .row) (freeAt (f .at)) (went (doorsIn c) id (freeAt (f .at))))
   kept-pair (not-open v n s q) = unaltered-pair 1 q
   kept-pair {allow} {piece} (request v n l o q s) = let r = f .row in
@@ -346,8 +346,8 @@ unfolding sendingOf
 gone-later c id (refused n) = later-same
 gone-later c id (wrote bytes) = record { requests = omega arith; oneways = omega arith; control = λ e. e }
 
-pub goaway-pair : {c : Connection} {rows : List Record} {id : ℕ} {before after : List ℕ} {r : Gone} → GoesAway c id before r after → Paired c rows → Paired (r .conn) rows
-goaway-pair {c} {id = id} {before = before} g p = rw (g .is) (rw (g .sends .answers) (later-pair (gone-later c id (writeOf (c .code) (doorsIn c) id (length before))) p))
+pub goaway-pair : {c : Connection} {rows : List Record} {id : ℕ} {before after : List ℕ} {r : Gone} → GoesAway (c .doors) id before r after → Paired c rows → Paired (withDoors c (r .doors)) rows
+goaway-pair {c} {id = id} {before = before} g p = rw (g .is) (rw (g .sends .answers) (later-pair (gone-later c id (writeOf (c .doors .code) (doorsIn c) id (length before))) p))
 
 -- start
 all-free : (n : ℕ) → n ≡ 24 → (rows : List Record) (i : ℕ) → at (map (sweptOf n) rows) i ≡ free-record

@@ -6,7 +6,6 @@ use mathlib.Core.List.{List}
 use mathlib.Core.Bool.{true, false}
 use mathlib.Core.Logic.{_⊎_}
 use lib.Dec.{eqb, ltb}
-use lib.ListN.{replicate}
 use Rattle.rules.specs.Message.{Message, opening}
 use Rattle.meaning.specs.Machine.{State, between, fresh}
 use Rattle.meaning.specs.OneWayFeed.{OneState, in-stream-type}
@@ -14,45 +13,28 @@ use Rattle.record.specs.declared.Record.{Record}
 use Rattle.record.specs.Row.{requestRecord, oneWayRecord, free-record}
 use Rattle.requests.specs.declared.Reply.{Reply}
 use Rattle.requests.specs.Reply.{Open, stateIn, fedAs, givenAs, endedAs, resetAs, Answered}
+use Rattle.doors.specs.declared.Doors.{Doors}
 use Rattle.doors.specs.declared.Opening.{Opening}
 use Rattle.doors.specs.declared.Goaway.{Goaway}
-use Rattle.doors.specs.Openings.{openedOf}
+use Rattle.doors.specs.Openings.{fresh-doors, openedOf}
 use Rattle.doors.specs.Goaway.{Sends}
 use Rattle.oneways.specs.declared.Side.{Side}
 use Rattle.oneways.specs.declared.Heard.{Heard}
+use Rattle.oneways.specs.Mirror.{fresh-side}
 use Rattle.oneways.specs.Heard.{Heeds, stateHere, feeding, fedHere, Stays, givenHere, closedHere, HeardAs}
 use Rattle.connection.specs.declared.Connection.{Connection}
 use Rattle.connection.specs.declared.Report.{Report}
 use Rattle.connection.specs.declared.Found.{Found}
+use Rattle.connection.specs.declared.Near.{Near}
 use Rattle.connection.specs.declared.Turn.{Turn}
 use Rattle.connection.specs.declared.Begun.{Begun}
 use Rattle.connection.specs.declared.Gone.{Gone}
 use Rattle.connection.specs.Whose.{Vacant}
-use Rattle.connection.specs.Halves.{stream-id, doorsIn, withDoors, sideIn, withSide}
-use Rattle.connection.specs.Faults.{codeKept}
+use Rattle.connection.specs.Halves.{stream-id, both, sideIn}
+use Rattle.connection.specs.Faults.{codeIn}
 
 abbrev pub fresh-connection : Connection
-fresh-connection = record {
-  code = 0;
-  requests = 0;
-  oneways = 2;
-  sent = 0;
-  ours = 0;
-  control = 0;
-  encoder = 0;
-  decoder = 0;
-  set = 0;
-  limited = 0;
-  size = 0;
-  capacity = 0;
-  blocked = 0;
-  goaways = 0;
-  theirs = 0;
-  pushes = 0;
-  push = 0;
-  held = 0;
-  bytes = replicate 256 0;
-}
+fresh-connection = both fresh-doors fresh-side
 
 -- ---- answers
 
@@ -65,7 +47,17 @@ numbered n = told n 0 0 0 0 0 0
 abbrev pub turn : Connection → Record → Report → Turn
 turn c r p = record { conn = c; row = r; report = p }
 
+-- what leaves the side as it is, beside any
+abbrev pub near : Doors → Record → Report → Near
+near d r p = record { aside = false; doors = d; row = r; report = p }
+
+abbrev pub beside : Side → Near → Turn
+beside s n = turn (both (n .doors) s) (n .row) (n .report)
+
 -- nothing altered
+abbrev pub stays : (number : ℕ) → Doors → Found → Near
+stays n d f = near d (f .row) (numbered n)
+
 abbrev pub unaltered : (number : ℕ) → Connection → Found → Turn
 unaltered n c f = turn c (f .row) (numbered n)
 
@@ -88,11 +80,17 @@ takenBy (suc n) id r = r
 unfoldable pub freeAt : (at : ℕ) → ℕ
 freeAt at = elim (ltb at 24) [ true ↦ 1 | false ↦ 0 ]
 
+abbrev pub lets-in : Found → (id : ℕ) → Opening → Near
+lets-in f id o = near (o .doors) (takenBy (o .number) id (f .row)) (numbered (o .number))
+
 abbrev pub let-in : Connection → Found → (id : ℕ) → Opening → Turn
-let-in c f id o = turn (withDoors c (o .doors)) (takenBy (o .number) id (f .row)) (numbered (o .number))
+let-in c f id o = beside (c .side) (lets-in f id o)
+
+abbrev pub opensAt : Doors → Found → (id : ℕ) → Near
+opensAt d f id = lets-in f id (openedOf d id (freeAt (f .at)))
 
 abbrev pub openedAt : Connection → Found → (id : ℕ) → Turn
-openedAt c f id = let-in c f id (openedOf (doorsIn c) id (freeAt (f .at)))
+openedAt c f id = beside (c .side) (opensAt (c .doors) f id)
 
 -- ---- a call on an open stream: 1 a feed, 2 a section, 3 the end, any other a reset
 
@@ -112,8 +110,11 @@ pub record Asks (r : Record) (call allow : ℕ) (piece : List ℕ) (a : Reply) :
   pub answers : Answered r (requestAs call allow piece r) a
   pub stays : a .number ≡ 0 → Open (a .row) ⊎ Vacant (a .row)
 
+abbrev pub replies : Doors → Reply → Near
+replies d a = near (codeIn d (a .number)) (a .row) (told (a .number) (a .event) (a .start) (a .len) (a .used) (a .heads) 0)
+
 abbrev pub replied : Connection → Reply → Turn
-replied c a = turn (codeKept c (a .number)) (a .row) (told (a .number) (a .event) (a .start) (a .len) (a .used) (a .heads) 0)
+replied c a = beside (c .side) (replies (c .doors) a)
 
 -- a one-way stream's answer; it alters its side of the connection, and the code
 abbrev pub oneWayAs : (call allow : ℕ) → (piece : List ℕ) → Record → Side → OneState → Heard
@@ -127,30 +128,33 @@ pub record Hears (r : Record) (d : Side) (call allow : ℕ) (piece : List ℕ) (
   pub answers : HeardAs r d (oneWayAs call allow piece r d) a
   pub stays : Heeds r → StaysOn call allow piece r d a
 
+abbrev pub overhears : Doors → Heard → Turn
+overhears d a = turn (both (codeIn d (a .number)) (a .side)) (a .row) (told (a .number) (a .event) (a .start) (a .len) (a .used) (a .heads) (a .value))
+
 abbrev pub overheard : Connection → Heard → Turn
-overheard c a = turn (codeKept (withSide c (a .side)) (a .number)) (a .row) (told (a .number) (a .event) (a .start) (a .len) (a .used) (a .heads) (a .value))
+overheard c a = overhears (c .doors) a
 
 -- ---- EVERY WAY A CALL CAN GO
 
 -- neither 9 nor a dead connection
-pub record Alive (c : Connection) (f : Found) : Type 0 where
+pub record Alive (d : Doors) (f : Found) : Type 0 where
   pub long : f .len ≡ 24
-  pub alive : c .code ≡ 0
+  pub alive : d .code ≡ 0
 
 pub data Turned (c : Connection) (f : Found) (call id allow : ℕ) (piece : List ℕ) (t : Turn) : Type 0 where
   -- 9
   other-row : (f .len ≡ 24 → ⊥) → t ≡ unaltered 9 c f → Turned c f call id allow piece t
   -- the code of a dead connection
-  dead : f .len ≡ 24 → (c .code ≡ 0 → ⊥) → t ≡ unaltered (c .code) c f → Turned c f call id allow piece t
+  dead : f .len ≡ 24 → (c .doors .code ≡ 0 → ⊥) → t ≡ unaltered (c .doors .code) c f → Turned c f call id allow piece t
   -- an opening: 2; 0x010b; 3; accepted
-  opens : Alive c f → call ≡ 0 → t ≡ openedAt c f id → Turned c f call id allow piece t
+  opens : Alive (c .doors) f → call ≡ 0 → t ≡ openedAt c f id → Turned c f call id allow piece t
   -- 1
-  not-open : Alive c f → (call ≡ 0 → ⊥) → (f .at < 24 → Open (f .row) ⊎ Heeds (f .row) → ⊥) → t ≡ unaltered 1 c f → Turned c f call id allow piece t
+  not-open : Alive (c .doors) f → (call ≡ 0 → ⊥) → (f .at < 24 → Open (f .row) ⊎ Heeds (f .row) → ⊥) → t ≡ unaltered 1 c f → Turned c f call id allow piece t
   -- 4 or 5; 6; protocol
-  request : Alive c f → (call ≡ 0 → ⊥) → f .at < 24 → Open (f .row) → t ≡ replied c (requestAs call allow piece (f .row) (stateIn (f .row)))
+  request : Alive (c .doors) f → (call ≡ 0 → ⊥) → f .at < 24 → Open (f .row) → t ≡ replied c (requestAs call allow piece (f .row) (stateIn (f .row)))
       → (t .report .number ≡ 0 → Open (t .row) ⊎ Vacant (t .row)) → Turned c f call id allow piece t
   -- 5; protocol
-  one-way : Alive c f → (call ≡ 0 → ⊥) → f .at < 24 → Heeds (f .row) → t ≡ overheard c (oneWayAs call allow piece (f .row) (sideIn c) (stateHere (f .row) (sideIn c)))
+  one-way : Alive (c .doors) f → (call ≡ 0 → ⊥) → f .at < 24 → Heeds (f .row) → t ≡ overheard c (oneWayAs call allow piece (f .row) (sideIn c) (stateHere (f .row) (sideIn c)))
       → StaysOn call allow piece (f .row) (sideIn c) (oneWayAs call allow piece (f .row) (sideIn c) (stateHere (f .row) (sideIn c))) → Turned c f call id allow piece t
 
 -- ---- start
@@ -167,10 +171,10 @@ sweptOf len r = elim (eqb len 24) [ true ↦ vacated r | false ↦ r ]
 
 -- ---- our GOAWAY
 
-abbrev pub goneBy : Connection → Goaway → Gone
-goneBy c g = record { conn = withDoors c (g .doors); written = record { number = g .number; count = g .count } }
+abbrev pub goneBy : Goaway → Gone
+goneBy g = record { doors = g .doors; written = record { number = g .number; count = g .count } }
 
-pub record GoesAway (c : Connection) (id : ℕ) (before : List ℕ) (r : Gone) (after : List ℕ) : Type 0 where
+pub record GoesAway (d : Doors) (id : ℕ) (before : List ℕ) (r : Gone) (after : List ℕ) : Type 0 where
   pub sent : Goaway
-  pub sends : Sends (doorsIn c) (stream-id id) before sent after
-  pub is : r ≡ goneBy c sent
+  pub sends : Sends d (stream-id id) before sent after
+  pub is : r ≡ goneBy sent

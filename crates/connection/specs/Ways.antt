@@ -34,9 +34,9 @@ use Rattle.connection.specs.declared.Report.{Report}
 use Rattle.connection.specs.declared.Found.{Found}
 use Rattle.connection.specs.declared.Turn.{Turn}
 use Rattle.connection.specs.Whose.{Vacant}
-use Rattle.connection.specs.Halves.{stream-id, doorsIn, withDoors, sideIn}
+use Rattle.connection.specs.Halves.{stream-id, doorsIn, sideIn}
 use Rattle.connection.specs.Faults.{kept-none}
-use Rattle.connection.specs.Turned.{fresh-connection, numbered, turn, unaltered, firstAs, firstRecord, takenBy, freeAt, let-in, openedAt, byCall, requestAs, Asks, replied, oneWayAs, Hears, overheard, Alive, Turned, not-open, request, one-way, begunOf, sweptOf, GoesAway}
+use Rattle.connection.specs.Turned.{fresh-connection, numbered, turn, near, unaltered, firstAs, firstRecord, takenBy, freeAt, lets-in, let-in, opensAt, openedAt, byCall, requestAs, Asks, replied, oneWayAs, Hears, overheard, Alive, Turned, not-open, request, one-way, begunOf, sweptOf, goneBy, GoesAway}
 
 -- ---- start
 
@@ -91,13 +91,12 @@ module _ (id : ℕ) (r : Record) {q : Record} where
   taken-none zero e f = absurd (e refl)
   taken-none (suc n) e f = f
 
-module _ (c : Connection) (f : Found) (id : ℕ) where
-  pub opened-so : {d : Doors} {n : ℕ} {o : Opening} {w : Connection} {q : Record} {p : Report} → d ≡ doorsIn c → n ≡ freeAt (f .at) → o ≡ openedOf d id n
-      → w ≡ withDoors c (o .doors) → q ≡ takenBy (o .number) id (f .row) → p ≡ numbered (o .number) → turn w q p ≡ openedAt c f id
-  opened-so {d} {n} {o} {w} {q} {p} ed en eo ew eq ep =
-      ap (λ x. turn x q p) ew ∙ ap (λ x. turn (withDoors c (o .doors)) x p) eq ∙ ap (turn (withDoors c (o .doors)) (takenBy (o .number) id (f .row))) ep
-      ∙ ap (let-in c f id) (eo ∙ ap (λ x. openedOf x id n) ed ∙ ap (openedOf (doorsIn c) id) en)
+pub opened-so : (d : Doors) (f : Found) (id : ℕ) {n : ℕ} {o : Opening} {q : Record} {p : Report} → n ≡ freeAt (f .at) → o ≡ openedOf d id n
+    → q ≡ takenBy (o .number) id (f .row) → p ≡ numbered (o .number) → near (o .doors) q p ≡ opensAt d f id
+opened-so d f id {n} {o} {q} {p} en eo eq ep =
+    ap (λ x. near (o .doors) x p) eq ∙ ap (near (o .doors) (takenBy (o .number) id (f .row))) ep ∙ ap (lets-in f id) (eo ∙ ap (openedOf d id) en)
 
+module _ (c : Connection) (f : Found) (id : ℕ) where
   -- AN OPENING THAT IS REFUSED ALTERS NOTHING, unless it was barred
   pub opening-refused : let n = openedAt c f id .report .number in (n ≡ 0 → ⊥) → (n ≡ 0x010b → ⊥) → openedAt c f id ≡ unaltered n c f
   opening-refused = by (went (doorsIn c) id (freeAt (f .at)))
@@ -190,7 +189,7 @@ module _ (r : Record) (d : Side) (call allow : ℕ) (piece : List ℕ) {a : Hear
   pub hears-close : (call ≡ 1 → ⊥) → (call ≡ 2 → ⊥) → HeardAs r d (closedHere r d) a → Hears r d call allow piece a
   hears-close n m x = record { answers = heard-as (by-close _ _ _ call n m) x; stays = λ h z. absurd (n z) }
 
-module _ {c : Connection} {f : Found} {call : ℕ} (id allow : ℕ) {piece : List ℕ} {t : Turn} (live : Alive c f) (n : call ≡ 0 → ⊥) where
+module _ {c : Connection} {f : Found} {call : ℕ} (id allow : ℕ) {piece : List ℕ} {t : Turn} (live : Alive (c .doors) f) (n : call ≡ 0 → ⊥) where
   pub past-row : 24 ≤ f .at → t ≡ unaltered 1 c f → Turned c f call id allow piece t
   past-row l q = not-open live n (λ w x. absurd (omega arith)) q
 
@@ -222,6 +221,5 @@ module _ {c : Connection} {f : Found} {call : ℕ} (id allow : ℕ) {piece : Lis
 
 -- ---- our GOAWAY
 
-pub goes-so : {c w : Connection} {id : ℕ} {before after : List ℕ} {e : Doors} {g : Goaway} → e ≡ doorsIn c → Sends e (stream-id id) before g after → w ≡ withDoors c (g .doors)
-    → GoesAway c id before (record { conn = w; written = record { number = g .number; count = g .count } }) after
-goes-so {g = g} q s x = record { sent = g; sends = rw q at s; is = ap (λ y. record { conn = y; written = record { number = g .number; count = g .count } }) x }
+pub goes-so : {d : Doors} {id : ℕ} {before after : List ℕ} {g : Goaway} → Sends d (stream-id id) before g after → GoesAway d id before (goneBy g) after
+goes-so {g = g} s = record { sent = g; sends = s; is = refl }

@@ -72,14 +72,14 @@ of s = oneWayRecord 2 s
 
 -- a control stream has come; an encoder stream has
 abbrev seen : (control encoder set : ℕ) → Connection
-seen c e s = withSide fresh-connection (record { control = c; encoder = e; decoder = 0; kept = record { set = s; limited = 0; size = 0; capacity = 0; blocked = 0; goaways = 0; goaway = record { 0 = 0 }; pushes = 0; push = record { 0 = 0 } }; held = 0; bytes = fresh-connection .bytes })
+seen c e s = withSide fresh-connection (record { control = c; encoder = e; decoder = 0; kept = record { set = s; limited = 0; size = 0; capacity = 0; blocked = 0; goaways = 0; goaway = record { 0 = 0 }; pushes = 0; push = record { 0 = 0 } }; held = 0; bytes = fresh-connection .side .bytes })
 
 abbrev starts : Connection → (len : ℕ) → Record → Turn
 starts c len r = turn (begunOf c len .conn) (sweptOf len r) (numbered (begunOf c len .number))
 
 abbrev goes : Connection → (id room : ℕ) → Turn
 goes c id room =
-    let g = goneBy c (sendingOf (doorsIn c) (stream-id id) (writeOf (c .code) (doorsIn c) id room)) in turn (g .conn) free-record (told (g .written .number) 0 0 0 (g .written .count) 0 0)
+    let g = goneBy (sendingOf (doorsIn c) (stream-id id) (writeOf (c .doors .code) (doorsIn c) id room)) in turn (withDoors c (g .doors)) free-record (told (g .written .number) 0 0 0 (g .written .count) 0 0)
 
 unfoldable pub rows : List Row
 rows =

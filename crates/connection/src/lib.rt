@@ -1,7 +1,5 @@
 // The connection record and every call by value (document 01, "Calls and the host's memory").
-use control::Kept;
 use doors::Doors;
-use ids::PushId;
 use ids::StreamId;
 use oneways::Heard;
 use oneways::Side;
@@ -12,37 +10,17 @@ ghost use lib.ListN.{length};
 ghost use Rattle.record.specs.Sound.{Decides};
 ghost use Rattle.connection.specs.Whose.{Wanted};
 ghost use Rattle.record.specs.Row.{recordAt, no-cells};
-ghost use Rattle.connection.specs.Halves.{doorsIn, withDoors, sideIn, withSide};
-ghost use Rattle.connection.specs.Faults.{codeKept};
-ghost use Rattle.connection.specs.Turned.{fresh-connection, numbered, unaltered, firstRecord, takenBy, freeAt, openedAt, Asks, replied, Hears, overheard, Turned, begunOf, sweptOf, GoesAway};
+ghost use Rattle.connection.specs.Faults.{codeIn};
+ghost use Rattle.connection.specs.Turned.{fresh-connection, numbered, stays, firstRecord, takenBy, freeAt, opensAt, Asks, replies, Hears, overhears, Turned, begunOf, sweptOf, GoesAway};
+ghost use Rattle.connection.specs.Nearly.{Nearly};
 ghost use Rattle.connection.specs.Briefly.{Briefly};
 
-// What a host lends for a connection: integers alone, and each value means something.
-// code: of the connection fault, 0 while there was none. requests and oneways: the lowest ID of each kind that was not opened yet.
-// sent 0: we sent no GOAWAY; ours: the last one's ID. control, encoder, decoder 0: no such stream has come.
-// set 0: SETTINGS have not come. limited 0: no section size is stated. goaways and pushes 0: no GOAWAY of the client, no MAX_PUSH_ID has come;
-// theirs and push: the last of each. held: how many bytes are kept of a control frame's payload that is not complete.
+// What a host lends for a connection: integers alone, and each value means something. doors: what every call looks at. side: what only a one-way
+// stream's call does. A code, a flag or a count that no start of ours left has a meaning too (docs/DECISIONS.md, N14).
 #[repr(C)]
 pub struct Connection {
-    pub code: u64,
-    pub requests: u64,
-    pub oneways: u64,
-    pub sent: u64,
-    pub ours: u64,
-    pub control: u64,
-    pub encoder: u64,
-    pub decoder: u64,
-    pub set: u64,
-    pub limited: u64,
-    pub size: u64,
-    pub capacity: u64,
-    pub blocked: u64,
-    pub goaways: u64,
-    pub theirs: u64,
-    pub pushes: u64,
-    pub push: u64,
-    pub held: u64,
-    pub bytes: [u8; 256],
+    pub doors: Doors,
+    pub side: Side,
 }
 
 // What a call answers. number 0: accepted. event 0: none, 1: content, 2: section bytes, 3: the last of them, 7: QPACK stream bytes,
@@ -66,6 +44,14 @@ pub struct Found {
     pub row: Record,
 }
 
+// What a call leaves of the doors and of the record, and what it answers, beside any side. aside: the side is asked, and nothing is said yet.
+pub struct Near {
+    pub aside: bool,
+    pub doors: Doors,
+    pub row: Record,
+    pub report: Report,
+}
+
 // What a call leaves of the connection and of the record, and what it answers.
 pub struct Turn {
     pub conn: Connection,
@@ -86,7 +72,7 @@ pub struct Written {
 }
 
 pub struct Gone {
-    pub conn: Connection,
+    pub doors: Doors,
     pub written: Written,
 }
 
@@ -94,122 +80,8 @@ pub fn fresh() -> Connection
     ensures { λ r. ⌜ r ≡ fresh-connection ⌝ }
 {
     Connection {
-        code: 0,
-        requests: 0,
-        oneways: 2,
-        sent: 0,
-        ours: 0,
-        control: 0,
-        encoder: 0,
-        decoder: 0,
-        set: 0,
-        limited: 0,
-        size: 0,
-        capacity: 0,
-        blocked: 0,
-        goaways: 0,
-        theirs: 0,
-        pushes: 0,
-        push: 0,
-        held: 0,
-        bytes: [0; 256],
-    }
-}
-
-// ---- which streams are let in, and what one-way streams have said
-
-fn doors_in(c: Connection) -> Doors
-    ensures { λ r. ⌜ r ≡ doorsIn c ⌝ }
-{
-    Doors {
-        code: c.code,
-        requests: c.requests,
-        oneways: c.oneways,
-        goaways: c.sent,
-        goaway: StreamId(c.ours),
-    }
-}
-
-fn with_doors(c: Connection, d: Doors) -> Connection
-    ensures { λ r. ⌜ r ≡ withDoors c d ⌝ }
-{
-    let goaway = d.goaway;
-    let bytes = c.bytes;
-    Connection {
-        code: d.code,
-        requests: d.requests,
-        oneways: d.oneways,
-        sent: d.goaways,
-        ours: goaway.0,
-        control: c.control,
-        encoder: c.encoder,
-        decoder: c.decoder,
-        set: c.set,
-        limited: c.limited,
-        size: c.size,
-        capacity: c.capacity,
-        blocked: c.blocked,
-        goaways: c.goaways,
-        theirs: c.theirs,
-        pushes: c.pushes,
-        push: c.push,
-        held: c.held,
-        bytes,
-    }
-}
-
-fn side_in(c: Connection) -> Side
-    ensures { λ r. ⌜ r ≡ sideIn c ⌝ }
-{
-    let bytes = c.bytes;
-    let kept = Kept {
-        set: c.set,
-        limited: c.limited,
-        size: c.size,
-        capacity: c.capacity,
-        blocked: c.blocked,
-        goaways: c.goaways,
-        goaway: PushId(c.theirs),
-        pushes: c.pushes,
-        push: PushId(c.push),
-    };
-    Side {
-        control: c.control,
-        encoder: c.encoder,
-        decoder: c.decoder,
-        kept,
-        held: c.held,
-        bytes,
-    }
-}
-
-fn with_side(c: Connection, d: Side) -> Connection
-    ensures { λ r. ⌜ r ≡ withSide c d ⌝ }
-{
-    let kept = d.kept;
-    let theirs = kept.goaway;
-    let push = kept.push;
-    let bytes = d.bytes;
-    Connection {
-        code: c.code,
-        requests: c.requests,
-        oneways: c.oneways,
-        sent: c.sent,
-        ours: c.ours,
-        control: d.control,
-        encoder: d.encoder,
-        decoder: d.decoder,
-        set: kept.set,
-        limited: kept.limited,
-        size: kept.size,
-        capacity: kept.capacity,
-        blocked: kept.blocked,
-        goaways: kept.goaways,
-        theirs: theirs.0,
-        pushes: kept.pushes,
-        push: push.0,
-        held: d.held,
-        bytes,
+        doors: doors::fresh(),
+        side: oneways::fresh(),
     }
 }
 
@@ -229,35 +101,31 @@ fn numbered_report(number: u64) -> Report
     }
 }
 
-fn refused(number: u64, c: Connection, f: Found) -> Turn
-    ensures { λ r. ⌜ r ≡ unaltered number c f ⌝ }
+fn refused(number: u64, d: Doors, f: Found) -> Near
+    ensures { λ r. ⌜ r ≡ stays number d f ⌝ }
 {
     let row = f.row;
-    Turn {
-        conn: c,
+    Near {
+        aside: false,
+        doors: d,
         row,
         report: numbered_report(number),
     }
 }
 
 // A connection fault: the code is kept.
-fn code_kept(c: Connection, number: u64) -> Connection
-    ensures { λ r. ⌜ r ≡ codeKept c number ⌝ }
+fn code_kept(d: Doors, number: u64) -> Doors
+    ensures { λ r. ⌜ r ≡ codeIn d number ⌝ }
 {
     if number < 0x0103 {
-        return c;
+        return d;
     }
     if 0x010a < number {
-        return c;
+        return d;
     }
-    let d = Doors {
-        code: number,
-        requests: c.requests,
-        oneways: c.oneways,
-        goaways: c.sent,
-        goaway: StreamId(c.ours),
-    };
-    with_doors(c, d)
+    let mut dead = d;
+    dead.code = number;
+    dead
 }
 
 // ---- the row
@@ -322,14 +190,15 @@ fn free_at(at: usize) -> u64
     if at < 24 { 1 } else { 0 }
 }
 
-fn open_stream(c: Connection, f: Found, id: StreamId) -> Turn
-    ensures { λ r. ⌜ r ≡ openedAt c f (id .0) ⌝ }
+fn open_stream(d: Doors, f: Found, id: StreamId) -> Near
+    ensures { λ r. ⌜ r ≡ opensAt d f (id .0) ⌝ }
 {
     let row = f.row;
-    let o = doors::open(doors_in(c), id, free_at(f.at));
-    let d = o.doors;
-    Turn {
-        conn: with_doors(c, d),
+    let o = doors::open(d, id, free_at(f.at));
+    let doors = o.doors;
+    Near {
+        aside: false,
+        doors,
         row: taken_by(o.number, id, row),
         report: numbered_report(o.number),
     }
@@ -337,7 +206,7 @@ fn open_stream(c: Connection, f: Found, id: StreamId) -> Turn
 
 // ---- a call on an open stream
 
-// What a request answers, and what that makes of connection and record: a connection fault's code is kept.
+// What a request answers, and what that makes of doors and record: a connection fault's code is kept.
 fn ask(r: Record, call: u64, allow: u64, piece: &[u8]) -> Reply
     ensures { λ a. ⌜ Asks r call allow (now (piece .entry)) a ⌝ }
 {
@@ -353,12 +222,13 @@ fn ask(r: Record, call: u64, allow: u64, piece: &[u8]) -> Reply
     requests::reset(r)
 }
 
-fn reply_turn(c: Connection, a: Reply) -> Turn
-    ensures { λ t. ⌜ t ≡ replied c a ⌝ }
+fn reply_turn(d: Doors, a: Reply) -> Near
+    ensures { λ t. ⌜ t ≡ replies d a ⌝ }
 {
     let row = a.row;
-    Turn {
-        conn: code_kept(c, a.number),
+    Near {
+        aside: false,
+        doors: code_kept(d, a.number),
         row,
         report: Report {
             number: a.number,
@@ -385,13 +255,16 @@ fn heed(r: Record, d: Side, call: u64, allow: u64, piece: &[u8]) -> Heard
     oneways::close(r, d)
 }
 
-fn heard_turn(c: Connection, a: Heard) -> Turn
-    ensures { λ t. ⌜ t ≡ overheard c a ⌝ }
+fn heard_turn(d: Doors, a: Heard) -> Turn
+    ensures { λ t. ⌜ t ≡ overhears d a ⌝ }
 {
     let row = a.row;
     let side = a.side;
     Turn {
-        conn: code_kept(with_side(c, side), a.number),
+        conn: Connection {
+            doors: code_kept(d, a.number),
+            side,
+        },
         row,
         report: Report {
             number: a.number,
@@ -405,28 +278,55 @@ fn heard_turn(c: Connection, a: Heard) -> Turn
     }
 }
 
-// A call on one stream. call 0: open, 1: feed, 2: give a section, 3: end, any other: reset.
+// A call on one stream, as far as the doors decide it. call 0: open, 1: feed, 2: give a section, 3: end, any other: reset.
+pub fn answer(d: Doors, f: Found, call: u64, id: u64, allow: u64, piece: &[u8]) -> Near
+    ensures { λ r. ⌜ Nearly d f call id allow (now (piece .entry)) r ⌝ }
+{
+    if f.len != 24 {
+        return refused(9, d, f);
+    }
+    if d.code != 0 {
+        return refused(d.code, d, f);
+    }
+    if call == 0 {
+        return open_stream(d, f, StreamId(id));
+    }
+    if 24 <= f.at {
+        return refused(1, d, f);
+    }
+    let row = f.row;
+    // 1 to a record that is not an open stream's, here and aside.
+    if row.kind == 1 {
+        return reply_turn(d, ask(row, call, allow, piece));
+    }
+    Near {
+        aside: true,
+        doors: d,
+        row,
+        report: numbered_report(0),
+    }
+}
+
+// A call on one stream.
 pub fn decide(c: Connection, f: Found, call: u64, id: u64, allow: u64, piece: &[u8]) -> Turn
     ensures { λ r. ⌜ Turned c f call id allow (now (piece .entry)) r ⌝ }
 {
-    if f.len != 24 {
-        return refused(9, c, f);
-    }
-    if c.code != 0 {
-        return refused(c.code, c, f);
-    }
-    if call == 0 {
-        return open_stream(c, f, StreamId(id));
-    }
-    if 24 <= f.at {
-        return refused(1, c, f);
-    }
+    let d = c.doors;
+    let side = c.side;
     let row = f.row;
-    // Either answers 1 to a record that is not an open stream's.
-    if row.kind == 1 {
-        return reply_turn(c, ask(row, call, allow, piece));
+    let n = answer(d, f, call, id, allow, piece);
+    if n.aside {
+        heard_turn(d, heed(row, side, call, allow, piece))
+    } else {
+        let doors = n.doors;
+        let left = n.row;
+        let report = n.report;
+        Turn {
+            conn: Connection { doors, side },
+            row: left,
+            report,
+        }
     }
-    heard_turn(c, heed(row, side_in(c), call, allow, piece))
 }
 
 // What a feed leaves of the record and answers, where it leaves the connection as it is.
@@ -494,13 +394,13 @@ pub fn swept(len: usize, r: Record) -> Record
 // ---- our GOAWAY
 
 // We send a GOAWAY of this ID into the room.
-pub fn say_goaway(c: Connection, id: u64, room: &mut [u8]) -> Gone
-    ensures { λ r. ⌜ GoesAway c id (now (room .entry)) r (now (room .exit)) ⌝ }
+pub fn say_goaway(d: Doors, id: u64, room: &mut [u8]) -> Gone
+    ensures { λ r. ⌜ GoesAway d id (now (room .entry)) r (now (room .exit)) ⌝ }
 {
-    let g = doors::send_goaway(doors_in(c), StreamId(id), room);
-    let d = g.doors;
+    let g = doors::send_goaway(d, StreamId(id), room);
+    let doors = g.doors;
     Gone {
-        conn: with_doors(c, d),
+        doors,
         written: Written {
             number: g.number,
             count: g.count as u64,

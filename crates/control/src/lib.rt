@@ -12,6 +12,7 @@ ghost use Rattle.control.specs.Judged.{refusal, settled, settingsKept, s
 
 // What a control stream keeps. set 0: SETTINGS have not come. limited 1: a section size is stated. goaways and pushes: how many of GOAWAY and
 // MAX_PUSH_ID have come, 0 or 1 for any; goaway and push: the last of each.
+#[repr(C)]
 pub struct Kept {
     pub set: u64,
     pub limited: u64,

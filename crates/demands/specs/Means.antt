@@ -48,7 +48,7 @@ abbrev pub keepsOf : Side → Keeps
 keepsOf d = record { control = isThere (d .control); encoder = isThere (d .encoder); decoder = isThere (d .decoder); said = controlOf (d .kept) }
 
 abbrev pub connOf : Connection → Conn streams
-connOf c = record { dead = deadBy (c .code); nextRequest = c .requests; nextOneway = c .oneways; limit = sentAs (c .sent) (c .ours); kept = keepsOf (sideIn c) }
+connOf c = record { dead = deadBy (c .doors .code); nextRequest = c .doors .requests; nextOneway = c .doors .oneways; limit = sentAs (c .doors .goaways) (c .doors .goaway .0); kept = keepsOf (sideIn c) }
 
 -- THE PAIR
 abbrev pub pairOf : Connection → List Record → Pair streams

@@ -33,8 +33,8 @@ use Rattle.oneway.specs.Closed.{Closes}
 
 -- ---- equations
 
--- `varint::fresh`, `size`, `put`, `ids`, all of `fields`, `section::code`, `streams::ruled`, `record::free`, `given::give`, `control::judge`, `doors::open`,
--- `connection::fresh`, `begin`, `swept`, the sizes of `board`, `listing::start` and `next`
+-- `varint::fresh`, `size`, `put`, `ids`, all of `fields`, `section::code`, `streams::ruled`, `record::free`, `given::give`, `control::judge`, `doors::fresh`, `open`,
+-- `oneways::fresh`, `connection::fresh`, `begin`, `swept`, the sizes of `board`, `listing::start` and `next`
 pub one : {A : Type 0} {x y z : A} → y ≡ x → z ≡ x → y ≡ z
 one e f = e ∙ sym f
 
@@ -97,4 +97,4 @@ pub one-record : (s : Stream) (r q : Record) → Written s r → Written s q →
 one-record s r q e f = one-written s r q e f
 
 -- `requests`: requests/Answered.one-answer; `oneways`: oneways/Feeds.one-heard; `doors::send_goaway`: doors/Goaway.sends-one;
--- `connection::decide` and `say_goaway`: connection/One.one-turn, one-goaway; `board`: board/Once.one-step, one-start, one-sent
+-- `connection::answer`, `decide` and `say_goaway`: connection/Nearly.one-near, connection/One.one-turn, one-goaway; `board`: board/Once.one-step, one-start, one-sent

@@ -149,32 +149,32 @@ module _ (c : Connection) (rows : List Record) (paired : Paired c rows) (id : �
 
   request-so : id < 2 ^ 62 → id % 4 ≡ 0 → Opened (requestOf (doorsIn c) id (freeAt (f .at))) (opening id (some request) (pairOf c rows))
   unfolding requestOf nextOf barred either
-  request-so l m = by (eqb id (c .requests)) refl
+  request-so l m = by (eqb id (c .doors .requests)) refl
     where
-      bars : (b : Bool) → barredAt (c .sent) (c .ours) id ≡ b → id ≡ c .requests → Opened (elim b [ true ↦ refusal 0x010b (nextRequest (doorsIn c)) | false ↦ admittedAs (freeAt (f .at)) (nextRequest (doorsIn c)) (doorsIn c) ])
+      bars : (b : Bool) → barredAt (c .doors .goaways) (c .doors .goaway .0) id ≡ b → id ≡ c .doors .requests → Opened (elim b [ true ↦ refusal 0x010b (nextRequest (doorsIn c)) | false ↦ admittedAs (freeAt (f .at)) (nextRequest (doorsIn c)) (doorsIn c) ])
           (either b (with (code (of-stream rejected) 0 0) (spend request (connOf c)) (rowOf (sideIn c) rows)) (seated request (pairOf c rows) (seat (held id (first request)) (rowOf (sideIn c) rows))))
       bars true e q = barred-so
       bars false e q = admitted request (first-request (sideIn c) id (f .row) m)
 
-      by : (b : Bool) → eqb id (c .requests) ≡ b → Opened (elim b [
+      by : (b : Bool) → eqb id (c .doors .requests) ≡ b → Opened (elim b [
         | false ↦ refusal 2 (doorsIn c)
-        | true ↦ elim (barredAt (c .sent) (c .ours) id) [ true ↦ refusal 0x010b (nextRequest (doorsIn c)) | false ↦ admittedAs (freeAt (f .at)) (nextRequest (doorsIn c)) (doorsIn c) ]
+        | true ↦ elim (barredAt (c .doors .goaways) (c .doors .goaway .0) id) [ true ↦ refusal 0x010b (nextRequest (doorsIn c)) | false ↦ admittedAs (freeAt (f .at)) (nextRequest (doorsIn c)) (doorsIn c) ]
       ]) (opening id (some request) (pairOf c rows))
-      by false e = let y = next-no request (eqb-false id (c .requests) e) in rw y not-next-so
+      by false e = let y = next-no request (eqb-false id (c .doors .requests) e) in rw y not-next-so
       by true e =
-          let q = eqb-true id (c .requests) e in
-          let y = next-yes l request q ∙ ap (λ b. either b (with (code (of-stream rejected) 0 0) (spend request (connOf c)) (rowOf (sideIn c) rows)) (seated request (pairOf c rows) (seat (held id (first request)) (rowOf (sideIn c) rows)))) (sym (barred-same (c .sent) (c .ours) id)) in
-          rw y (bars (barredAt (c .sent) (c .ours) id) refl q)
+          let q = eqb-true id (c .doors .requests) e in
+          let y = next-yes l request q ∙ ap (λ b. either b (with (code (of-stream rejected) 0 0) (spend request (connOf c)) (rowOf (sideIn c) rows)) (seated request (pairOf c rows) (seat (held id (first request)) (rowOf (sideIn c) rows)))) (sym (barred-same (c .doors .goaways) (c .doors .goaway .0) id)) in
+          rw y (bars (barredAt (c .doors .goaways) (c .doors .goaway .0) id) refl q)
 
   one-way-so : id < 2 ^ 62 → id % 4 ≡ 2 → Opened (oneWayOf (doorsIn c) id (freeAt (f .at))) (opening id (some one-way) (pairOf c rows))
   unfolding oneWayOf nextOf barred either
-  one-way-so l m = by (eqb id (c .oneways)) refl
+  one-way-so l m = by (eqb id (c .doors .oneways)) refl
     where
-      by : (b : Bool) → eqb id (c .oneways) ≡ b → Opened (elim b [ false ↦ refusal 2 (doorsIn c) | true ↦ admittedAs (freeAt (f .at)) (nextOneWay (doorsIn c)) (doorsIn c) ]) (opening id (some one-way) (pairOf c rows))
-      by false e = let y = next-no one-way (eqb-false id (c .oneways) e) in rw y not-next-so
-      by true e = let y = next-yes l one-way (eqb-true id (c .oneways) e) in rw y (admitted one-way (first-one-way (sideIn c) id (f .row) m))
+      by : (b : Bool) → eqb id (c .doors .oneways) ≡ b → Opened (elim b [ false ↦ refusal 2 (doorsIn c) | true ↦ admittedAs (freeAt (f .at)) (nextOneWay (doorsIn c)) (doorsIn c) ]) (opening id (some one-way) (pairOf c rows))
+      by false e = let y = next-no one-way (eqb-false id (c .doors .oneways) e) in rw y not-next-so
+      by true e = let y = next-yes l one-way (eqb-true id (c .doors .oneways) e) in rw y (admitted one-way (first-one-way (sideIn c) id (f .row) m))
 
-  module _ (live : c .code ≡ 0) where
+  module _ (live : c .doors .code ≡ 0) where
     opens-so : Opened (openedOf (doorsIn c) id (freeAt (f .at))) (opening id (kindOf id) (pairOf c rows))
     unfolding kindOf
     opens-so = by (decLt id (2 ^ 62)) (ℕ-discrete (id % 4) 0) (ℕ-discrete (id % 4) 2)

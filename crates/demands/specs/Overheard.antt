@@ -256,9 +256,9 @@ module _ {c : Connection} {rows : List Record} (p : Paired c rows) (at : ℕ) (r
   others-say (O.in-qpack decoder) f j n = refl
   others-say O.in-skipped f j n = refl
   others-say (O.in-control s) f j n = let q = getD rows j free-record in let e = sideAfter d (O.in-control s) in
-      by (ℕ-discrete (q .kind) 3) (control-once (c .control) (c .encoder) (c .decoder) allow (stateHere r d) piece f)
+      by (ℕ-discrete (q .kind) 3) (control-once (c .side .control) (c .side .encoder) (c .side .decoder) allow (stateHere r d) piece f)
     where
-      by : Dec (getD rows j free-record .kind ≡ 3) → (c .control ≡ 0) ⊎ ((y : State Control) × (stateHere r d ≡ O.in-control y))
+      by : Dec (getD rows j free-record .kind ≡ 3) → (c .side .control ≡ 0) ⊎ ((y : State Control) × (stateHere r d ≡ O.in-control y))
           → stateHere (getD rows j free-record) (sideAfter d (O.in-control s)) ≡ stateHere (getD rows j free-record) d
       by (yes k) (inl z) = absurd (p .control j k z)
       by (yes k) (inr (y, z)) = absurd (n (p .single j at k (sym (ap (λ x. x .kind) was) ∙ control-kind (cellsIn r) (placeHere r d) (sofarHere r d) (r .kind) z)))
@@ -299,7 +299,7 @@ module _ (c : Connection) (rows : List Record) (p : Paired c rows) (at : ℕ) (r
 
     conn-after : connOf (withSide c (sideAfter here x)) ≡ keeping (keptBy (keepsOf here) x) (connOf c)
     unfolding keeping
-    conn-after = ap (λ y. record { dead = connOf c .dead; nextRequest = c .requests; nextOneway = c .oneways; limit = connOf c .limit; kept = y }) (kept-same here x)
+    conn-after = ap (λ y. record { dead = connOf c .dead; nextRequest = c .doors .requests; nextOneway = c .doors .oneways; limit = connOf c .limit; kept = y }) (kept-same here x)
 
     step-comes : (u h : ℕ) (e : OneEvent) (ev from len val : ℕ) → told 0 ev from len u h val ≡ reported u h (oneEvent u e)
         → Told (side.heard 0 ev from len u h val (oneWayRecord (r .id) x) (sideAfter here x)) (step (fed u h (oneEvent u e)) (record { state = x; kept = keptBy (keepsOf here) x }))
@@ -326,7 +326,7 @@ module _ (c : Connection) (rows : List Record) (p : Paired c rows) (at : ℕ) (r
   fed-comes fits stays =
       let f = feeding here allow piece state in
       let q = types-same here in
-      rw q (said-comes (f .used) (f .heads) (f .event) (f .after) refl (one-suits (typesOf (c .control) (c .encoder) (c .decoder)) allow state fits piece .event) (stays refl) (λ n e. one-way-listed (typesOf (c .control) (c .encoder) (c .decoder)) allow state piece n e))
+      rw q (said-comes (f .used) (f .heads) (f .event) (f .after) refl (one-suits (typesOf (c .side .control) (c .side .encoder) (c .side .decoder)) allow state fits piece .event) (stays refl) (λ n e. one-way-listed (typesOf (c .side .control) (c .side .encoder) (c .side .decoder)) allow state piece n e))
 
   -- ---- EVERY CALL
 

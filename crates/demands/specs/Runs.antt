@@ -326,7 +326,7 @@ module _ {c : Connection} {f : Found} {n id allow : ℕ} {piece : List ℕ} {t :
   -- and a connection fault of a call on a stream: the code, and all else byte for byte
   fault-turned : ¬ (n ≡ 0) → Turned c f n id allow piece t → Fault (t .report .number) → (t .conn ≡ withCode (t .report .number) c) × (t .row ≡ f .row)
   fault-turned b (other-row x q) z = let k : t .report .number ≡ 9 = ap (λ y. y .report .number) q in absurd (omega arith)
-  fault-turned b (dead l x q) z = let k : t .report .number ≡ c .code = ap (λ y. y .report .number) q in (ap (λ y. y .conn) q ∙ ap (λ y. withCode y c) (sym k), ap (λ y. y .row) q)
+  fault-turned b (dead l x q) z = let k : t .report .number ≡ c .doors .code = ap (λ y. y .report .number) q in (ap (λ y. y .conn) q ∙ ap (λ y. withCode y c) (sym k), ap (λ y. y .row) q)
   fault-turned b (opens v e q) z = absurd (b e)
   fault-turned b (not-open v x s q) z = let k : t .report .number ≡ 1 = ap (λ y. y .report .number) q in absurd (omega arith)
   fault-turned b (request v x l o q s) z =
@@ -342,7 +342,7 @@ module _ {c : Connection} {f : Found} {n id allow : ℕ} {piece : List ℕ} {t :
         ap (λ y. y .row) q ∙ i .row (omega arith, omega arith),
       )
 
-  dead-turned : Turned c f n id allow piece t → ¬ (c .code ≡ 0) → Untouched c f t
+  dead-turned : Turned c f n id allow piece t → ¬ (c .doors .code ≡ 0) → Untouched c f t
   dead-turned (other-row x q) z = unaltered-so _ q
   dead-turned (dead l x q) z = unaltered-so _ q
   dead-turned (opens v e q) z = absurd (z (v .alive))
@@ -355,20 +355,20 @@ module _ {c c′ : Connection} {id : ℕ} {room room′ : List ℕ} {w : Written
   abbrev written-by : Write → Goaway
   written-by x = sendingOf (doorsIn c) (stream-id id) x
 
-  number-is : w .number ≡ written-by (writeOf (c .code) (doorsIn c) id (length room)) .number
+  number-is : w .number ≡ written-by (writeOf (c .doors .code) (doorsIn c) id (length room)) .number
   number-is = ap (λ y. y .number) (m .answered) ∙ ap (λ y. y .written .number) (m .goes .is) ∙ ap (λ y. y .number) (m .goes .sends .answers)
 
   goaway-refused : ¬ (w .number ≡ 0) → (c′ ≡ c) × (room′ ≡ room)
   unfolding sendingOf leftIn
   goaway-refused z =
-      by (writeOf (c .code) (doorsIn c) id (length room)) (m .conn-left ∙ ap (λ y. y .conn) (m .goes .is) ∙ ap (λ y. withDoors c (y .doors)) (m .goes .sends .answers)) number-is (m .goes .sends .leaves)
+      by (writeOf (c .doors .code) (doorsIn c) id (length room)) (m .conn-left ∙ ap (λ y. withDoors c (y .doors)) (m .goes .is) ∙ ap (λ y. withDoors c (y .doors)) (m .goes .sends .answers)) number-is (m .goes .sends .leaves)
     where
       by : (x : Write) → c′ ≡ withDoors c (written-by x .doors) → w .number ≡ written-by x .number → room′ ≡ leftIn x room → (c′ ≡ c) × (room′ ≡ room)
       by (refused k) a b e = (a, e)
       by (wrote bytes) a b e = absurd (z b)
 
-  dead-number : ¬ (c .code ≡ 0) → ¬ (w .number ≡ 0)
-  dead-number z e = by (c .code) z (sym number-is ∙ e)
+  dead-number : ¬ (c .doors .code ≡ 0) → ¬ (w .number ≡ 0)
+  dead-number z e = by (c .doors .code) z (sym number-is ∙ e)
     where
       by : (k : ℕ) → ¬ (k ≡ 0) → written-by (writeOf k (doorsIn c) id (length room)) .number ≡ 0 → ⊥
       by zero z e = z refl
@@ -383,7 +383,7 @@ numberIn (a-written w) = w .number
 -- refused with a number of the house, or because the connection is dead
 pub data Refuses (c : Connection) (k : Call streams) (x : Seen) : Type 0 where
   by-house : OfHouse (numberIn x) → Refuses c k x
-  by-death : Later k → ¬ (c .code ≡ 0) → Refuses c k x
+  by-death : Later k → ¬ (c .doors .code ≡ 0) → Refuses c k x
 
 -- the room is lent to our GOAWAY alone
 abbrev pub RoomAsIs : {c : Connection} {rows : List Record} {k : Call streams} {x : Seen} {c′ : Connection} {rows′ : List Record} → Does c rows k x c′ rows′ → Type 0
@@ -588,15 +588,15 @@ is-eight a q e = subst (IsSettings a) (sym q) (event-eight a (sym (ap (λ y. y .
 
 -- the settings in a connection's record
 pub record SettingsAre (c : Connection) (size : Option ℕ) (capacity blocked : ℕ) : Type 0 where
-  pub have-come : ¬ (c .set ≡ 0)
-  pub section-size : someIf (c .limited) (c .size) ≡ size
-  pub table-capacity : c .capacity ≡ capacity
-  pub blocked-streams : c .blocked ≡ blocked
+  pub have-come : ¬ (c .side .kept .set ≡ 0)
+  pub section-size : someIf (c .side .kept .limited) (c .side .kept .size) ≡ size
+  pub table-capacity : c .side .kept .capacity ≡ capacity
+  pub blocked-streams : c .side .kept .blocked ≡ blocked
 
 settings-are : (c : Connection) (s : Settings) → controlOf (sideIn c .kept) ≡ say.set s none none → SettingsAre c (s .section-size) (s .table-capacity) (s .blocked-streams)
-settings-are c s e = by (c .set) refl e
+settings-are c s e = by (c .side .kept .set) refl e
   where
-    by : (n : ℕ) → c .set ≡ n → controlAt n (sideIn c .kept) ≡ say.set s none none → SettingsAre c (s .section-size) (s .table-capacity) (s .blocked-streams)
+    by : (n : ℕ) → c .side .kept .set ≡ n → controlAt n (sideIn c .kept) ≡ say.set s none none → SettingsAre c (s .section-size) (s .table-capacity) (s .blocked-streams)
     by zero q e = let z : _≡_ {A = ℕ} 0 1 = (unfold controlAt in cc) in absurd (omega arith)
     by (suc n) q e = let z : limitsIs (sideIn c .kept) ≡ s = (unfold controlAt in cc) in
         record { have-come = λ x. omega arith; section-size = ap (λ y. y .section-size) z; table-capacity = ap (λ y. y .table-capacity) z; blocked-streams = ap (λ y. y .blocked-streams) z }

@@ -168,11 +168,11 @@ module _ (c : Connection) (rows : List Record) (id room : ℕ) where
       by true e = let g = good-same (connOf c .limit) id ∙ ap not e in rw g bad-so
       by false e = let g = good-same (connOf c .limit) id ∙ ap not e in rw g (room-so (goaway-long id (good-below (connOf c .limit) id g)) (decLe (goawaySize id) room))
 
-  writes-so : Coded (c .code) → Writes (writeOf (c .code) (doorsIn c) id room) (call (goaway id room) p)
+  writes-so : Coded (c .doors .code) → Writes (writeOf (c .doors .code) (doorsIn c) id room) (call (goaway id room) p)
   unfolding call writeOf
   writes-so (inl e) = let q = alive-call c e p (sending id room p) in rw q (subst (λ n. Writes (writeOf n (doorsIn c) id room) (sending id room p)) (sym e) live-so)
   writes-so (inr (k, e)) =
-      let q : alive (deadBy (c .code)) p (sending id room p) ≡ same (code (of-connection k) 0 0) p = ap (λ x. alive x p (sending id room p)) (ap deadBy e ∙ dead-by k) ∙ (unfold alive in refl) in
+      let q : alive (deadBy (c .doors .code)) p (sending id room p) ≡ same (code (of-connection k) 0 0) p = ap (λ x. alive x p (sending id room p)) (ap deadBy e ∙ dead-by k) ∙ (unfold alive in refl) in
       rw q (subst (λ w. Writes w (same (code (of-connection k) 0 0) p)) (by (codeNumber (of-connection k)) (connection-range k .0) ∙ ap (λ n. writeOf n (doorsIn c) id room) (sym e)) (dead-so k))
     where
       by : (n : ℕ) → 0x0103 ≤ n → refused n ≡ writeOf n (doorsIn c) id room
@@ -186,8 +186,8 @@ module _ {c : Connection} {rows : List Record} {id : ℕ} {room : List ℕ} {c�
       let a = m .goes .is in
       let b = m .goes .sends .answers in
       record {
-        after = ap (λ y. pairOf y rows) (m .conn-left ∙ ap (λ y. y .conn) a) ∙ ap (λ y. pairOf (withDoors c (y .doors)) rows) b ∙ x .after;
-        answer = m .answered ∙ ap (λ y. y .written) a ∙ ap (λ y. goneBy c y .written) b ∙ x .answer;
+        after = ap (λ y. pairOf y rows) (m .conn-left ∙ ap (λ y. withDoors c (y .doors)) a) ∙ ap (λ y. pairOf (withDoors c (y .doors)) rows) b ∙ x .after;
+        answer = m .answered ∙ ap (λ y. y .written) a ∙ ap (λ y. goneBy y .written) b ∙ x .answer;
       }
 
   pub said-stands : Stands c′ rows

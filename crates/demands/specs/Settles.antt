@@ -34,7 +34,7 @@ pub pair-as : {c d : Conn streams} {x y : Row streams} → c ≡ d → x ≡ y �
 pair-as p q = λ i. record { conn = p i; row = q i }
 
 -- a connection that is alive
-pub alive-call : (c : Connection) → c .code ≡ 0 → (p : Pair streams) (r : Result streams) → alive (deadBy (c .code)) p r ≡ r
+pub alive-call : (c : Connection) → c .doors .code ≡ 0 → (p : Pair streams) (r : Result streams) → alive (deadBy (c .doors .code)) p r ≡ r
 unfolding alive deadBy
 alive-call c e p r = rw e refl
 
@@ -84,7 +84,7 @@ module _ (c : Connection) (rows : List Record) (at id : ℕ) (r : Record) where
     settled (kills {k = k} e) = rw e (record { after = pair-as (killed-by c k) as-before; answer = refl })
 
     -- ON A LIVE CONNECTION, the stream found
-    pub comes-traced : c .code ≡ 0 → (o : Own streams) {t : Turn} → Comes t (actOn (connOf c .kept) s o) → Traced c rows (on id o) (t .conn) (set rows at (t .row)) (t .report)
+    pub comes-traced : c .doors .code ≡ 0 → (o : Own streams) {t : Turn} → Comes t (actOn (connOf c .kept) s o) → Traced c rows (on id o) (t .conn) (set rows at (t .row)) (t .report)
     unfolding call acting
     comes-traced z o {t} m =
         let p = pairOf c rows in

@@ -33,18 +33,18 @@ Coded n = (n ≡ 0) ⊎ OfConnection n
 
 pub record Stands (c : Connection) (rows : List Record) : Type 0 where
   pub paired : Paired c rows
-  pub coded : Coded (c .code)
+  pub coded : Coded (c .doors .code)
   pub suits : RowSuits (pairOf c rows .row)
 
 -- ---- the code
 
-kept-coded : (c : Connection) (n : ℕ) → Coded (c .code) → Coded (codeKept c n .code)
+kept-coded : (c : Connection) (n : ℕ) → Coded (c .doors .code) → Coded (codeKept c n .doors .code)
 kept-coded c n h = by (decLe 0x0103 n) (decLe n 0x010a)
   where
-    by : Dec (0x0103 ≤ n) → Dec (n ≤ 0x010a) → Coded (codeKept c n .code)
-    by (yes a) (yes b) = subst (λ x. Coded (x .code)) (kept-fault c n (a, b)) (inr (connection-within n a b))
-    by (no a) b = subst (λ x. Coded (x .code)) (kept-none c n (λ f. a (f .0))) h
-    by (yes a) (no b) = subst (λ x. Coded (x .code)) (kept-none c n (λ f. b (f .1))) h
+    by : Dec (0x0103 ≤ n) → Dec (n ≤ 0x010a) → Coded (codeKept c n .doors .code)
+    by (yes a) (yes b) = subst (λ x. Coded (x .doors .code)) (kept-fault c n (a, b)) (inr (connection-within n a b))
+    by (no a) b = subst (λ x. Coded (x .doors .code)) (kept-none c n (λ f. a (f .0))) h
+    by (yes a) (no b) = subst (λ x. Coded (x .doors .code)) (kept-none c n (λ f. b (f .1))) h
 
 opened-code : {d : Doors} {id free : ℕ} {o : Opening} → Went d id free o → o .doors .code ≡ d .code
 opened-code (doors.refused n z) = refl
@@ -53,7 +53,7 @@ opened-code (a-request m e l f) = refl
 opened-code (a-one-way m e l f) = refl
 
 -- EVERY CALL KEEPS IT
-pub turned-coded : {c : Connection} {f : Found} {call id allow : ℕ} {piece : List ℕ} {t : Turn} → Coded (c .code) → Turned c f call id allow piece t → Coded (t .conn .code)
+pub turned-coded : {c : Connection} {f : Found} {call id allow : ℕ} {piece : List ℕ} {t : Turn} → Coded (c .doors .code) → Turned c f call id allow piece t → Coded (t .conn .doors .code)
 turned-coded h (other-row n q) = rw q h
 turned-coded h (dead l n q) = rw q h
 turned-coded {c} {f} {id = id} h (opens v e q) = rw q (subst Coded (sym (opened-code (went (doorsIn c) id (freeAt (f .at))))) h)
@@ -61,10 +61,10 @@ turned-coded h (not-open v n s q) = rw q h
 turned-coded {c} {f} {call} {allow = allow} {piece = piece} h (request v n l o q s) = rw q (kept-coded c (requestAs call allow piece (f .row) (stateIn (f .row)) .number) h)
 turned-coded {c} {f} {call} {allow = allow} {piece = piece} h (one-way v n l o q s) = let a = oneWayAs call allow piece (f .row) (sideIn c) (stateHere (f .row) (sideIn c)) in rw q (kept-coded (withSide c (a .side)) (a .number) h)
 
-gone-coded : (c : Connection) (id : ℕ) (w : Write) → sendingOf (doorsIn c) (stream-id id) w .doors .code ≡ c .code
+gone-coded : (d : Doors) (id : ℕ) (w : Write) → sendingOf d (stream-id id) w .doors .code ≡ d .code
 unfolding sendingOf
-gone-coded c id (refused n) = refl
-gone-coded c id (wrote bytes) = refl
+gone-coded d id (refused n) = refl
+gone-coded d id (wrote bytes) = refl
 
-pub goaway-coded : {c : Connection} {id : ℕ} {before after : List ℕ} {r : Gone} → GoesAway c id before r after → Coded (c .code) → Coded (r .conn .code)
-goaway-coded {c} {id} {before} g h = rw (g .is) (rw (g .sends .answers) (subst Coded (sym (gone-coded c id (writeOf (c .code) (doorsIn c) id (length before)))) h))
+pub goaway-coded : {d : Doors} {id : ℕ} {before after : List ℕ} {r : Gone} → GoesAway d id before r after → Coded (d .code) → Coded (r .doors .code)
+goaway-coded {d} {id} {before} g h = rw (g .is) (rw (g .sends .answers) (subst Coded (sym (gone-coded d id (writeOf (d .code) d id (length before)))) h))

@@ -80,17 +80,17 @@ module _ (c : Connection) (rows : List Record) (s : Stands c rows) (call id allo
   same-row : set rows (f .at) (f .row) ≡ rows
   same-row = ap (set rows (f .at)) (found .row) ∙ set-getD rows (f .at) free-record
 
-  dead-turns : ¬ (c .code ≡ 0) → Turns (unaltered (c .code) c f)
+  dead-turns : ¬ (c .doors .code ≡ 0) → Turns (unaltered (c .doors .code) c f)
   unfolding same reportOf
   dead-turns n = by (s .coded)
     where
-      by : Coded (c .code) → Turns (unaltered (c .code) c f)
+      by : Coded (c .doors .code) → Turns (unaltered (c .doors .code) c f)
       by (inl e) = absurd (n e)
       by (inr (k, e)) =
           let q = call-dead call id allow piece p k (ap deadBy e ∙ dead-by k) in
           record { after = ap (pairOf c) same-row ∙ ap (λ x. x .after) (sym q); answer = ap numbered e ∙ ap (λ x. reportOf (x .answer)) (sym q) }
 
-  module _ (live : c .code ≡ 0) (n : ¬ (call ≡ 0)) where
+  module _ (live : c .doors .code ≡ 0) (n : ¬ (call ≡ 0)) where
     -- no record is its own
     absent-turns : 24 ≤ f .at → Turns (unaltered 1 c f)
     unfolding Board.call acting same reportOf houseNumber
@@ -189,6 +189,6 @@ module _ {c : Connection} {rows : List Record} {c′ : Connection} {rows′ : Li
   pub started-stands : Stands c′ rows′
   started-stands = record {
     paired = let a = m .conn-left in let b = m .rows-left in rw (a, b) (start-pair c rows long);
-    coded = inl (ap (λ x. x .code) (m .conn-left ∙ ap (λ b. b .conn) begun));
+    coded = inl (ap (λ x. x .doors .code) (m .conn-left ∙ ap (λ b. b .conn) begun));
     suits = subst (λ x. RowSuits (x .row)) (sym started-fresh) suits-fresh;
   }

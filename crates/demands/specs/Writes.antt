@@ -505,7 +505,7 @@ module _ {c c′ : Connection} {id : ℕ} {before after : List ℕ} {w : Written
       let e = s .goes .is in
       let n : g .number ≡ 0 = sym (ap (λ y. y .written .number) e) ∙ sym (ap (λ y. y .number) (s .answered)) ∙ z in
       let k : w .count ≡ g .count = ap (λ y. y .count) (s .answered) ∙ ap (λ y. y .written .count) e in
-      rw k (sent-by (doorsIn c) id before after (c .code) g (s .goes .sends .answers) (s .goes .sends .leaves) n)
+      rw k (sent-by (doorsIn c) id before after (c .doors .code) g (s .goes .sends .answers) (s .goes .sends .leaves) n)
 
   -- OUR GOAWAY: accepted, the room begins with one frame of type 7 that holds this ID and nothing else
   pub goaway-read : (bytes : List ℕ) × (w .count ≡ length bytes) × (after ≡ bytes ++ drop (w .count) before) × FrameBack 0 7 id bytes (drop (w .count) before)

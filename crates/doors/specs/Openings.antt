@@ -8,6 +8,10 @@ use borrow.Author.Tests.{eq-eqb, ne-eqb, le-leb, lt-leb}
 use Rattle.doors.specs.declared.Doors.{Doors}
 use Rattle.doors.specs.declared.Opening.{Opening}
 
+-- no stream was opened yet
+abbrev pub fresh-doors : Doors
+fresh-doors = record { code = 0; requests = 0; oneways = 2; goaways = 0; goaway = record { 0 = 0 } }
+
 abbrev pub refusal : (number : ℕ) → Doors → Opening
 refusal n d = record { number = n; doors = d }
 

@@ -6,16 +6,30 @@ ghost use mathlib.Core.Path.{_≡_};
 ghost use Prim.Native.Nat.{_<_, _^_};
 ghost use Rattle.wire.specs.Goaway.{sentOf};
 ghost use Rattle.doors.specs.Goaway.{sentIn, goneAway, Sends};
-ghost use Rattle.doors.specs.Openings.{refusal, barredAt, nextRequest, nextOneWay, admittedAs, requestOf, oneWayOf, openedOf};
+ghost use Rattle.doors.specs.Openings.{fresh-doors, refusal, barredAt, nextRequest, nextOneWay, admittedAs, requestOf, oneWayOf, openedOf};
 
 // code: of the connection fault, 0 while there was none. requests and oneways: the lowest ID of each kind that was not opened yet.
 // goaways 0: we sent no GOAWAY; goaway: the last one's.
+#[repr(C)]
 pub struct Doors {
     pub code: u64,
     pub requests: u64,
     pub oneways: u64,
     pub goaways: u64,
     pub goaway: StreamId,
+}
+
+// No stream was opened yet.
+pub fn fresh() -> Doors
+    ensures { λ r. ⌜ r ≡ fresh-doors ⌝ }
+{
+    Doors {
+        code: 0,
+        requests: 0,
+        oneways: 2,
+        goaways: 0,
+        goaway: StreamId(0),
+    }
 }
 
 // number 0: accepted.
@@ -46,28 +60,18 @@ fn next_request(d: Doors) -> Doors
     requires { ⌜ d .requests < 2 ^ 62 ⌝ }
     ensures { λ r. ⌜ r ≡ nextRequest d ⌝ }
 {
-    let goaway = d.goaway;
-    Doors {
-        code: d.code,
-        requests: d.requests + 4,
-        oneways: d.oneways,
-        goaways: d.goaways,
-        goaway,
-    }
+    let mut next = d;
+    next.requests = d.requests + 4;
+    next
 }
 
 fn next_one_way(d: Doors) -> Doors
     requires { ⌜ d .oneways < 2 ^ 62 ⌝ }
     ensures { λ r. ⌜ r ≡ nextOneWay d ⌝ }
 {
-    let goaway = d.goaway;
-    Doors {
-        code: d.code,
-        requests: d.requests,
-        oneways: d.oneways + 4,
-        goaways: d.goaways,
-        goaway,
-    }
+    let mut next = d;
+    next.oneways = d.oneways + 4;
+    next
 }
 
 // A record must be free; free is how many are.
@@ -153,13 +157,10 @@ fn sent(d: Doors) -> Sent
 fn gone_away(d: Doors, id: StreamId) -> Doors
     ensures { λ r. ⌜ r ≡ goneAway d id ⌝ }
 {
-    Doors {
-        code: d.code,
-        requests: d.requests,
-        oneways: d.oneways,
-        goaways: 1,
-        goaway: id,
-    }
+    let mut after = d;
+    after.goaways = 1;
+    after.goaway = id;
+    after
 }
 
 // We send a GOAWAY of this ID: dead connection, 8, 7.

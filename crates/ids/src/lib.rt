@@ -3,8 +3,10 @@ ghost use mathlib.Core.Path.{_≡_};
 ghost use Prim.Native.Nat.{_%_};
 ghost use lib.Dec.{eqb};
 
+#[repr(C)]
 pub struct StreamId(pub u64);
 
+#[repr(C)]
 pub struct PushId(pub u64);
 
 // The client's requests: 0, 4, 8..

@@ -73,6 +73,10 @@ heldIn mode acc held = elim (ltb mode 8) [ true ↦ 0 | false ↦ min held (256 
 abbrev pub sideOf : (control encoder decoder : ℕ) → Kept → (held : ℕ) → (bytes : List ℕ) → Side
 sideOf c e d k h b = record { control = c; encoder = e; decoder = d; kept = k; held = h; bytes = b }
 
+-- no one-way stream has come yet
+abbrev pub fresh-side : Side
+fresh-side = sideOf 0 0 0 nothing-said 0 (replicate 256 0)
+
 unfoldable pub sideAfter : Side → OneState → Side
 sideAfter d (in-stream-type g) = d
 sideAfter d (in-control s) = let k = take 256 (sofarIn s) in sideOf 1 (d .encoder) (d .decoder) (keptNumbers (placeIn s)) (length k) (bytesOf k)

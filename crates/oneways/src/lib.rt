@@ -16,11 +16,12 @@ ghost use Rattle.streams.specs.Answers.{keptAt};
 ghost use Rattle.record.specs.Sound.{Decides, Fit, cellsIn, stream, Written};
 ghost use Rattle.control.specs.Rules.{controlOf};
 ghost use Rattle.oneway.specs.Stands.{cellsOf, qpackOf};
-ghost use Rattle.oneways.specs.Mirror.{flagOf, numberIf, keptNumbers, keptIn, bytesOf, sideOf, bareSide, sideBy, begunIn};
+ghost use Rattle.oneways.specs.Mirror.{nothing-said, fresh-side, flagOf, numberIf, keptNumbers, keptIn, bytesOf, sideOf, bareSide, sideBy, begunIn};
 ghost use Rattle.oneways.specs.Heard.{heard, takenNumber, valueIn, typeNumber, Heeds, stateHere, judging, judgedHere, feeding, fedHere, Stays, givenHere, closedHere, HeardAs, FedAs};
 
 // What a connection keeps of its one-way streams. control, encoder, decoder 0: no such stream has come. kept: what the control stream has said.
 // held: how many bytes are kept of its payload that is not complete.
+#[repr(C)]
 pub struct Side {
     pub control: u64,
     pub encoder: u64,
@@ -28,6 +29,36 @@ pub struct Side {
     pub kept: Kept,
     pub held: u64,
     pub bytes: [u8; 256],
+}
+
+fn nothing_said() -> Kept
+    ensures { λ r. ⌜ r ≡ nothing-said ⌝ }
+{
+    Kept {
+        set: 0,
+        limited: 0,
+        size: 0,
+        capacity: 0,
+        blocked: 0,
+        goaways: 0,
+        goaway: PushId(0),
+        pushes: 0,
+        push: PushId(0),
+    }
+}
+
+// No one-way stream has come yet.
+pub fn fresh() -> Side
+    ensures { λ r. ⌜ r ≡ fresh-side ⌝ }
+{
+    Side {
+        control: 0,
+        encoder: 0,
+        decoder: 0,
+        kept: nothing_said(),
+        held: 0,
+        bytes: [0; 256],
+    }
 }
 
 // number 0: accepted; 1: not an open one-way stream; 5; else the code. event 0: none, 7: QPACK stream bytes, 8: settings, 9: a client's GOAWAY,
@@ -85,17 +116,7 @@ fn tidy_kept(k: Kept) -> Kept
     let goaway = k.goaway;
     let push = k.push;
     if k.set == 0 {
-        Kept {
-            set: 0,
-            limited: 0,
-            size: 0,
-            capacity: 0,
-            blocked: 0,
-            goaways: 0,
-            goaway: PushId(0),
-            pushes: 0,
-            push: PushId(0),
-        }
+        nothing_said()
     } else {
         Kept {
             set: 1,
@@ -188,27 +209,14 @@ fn control_side(d: Side, kept: Kept, n: usize, bytes: [u8; 256]) -> Side
 fn bare_side(d: Side, kind: u64) -> Side
     ensures { λ r. ⌜ r ≡ bareSide d kind ⌝ }
 {
-    let kept = d.kept;
-    let bytes = d.bytes;
+    let mut side = d;
     if kind == 4 {
-        return Side {
-            control: d.control,
-            encoder: 1,
-            decoder: d.decoder,
-            kept,
-            held: d.held,
-            bytes,
-        };
+        side.encoder = 1;
+        return side;
     }
     if kind == 5 {
-        return Side {
-            control: d.control,
-            encoder: d.encoder,
-            decoder: 1,
-            kept,
-            held: d.held,
-            bytes,
-        };
+        side.decoder = 1;
+        return side;
     }
     d
 }

@@ -11,6 +11,8 @@ use Rattle.varint.specs.Write.{leftIn}
 use Rattle.listing.specs.Text.{decimal}
 use Rattle.script.specs.Words.{hexWord}
 use Rattle.record.specs.declared.Record.{Record}
+use Rattle.control.specs.declared.Kept.{Kept}
+use Rattle.doors.specs.declared.Doors.{Doors}
 use Rattle.connection.specs.declared.Connection.{Connection}
 use Rattle.connection.specs.declared.Report.{Report}
 
@@ -27,21 +29,21 @@ unfoldable pub maybe : (there n : ℕ) → List ℕ
 maybe there n = pick (eqb there 0) (ascii " -") (blank n)
 
 -- the section size, the QPACK table's capacity and the blocked streams
-unfoldable pub settingsText : Connection → List ℕ
-settingsText c = pick (eqb (c .set) 0) (ascii " - 0 0") (maybe (c .limited) (c .size) ++ blank (c .capacity) ++ blank (c .blocked))
+unfoldable pub settingsText : Kept → List ℕ
+settingsText k = pick (eqb (k .set) 0) (ascii " - 0 0") (maybe (k .limited) (k .size) ++ blank (k .capacity) ++ blank (k .blocked))
 
 -- the number, the bytes consumed, the headers finished
 unfoldable pub headText : (number used heads : ℕ) → List ℕ
 headText number used heads = decimal number ++ blank used ++ blank heads ++ ascii " "
 
 -- what the call gave
-unfoldable pub eventText : Connection → Report → List ℕ
-eventText c r =
+unfoldable pub eventText : Kept → Report → List ℕ
+eventText k r =
     pick (eqb (r .event) 1) (ascii "content" ++ blank (r .start) ++ blank (r .len))
     (pick (eqb (r .event) 2) (ascii "section" ++ blank (r .start) ++ blank (r .len) ++ ascii " 0")
     (pick (eqb (r .event) 3) (ascii "section" ++ blank (r .start) ++ blank (r .len) ++ ascii " 1")
     (pick (eqb (r .event) 7) (ascii "qpack" ++ blank (r .value) ++ blank (r .start) ++ blank (r .len))
-    (pick (eqb (r .event) 8) (ascii "settings" ++ settingsText c)
+    (pick (eqb (r .event) 8) (ascii "settings" ++ settingsText k)
     (pick (eqb (r .event) 9) (ascii "goaway" ++ blank (r .value))
     (pick (eqb (r .event) 10) (ascii "maxpush" ++ blank (r .value))
     (pick (eqb (r .event) 11) (ascii "whole")
@@ -52,7 +54,7 @@ line-feed = 10 ∷ []
 
 -- THE LINE OF A CALL ON A STREAM, with the connection's record as it is left
 unfoldable pub reportLine : Connection → Report → List ℕ
-reportLine c r = headText (r .number) (r .used) (r .heads) ++ eventText c r ++ line-feed
+reportLine c r = headText (r .number) (r .used) (r .heads) ++ eventText (c .side .kept) r ++ line-feed
 
 -- of a start
 unfoldable pub startLine : (number : ℕ) → List ℕ
@@ -104,12 +106,12 @@ unfoldable pub rowsText : ℕ → List Record → List ℕ
 rowsText index [] = []
 rowsText index (r ∷ rs) = recordText index r ++ rowsText (suc index) rs
 
-unfoldable pub connText : Connection → List ℕ
-connText c =
-    ascii "0 0 0 state" ++ blank (c .code) ++ blank (c .requests) ++ blank (c .oneways) ++ maybe (c .sent) (c .ours) ++ maybe (c .goaways) (c .theirs) ++ maybe (c .pushes) (c .push) ++ settingsText c
+unfoldable pub connText : Doors → Kept → List ℕ
+connText d k =
+    ascii "0 0 0 state" ++ blank (d .code) ++ blank (d .requests) ++ blank (d .oneways) ++ maybe (d .goaways) (d .goaway .0) ++ maybe (k .goaways) (k .goaway .0) ++ maybe (k .pushes) (k .push .0) ++ settingsText k
 
 unfoldable pub stateLine : Connection → List Record → List ℕ
-stateLine c rows = connText c ++ rowsText 0 rows ++ line-feed
+stateLine c rows = connText (c .doors) (c .side .kept) ++ rowsText 0 rows ++ line-feed
 
 abbrev pub badLine : List ℕ
 badLine = ascii "bad line" ++ line-feed

@@ -1,6 +1,8 @@
 // The lines of `replay`: a script's calls made one by one, and a line printed for each.
 use connection::Connection;
 use connection::Report;
+use control::Kept;
+use doors::Doors;
 use record::Record;
 use script::Line;
 use varint::Whole;
@@ -54,16 +56,16 @@ fn maybe(room: &mut [u8; 2048], to: usize, there: u64, n: u64) -> usize
 }
 
 // The settings that a connection record keeps.
-fn settings(room: &mut [u8; 2048], to: usize, c: Connection) -> usize
+fn settings(room: &mut [u8; 2048], to: usize, kept: Kept) -> usize
     requires { ⌜ to + 63 ≤ 2048 ⌝ }
-    ensures { λ r. ⌜ Puts (now (room .entry)) to (settingsText c) 63 (now (room .exit)) r ⌝ }
+    ensures { λ r. ⌜ Puts (now (room .entry)) to (settingsText kept) 63 (now (room .exit)) r ⌝ }
 {
-    if c.set == 0 {
+    if kept.set == 0 {
         return listing::put(room, to, b" - 0 0");
     }
-    let a = maybe(room, to, c.limited, c.size);
-    let b = spaced(room, a, c.capacity);
-    spaced(room, b, c.blocked)
+    let a = maybe(room, to, kept.limited, kept.size);
+    let b = spaced(room, a, kept.capacity);
+    spaced(room, b, kept.blocked)
 }
 
 // A hexadecimal digit.
@@ -128,9 +130,9 @@ fn part(room: &mut [u8; 2048], to: usize, word: &[u8], a: u64, b: u64) -> usize
 }
 
 // What a call on a stream gave.
-fn event(room: &mut [u8; 2048], to: usize, c: Connection, r: Report) -> usize
+fn event(room: &mut [u8; 2048], to: usize, kept: Kept, r: Report) -> usize
     requires { ⌜ to + 75 ≤ 2048 ⌝ }
-    ensures { λ q. ⌜ Puts (now (room .entry)) to (eventText c r) 75 (now (room .exit)) q ⌝ }
+    ensures { λ q. ⌜ Puts (now (room .entry)) to (eventText kept r) 75 (now (room .exit)) q ⌝ }
 {
     if r.event == 1 {
         return part(room, to, b"content", r.start, r.len);
@@ -149,7 +151,7 @@ fn event(room: &mut [u8; 2048], to: usize, c: Connection, r: Report) -> usize
     }
     if r.event == 8 {
         let a = listing::put(room, to, b"settings");
-        return settings(room, a, c);
+        return settings(room, a, kept);
     }
     if r.event == 9 {
         let a = listing::put(room, to, b"goaway");
@@ -171,8 +173,10 @@ fn event(room: &mut [u8; 2048], to: usize, c: Connection, r: Report) -> usize
 fn report_line(room: &mut [u8; 2048], c: Connection, r: Report) -> usize
     ensures { λ q. ⌜ Puts (now (room .entry)) 0 (reportLine c r) 139 (now (room .exit)) q ⌝ }
 {
+    let side = c.side;
+    let kept = side.kept;
     let a = head(room, r.number, r.used, r.heads);
-    let b = event(room, a, c, r);
+    let b = event(room, a, kept, r);
     listing::put(room, b, b"\n")
 }
 
@@ -274,24 +278,30 @@ fn records(room: &mut [u8; 2048], to: usize, rows: [Record; 32]) -> usize
     at
 }
 
-fn conn_text(room: &mut [u8; 2048], c: Connection) -> usize
-    ensures { λ q. ⌜ Puts (now (room .entry)) 0 (connText c) 200 (now (room .exit)) q ⌝ }
+fn conn_text(room: &mut [u8; 2048], doors: Doors, kept: Kept) -> usize
+    ensures { λ q. ⌜ Puts (now (room .entry)) 0 (connText doors kept) 200 (now (room .exit)) q ⌝ }
 {
+    let ours = doors.goaway;
+    let theirs = kept.goaway;
+    let push = kept.push;
     let a = listing::put(room, 0, b"0 0 0 state");
-    let b = spaced(room, a, c.code);
-    let d = spaced(room, b, c.requests);
-    let e = spaced(room, d, c.oneways);
-    let f = maybe(room, e, c.sent, c.ours);
-    let g = maybe(room, f, c.goaways, c.theirs);
-    let h = maybe(room, g, c.pushes, c.push);
-    settings(room, h, c)
+    let b = spaced(room, a, doors.code);
+    let d = spaced(room, b, doors.requests);
+    let e = spaced(room, d, doors.oneways);
+    let f = maybe(room, e, doors.goaways, ours.0);
+    let g = maybe(room, f, kept.goaways, theirs.0);
+    let h = maybe(room, g, kept.pushes, push.0);
+    settings(room, h, kept)
 }
 
 // The connection, and each record of the row's 24 that is not free.
 fn state_line(room: &mut [u8; 2048], c: Connection, rows: [Record; 32]) -> usize
     ensures { λ q. ⌜ Puts (now (room .entry)) 0 (stateLine c (take 24 rows)) 1425 (now (room .exit)) q ⌝ }
 {
-    let a = conn_text(room, c);
+    let doors = c.doors;
+    let side = c.side;
+    let kept = side.kept;
+    let a = conn_text(room, doors, kept);
     let b = records(room, a, rows);
     listing::put(room, b, b"\n")
 }

@@ -46,6 +46,8 @@ use Rattle.record.specs.declared.Record.{Record}
 use Rattle.record.specs.Row.{free-record}
 use Rattle.record.specs.Sound.{cellsIn}
 use Rattle.record.specs.Body.{contentIn}
+use Rattle.doors.proofs.Doors as D
+use Rattle.doors.proofs.Doors.Laws as D′
 use Rattle.connection.specs.declared.Connection.{Connection}
 use Rattle.connection.specs.declared.Report.{Report}
 use Rattle.connection.specs.declared.Found.{Found}
@@ -67,7 +69,7 @@ use Rattle.connection.proofs.brisk.Symbol.{name as #connection·brisk}
 use Rattle.connection.proofs.brisk.Met as brisk-thm
 use Rattle.board.specs.Lent.{Stepped}
 use Rattle.board.proofs.Laws.{R, vals, rec-makes, tail}
-use Rattle.board.proofs.Conn.{opens-conn, closes-conn}
+use Rattle.board.proofs.Conn.{doors-of, opens-conn, closes-conn}
 use Rattle.board.proofs.Share.{Shared, lends-shared, shared-back}
 use Rattle.board.proofs.Thin.{StepC, conn-val, rows-val, bytes-val, OwnConn, OwnRow, OwnPiece, handed, calls-step}
 use Rattle.board.proofs.seek as seek
@@ -178,16 +180,16 @@ module _ {M : Type 1} (𝓤 : URA M) (H : Heap 𝓤) (A : Atoms 𝓤) (W : Given
 
   -- the call of `brisk`, at what was found
   abbrev to-brisk : Found → Brisk 𝓤 H A mem run .Ghost
-  to-brisk f = (((κ₂, tt), (q₂, tt), tt, (c .code, (f, (allow, (piece, tt)))), (vint w64 (c .code) ∷ [], (found-vals f, (vint w64 allow ∷ [], (bytes-val piece ∷ [], tt))))), tt)
+  to-brisk f = (((κ₂, tt), (q₂, tt), tt, (c .doors .code, (f, (allow, (piece, tt)))), (vint w64 (c .doors .code) ∷ [], (found-vals f, (vint w64 allow ∷ [], (bytes-val piece ∷ [], tt))))), tt)
 
-  goes-brisk : (f : Found) → c .code < 2 ^ 64 → Is F.the-row f (found-vals f) → ent 𝓤 (⋆ 𝓤 H A (‵ (flft κ₂ q₂) ∷ ‵ (OwnPiece κ₂ piece) ∷ [])) (Brisk 𝓤 H A mem run .pre (to-brisk f))
+  goes-brisk : (f : Found) → c .doors .code < 2 ^ 64 → Is F.the-row f (found-vals f) → ent 𝓤 (⋆ 𝓤 H A (‵ (flft κ₂ q₂) ∷ ‵ (OwnPiece κ₂ piece) ∷ [])) (Brisk 𝓤 H A mem run .pre (to-brisk f))
   goes-brisk f code-fits is-f = qed W (‵ (flft κ₂ q₂) ∷ ‵ (OwnPiece κ₂ piece) ∷ []) ∵
       nothing ! $ move ! (2 ∷ 0 ∷ []) $ fjoin ! $ owned ! u64 (Is u64) (uint-makes 𝓤 H A W w64) allow _ (refl, allow-fits) $ fjoin ! $
-      owned ! F.the-row (Is F.the-row) (LL.makes F.the-type F′.the-plain 𝓤 H A) f _ is-f $ fjoin ! $ owned ! u64 (Is u64) (uint-makes 𝓤 H A W w64) (c .code) _ (refl, code-fits) $ fjoin ! $
+      owned ! F.the-row (Is F.the-row) (LL.makes F.the-type F′.the-plain 𝓤 H A) f _ is-f $ fjoin ! $ owned ! u64 (Is u64) (uint-makes 𝓤 H A W w64) (c .doors .code) _ (refl, code-fits) $ fjoin ! $
       nothing ! $ move ! (2 ∷ 0 ∷ []) $ join ! $ join ! $ frame ! $ done !
 
-  brisk-said : (f : Found) (t : Brief) → ent 𝓤 (ensured 𝓤 H A brisk.ended (brisk.clauses 𝓤 H A mem run) (κ₂, tt) (c .code, (f, (allow, (piece, tt)))) tt t) (fact 𝓤 (Briefly (c .code) f allow (piece .now) t))
-  brisk-said f t = exE 𝓤 _ (λ ws. snd∗ 𝓤 (sem 𝓤 H A (lasts brisk.ended (κ₂, tt) (c .code, (f, (allow, (piece, tt)))) ws)) (fact 𝓤 (Briefly (c .code) f allow (piece .now) t)))
+  brisk-said : (f : Found) (t : Brief) → ent 𝓤 (ensured 𝓤 H A brisk.ended (brisk.clauses 𝓤 H A mem run) (κ₂, tt) (c .doors .code, (f, (allow, (piece, tt)))) tt t) (fact 𝓤 (Briefly (c .doors .code) f allow (piece .now) t))
+  brisk-said f t = exE 𝓤 _ (λ ws. snd∗ 𝓤 (sem 𝓤 H A (lasts brisk.ended (κ₂, tt) (c .doors .code, (f, (allow, (piece, tt)))) ws)) (fact 𝓤 (Briefly (c .doors .code) f allow (piece .now) t)))
 
   -- the call of `store`, with what `brisk` left
   abbrev to-store : Found → Brief → Store 𝓤 H A mem run .Ghost
@@ -235,7 +237,7 @@ module _ {M : Type 1} (𝓤 : URA M) (H : Heap 𝓤) (A : Atoms 𝓤) (W : Given
           keep ! (0 ∷ 1 ∷ 2 ∷ 3 ∷ 4 ∷ []) $ by ! (exits r u c′ zs e l))
 
       -- what content alters of the record is stored, and the connection is left as content leaves it
-      swiftly : Is (MutSlice (named 1) κ₁ R) x (rows-val x ∷ []) → (f : Found) (t : Brief) → f .at < 2 ^ 64 → FoundIn 1 id ys f → Briefly (c .code) f allow (piece .now) t → t .report .number ≡ 0 → Is R (t .row) (vals (t .row)) → Is N.the-row (t .report) (LL.vals N.the-type N′.the-laws (t .report))
+      swiftly : Is (MutSlice (named 1) κ₁ R) x (rows-val x ∷ []) → (f : Found) (t : Brief) → f .at < 2 ^ 64 → FoundIn 1 id ys f → Briefly (c .doors .code) f allow (piece .now) t → t .report .number ≡ 0 → Is R (t .row) (vals (t .row)) → Is N.the-row (t .report) (LL.vals N.the-type N′.the-laws (t .report))
           → Sq W ((‵ (flft κ₂ q₂) ⊛ ‵ ftrue) ∷ ‵ (OwnPiece κ₂ piece) ∷ ‵ (fobs γ₀ (C.the-row .coded .code c)) ∷ ‵ (fbor κ₀ (Body (cells C.the-row) b₀ o₀ γ₀)) ∷ ‵ (flft κ₀ q₀) ∷ ‵ (OwnRow κ₁ x) ∷ ‵ (flft κ₁ q₁) ∷ ‵ (froom (sliceTy (row-ref erased)) l20 0) ∷ ‵ (fdies (sliceTy (row-ref erased)) l20) ∷ ‵ (froom (row-ref erased) l19 0) ∷ ‵ (fdies (row-ref erased) l19) ∷ ‵ (froom (conn-ref erased) l18 0) ∷ ‵ (fdies (conn-ref erased) l18) ∷ ‵ (froom (sliceTy (row-ref erased)) l17 0) ∷ ‵ (fdies (sliceTy (row-ref erased)) l17) ∷ ‵ (froom (row-ref erased) l16 0) ∷ ‵ (fdies (row-ref erased) l16) ∷ ‵ (froom tyUnit l15 0) ∷ ‵ (fdies tyUnit l15) ∷ ‵ (froom tyBool l14 0) ∷ ‵ (fdies tyBool l14) ∷ ‵ (froom (tyInt w64) l13 0) ∷ ‵ (fdies (tyInt w64) l13) ∷ ‵ (froom (sliceTy seen-ref) l12 0) ∷ ‵ (fdies (sliceTy seen-ref) l12) ∷ ‵ (froom seen-ref l11 0) ∷ ‵ (fdies seen-ref l11) ∷ ‵ (froom tyBool l10 0) ∷ ‵ (fdies tyBool l10) ∷ ‵ (froom (tyInt w64) l9 0) ∷ ‵ (fdies (tyInt w64) l9) ∷ ‵ (froom N′.mir l8 0) ∷ ‵ (fdies N′.mir l8) ∷ ‵ (fat fullShare B′.mir l7 0 (only (brief-vals t))) ∷ ‵ (fdies B′.mir l7) ∷ ‵ (fat fullShare F′.mir l6 0 (only (found-vals f))) ∷ ‵ (fdies F′.mir l6) ∷ ‵ (fat fullShare (tyInt w64) l5 0 (vint w64 allow)) ∷ ‵ (fdies (tyInt w64) l5) ∷ ‵ (fat fullShare (sliceTy (tyRef (named 2) imm (tyInt w8))) l4 0 (bytes-val piece)) ∷ ‵ (fdies (sliceTy (tyRef (named 2) imm (tyInt w8))) l4) ∷ ‵ (fat fullShare (tyInt w64) l3 0 (vint w64 id)) ∷ ‵ (fdies (tyInt w64) l3) ∷ ‵ (fat fullShare (sliceTy (row-ref (named 1))) l2 0 (rows-val x)) ∷ ‵ (fdies (sliceTy (row-ref (named 1))) l2) ∷ ‵ (fat fullShare (conn-ref (named 0)) l1 0 (conn-val cr)) ∷ ‵ (fdies (conn-ref (named 0)) l1) ∷ ‵ (froom N′.mir l0 0) ∷ ‵ (fdies N′.mir l0) ∷ []) (runs Cs Λ En swift-body arm)
       swiftly p f t at-fits e e′ none is-row is-report =
           assigns ! (addr ! (from ! (fld ! refl (hop ! (look-in ! 43 (sub ! 0 refl (whole !))) (stop !))))) (from ! (stop !)) (init ! 15 refl (tt, tt)) $
@@ -270,8 +272,8 @@ module _ {M : Type 1} (𝓤 : URA M) (H : Heap 𝓤) (A : Atoms 𝓤) (W : Given
           → Sq W (‵ (OwnConn κ₀ cr) ∷ ‵ (flft κ₀ q₀) ∷ ‵ (OwnRow κ₁ x) ∷ ‵ (flft κ₁ q₁) ∷ ‵ (flft κ₂ q₂) ∷ ‵ (OwnPiece κ₂ piece) ∷ ‵ (froom (sliceTy (row-ref erased)) l20 0) ∷ ‵ (fdies (sliceTy (row-ref erased)) l20) ∷ ‵ (froom (row-ref erased) l19 0) ∷ ‵ (fdies (row-ref erased) l19) ∷ ‵ (froom (conn-ref erased) l18 0) ∷ ‵ (fdies (conn-ref erased) l18) ∷ ‵ (froom (sliceTy (row-ref erased)) l17 0) ∷ ‵ (fdies (sliceTy (row-ref erased)) l17) ∷ ‵ (froom (row-ref erased) l16 0) ∷ ‵ (fdies (row-ref erased) l16) ∷ ‵ (froom tyUnit l15 0) ∷ ‵ (fdies tyUnit l15) ∷ ‵ (froom tyBool l14 0) ∷ ‵ (fdies tyBool l14) ∷ ‵ (froom (tyInt w64) l13 0) ∷ ‵ (fdies (tyInt w64) l13) ∷ ‵ (froom (sliceTy seen-ref) l12 0) ∷ ‵ (fdies (sliceTy seen-ref) l12) ∷ ‵ (froom seen-ref l11 0) ∷ ‵ (fdies seen-ref l11) ∷ ‵ (froom tyBool l10 0) ∷ ‵ (fdies tyBool l10) ∷ ‵ (froom (tyInt w64) l9 0) ∷ ‵ (fdies (tyInt w64) l9) ∷ ‵ (froom N′.mir l8 0) ∷ ‵ (fdies N′.mir l8) ∷ ‵ (froom B′.mir l7 0) ∷ ‵ (fdies B′.mir l7) ∷ ‵ (fat fullShare F′.mir l6 0 (only (found-vals f))) ∷ ‵ (fdies F′.mir l6) ∷ ‵ (fat fullShare (tyInt w64) l5 0 (vint w64 allow)) ∷ ‵ (fdies (tyInt w64) l5) ∷ ‵ (fat fullShare (sliceTy (tyRef (named 2) imm (tyInt w8))) l4 0 (bytes-val piece)) ∷ ‵ (fdies (sliceTy (tyRef (named 2) imm (tyInt w8))) l4) ∷ ‵ (fat fullShare (tyInt w64) l3 0 (vint w64 id)) ∷ ‵ (fdies (tyInt w64) l3) ∷ ‵ (fat fullShare (sliceTy (row-ref (named 1))) l2 0 (rows-val x)) ∷ ‵ (fdies (sliceTy (row-ref (named 1))) l2) ∷ ‵ (fat fullShare (conn-ref (named 0)) l1 0 (conn-val cr)) ∷ ‵ (fdies (conn-ref (named 0)) l1) ∷ ‵ (froom N′.mir l0 0) ∷ ‵ (fdies N′.mir l0) ∷ []) (runs Cs Λ En (tail 3 (then-of m.s-3)) arm)
       briskly p f at-fits e is-f =
           -- of the connection the code alone is read
-          opens-conn ! tt b₀ o₀ γ₀ c (λ is-c. let code-fits = LL.owed C.the-type C′.the-laws c _ is-c .0 .1 in
-          assigns ! (of-opd ! (load ! (from ! (hop ! (look ! 46 refl) (fld ! refl (stop !)))) (look-in ! 0 (sub ! 0 refl (whole !))))) (from ! (stop !)) (init ! 22 refl (tt, record { fits = code-fits })) $
+          opens-conn ! tt b₀ o₀ γ₀ c (λ is-c. let code-fits = LL.owed D.the-type D′.the-laws (c .doors) _ (doors-of c is-c) .0 .1 in
+          assigns ! (of-opd ! (load ! (from ! (hop ! (look ! 46 refl) (fld ! refl (fld ! refl (stop !))))) (look-in ! 0 (sub ! 0 refl (sub ! 0 refl (whole !)))))) (from ! (stop !)) (init ! 22 refl (tt, record { fits = code-fits })) $
           closes-conn ! tt b₀ o₀ c c is-c $
           -- [obs; conn's borrow; κ₀; row; κ₁; κ₂; piece; _20; …; _0]
           move ! (6 ∷ []) $
@@ -279,9 +281,9 @@ module _ {M : Type 1} (𝓤 : URA M) (H : Heap 𝓤) (A : Atoms 𝓤) (W : Given
           move ! (7 ∷ 0 ∷ []) $
           use2 W (raw (Brisk 𝓤 H A mem run .pre (to-brisk f))) (goes-brisk f code-fits is-f) $
           calls-at ! fm (Brisk 𝓤 H A mem run) known-brisk (to-brisk f) (and-then ! (load ! (from ! (stop !)) (look ! 21 refl)) (and-then ! (load ! (from ! (stop !)) (look ! 35 refl)) (and-then ! (load ! (from ! (stop !)) (look ! 37 refl)) (and-then ! (load ! (from ! (stop !)) (look ! 39 refl)) (no-more !))))) (λ u′.
-          use1 W (later (some (λ (t : Brief). ((‵ (flft κ₂ q₂) ⊛ ‵ ftrue) ⊛ ‵ (B.the-row .own t (u′ ∷ []))) ⊛ raw (ensured 𝓤 H A brisk.ended (brisk.clauses 𝓤 H A mem run) (κ₂, tt) (c .code, (f, (allow, (piece, tt)))) tt t)))) (id⊢ 𝓤 _) $ await ! tt $ pick ! (λ t.
+          use1 W (later (some (λ (t : Brief). ((‵ (flft κ₂ q₂) ⊛ ‵ ftrue) ⊛ ‵ (B.the-row .own t (u′ ∷ []))) ⊛ raw (ensured 𝓤 H A brisk.ended (brisk.clauses 𝓤 H A mem run) (κ₂, tt) (c .doors .code, (f, (allow, (piece, tt)))) tt t)))) (id⊢ 𝓤 _) $ await ! tt $ pick ! (λ t.
           split ! $ move ! (1 ∷ []) $
-          use1 W (raw (fact 𝓤 (Briefly (c .code) f allow (piece .now) t))) (brisk-said f t) $ heard ! (Briefly (c .code) f allow (piece .now) t) (λ e′.
+          use1 W (raw (fact 𝓤 (Briefly (c .doors .code) f allow (piece .now) t))) (brisk-said f t) $ heard ! (Briefly (c .doors .code) f allow (piece .now) t) (λ e′.
           split ! $ move ! (1 ∷ []) $
           peeks ! B.the-row (Is B.the-row) (shows 𝓤 H A B.the-row) t (u′ ∷ []) (λ is-t. let fields = LL.owed B.the-type B′.the-laws t _ is-t in
           land ! (from ! (stop !)) (init ! 34 refl (LL.lawful B.the-type B′.the-laws 𝓤 H A W .typed t _ is-t .0)) $

@@ -18,7 +18,7 @@ use contract.Lifetimes.{Lfts, Shares}
 use contract.Monad.{Fun, fact}
 use contract.Running.{givenOf, tables, tablesOf}
 use types.Kit.{Given, ‵, raw, _⊛_, some, later, ⋆, _$_, _∵_, !, qed, by, move, keep, drop, use1, use2, split, join, pick, rewrite, fsplit, fjoin, fjoin3, feqL, feqI, suffices, frame, await, done}
-use types.Part.{agg, whole, sub, look-in}
+use types.Part.{agg, whole, sub, look-in, store-in}
 use types.Run.{look, look-raw, init, store-raw, forget, stop, hop, fld, from, load, addr, of-opd, and-then, no-more, assigns, land, returns, enter, alloc1, alloc0, params1, pass1, pass0, free1, free0}
 use types.SemTy.{Body}
 use sound.WpLaws.{FmC, fmOf, WpFn-mono}
@@ -40,7 +40,9 @@ use denote.Triple.Clauses.{ensured, lasts}
 use denote.Triple.Table.{entered, cited}
 use denote.Triple.Walked.{says, Stays, stay-none, stay-ref, gave-slice, walkOf, goes-none, goes-ref, goes-gave-slice, Walks, ends-at, walked, walk-meets}
 use denote.Exit.{yes}
+use Rattle.doors.proofs.Doors as D
 use Rattle.connection.specs.declared.Connection.{Connection}
+use Rattle.connection.specs.Halves.{withDoors}
 use Rattle.connection.specs.declared.Gone.{Gone}
 use Rattle.connection.specs.Turned.{GoesAway}
 use Rattle.connection.proofs.Connection as C
@@ -53,7 +55,7 @@ use Rattle.connection.proofs.say_goaway.Symbol as say-def
 use Rattle.connection.proofs.say_goaway.Symbol.{name as #connection·say-goaway}
 use Rattle.connection.proofs.say_goaway.Met as say-thm
 use Rattle.board.specs.Lent.{SaidGoaway}
-use Rattle.board.proofs.Conn.{conn-vals, conn-makes, conn-typed, opens-conn, closes-conn}
+use Rattle.board.proofs.Conn.{doors-vals, doors-makes, doors-typed, doors-of, with-doors, opens-conn, closes-conn, as-named}
 use Rattle.board.proofs.eistulko_goaway.Key.{name as #board·eistulko-goaway}
 use Rattle.board.proofs.eistulko_goaway as self
 use Rattle.board.proofs.eistulko_goaway.Statement as stated
@@ -90,16 +92,16 @@ module _ {M : Type 1} (𝓤 : URA M) (H : Heap 𝓤) (A : Atoms 𝓤) (W : Given
 
   -- the call of `say_goaway`
   abbrev to-say : Say 𝓤 H A at-mem run .Ghost
-  to-say = (((κ₁, tt), (q₁, tt), tt, (c, (id, (room, tt))), (conn-vals c, (vint w64 id ∷ [], (v ∷ [], tt)))), tt)
+  to-say = (((κ₁, tt), (q₁, tt), tt, (c .doors, (id, (room, tt))), (doors-vals (c .doors), (vint w64 id ∷ [], (v ∷ [], tt)))), tt)
 
-  goes-say : Is C.the-row c (conn-vals c) → ent 𝓤 (⋆ 𝓤 H A ((‵ (flft κ₁ q₁) ⊛ ‵ ftrue) ∷ ‵ (MutSlice (named 1) κ₁ u8 .own room (v ∷ [])) ∷ [])) (Say 𝓤 H A at-mem run .pre to-say)
-  goes-say is-c = qed W ((‵ (flft κ₁ q₁) ⊛ ‵ ftrue) ∷ ‵ (MutSlice (named 1) κ₁ u8 .own room (v ∷ [])) ∷ []) ∵ nothing ! $ move ! (2 ∷ 0 ∷ []) $ fjoin ! $ owned ! u64 (Is u64) (uint-makes 𝓤 H A W w64) id _ (refl, id-fits) $ fjoin ! $
-      owned ! C.the-row (Is C.the-row) (conn-makes 𝓤 H A) c _ is-c $ fjoin ! $ move ! (1 ∷ 0 ∷ []) $ join ! $ frame ! $ done !
+  goes-say : Is D.the-row (c .doors) (doors-vals (c .doors)) → ent 𝓤 (⋆ 𝓤 H A ((‵ (flft κ₁ q₁) ⊛ ‵ ftrue) ∷ ‵ (MutSlice (named 1) κ₁ u8 .own room (v ∷ [])) ∷ [])) (Say 𝓤 H A at-mem run .pre to-say)
+  goes-say is-d = qed W ((‵ (flft κ₁ q₁) ⊛ ‵ ftrue) ∷ ‵ (MutSlice (named 1) κ₁ u8 .own room (v ∷ [])) ∷ []) ∵ nothing ! $ move ! (2 ∷ 0 ∷ []) $ fjoin ! $ owned ! u64 (Is u64) (uint-makes 𝓤 H A W w64) id _ (refl, id-fits) $ fjoin ! $
+      owned ! D.the-row (Is D.the-row) (doors-makes 𝓤 H A) (c .doors) _ is-d $ fjoin ! $ move ! (1 ∷ 0 ∷ []) $ join ! $ frame ! $ done !
 
-  exits : (t : Gone) (zs : List ℕ) → SaidGoaway c id (room .now) (t .conn) zs (t .written) → length zs ≡ length (room .now) → Is N.the-row (t .written) (LL.vals N.the-type N′.the-laws (t .written)) → ent 𝓤 (⋆ 𝓤 H A (‵ (fobs γ₀ (C.the-row .coded .code (t .conn))) ∷ ‵ (fbor κ₀ (Body (mem C.the-row) b₀ o₀ γ₀)) ∷ ‵ (flft κ₀ q₀) ∷ (‵ (flft κ₁ q₁) ⊛ ‵ ftrue) ∷ ‵ (finally u8 (room .name) zs) ∷ [])) (Post (LL.val N.the-type N′.the-laws (t .written)))
+  exits : (t : Gone) (zs : List ℕ) → SaidGoaway c id (room .now) (withDoors c (t .doors)) zs (t .written) → length zs ≡ length (room .now) → Is N.the-row (t .written) (LL.vals N.the-type N′.the-laws (t .written)) → ent 𝓤 (⋆ 𝓤 H A (‵ (fobs γ₀ (C.the-row .coded .code (withDoors c (t .doors)))) ∷ ‵ (fbor κ₀ (Body (mem C.the-row) b₀ o₀ γ₀)) ∷ ‵ (flft κ₀ q₀) ∷ (‵ (flft κ₁ q₁) ⊛ ‵ ftrue) ∷ ‵ (finally u8 (room .name) zs) ∷ [])) (Post (LL.val N.the-type N′.the-laws (t .written)))
   exits t zs e l is =
-      qed W (‵ (fobs γ₀ (C.the-row .coded .code (t .conn))) ∷ ‵ (fbor κ₀ (Body (mem C.the-row) b₀ o₀ γ₀)) ∷ ‵ (flft κ₀ q₀) ∷ (‵ (flft κ₁ q₁) ⊛ ‵ ftrue) ∷ ‵ (finally u8 (room .name) zs) ∷ []) ∵
-      suffices ! _ (ends-at 𝓤 H A self.ended stayed (self.clauses 𝓤 H A at-mem run) W ((κs, qs, tt, a, at), tt) (LL.val N.the-type N′.the-laws (t .written)) (t .written) (t .conn, (tt, (zs, tt))) (tt, (tt, (l, tt)))) $ says ! e $
+      qed W (‵ (fobs γ₀ (C.the-row .coded .code (withDoors c (t .doors)))) ∷ ‵ (fbor κ₀ (Body (mem C.the-row) b₀ o₀ γ₀)) ∷ ‵ (flft κ₀ q₀) ∷ (‵ (flft κ₁ q₁) ⊛ ‵ ftrue) ∷ ‵ (finally u8 (room .name) zs) ∷ []) ∵
+      suffices ! _ (ends-at 𝓤 H A self.ended stayed (self.clauses 𝓤 H A at-mem run) W ((κs, qs, tt, a, at), tt) (LL.val N.the-type N′.the-laws (t .written)) (t .written) (withDoors c (t .doors), (tt, (zs, tt))) (tt, (tt, (l, tt)))) $ says ! e $
       move ! (2 ∷ 3 ∷ []) $ join ! $ frame ! $
       -- [obs; conn's borrow; room's last bytes]
       nothing ! $ move ! (3 ∷ 0 ∷ []) $ fjoin ! $ owned ! u64 (Is u64) (uint-makes 𝓤 H A W w64) id _ (refl, id-fits) $ fjoin ! $ move ! (1 ∷ 2 ∷ []) $ feqI ! (List Val) (vptr b₀ o₀ ∷ []) (vptr b₀ o₀ ∷ []) refl $ fjoin3 ! $ fjoin ! $ frame ! $
@@ -116,18 +118,18 @@ module _ {M : Type 1} (𝓤 : URA M) (H : Heap 𝓤) (A : Atoms 𝓤) (W : Given
         pass0 ! $
         move ! (17 ∷ []) $ fsplit ! $ move ! (1 ∷ []) $ fsplit ! $ drop ! $ fsplit ! $ move ! (1 ∷ []) $ drop ! $ move ! (18 ∷ []) $ split ! $ move ! (3 ∷ 0 ∷ []) $
         opens-conn ! tt b₀ o₀ γ₀ c (λ is-c.
-        assigns ! (of-opd ! (load ! (from ! (hop ! (look ! 18 refl) (stop !))) (look-raw ! 0 refl))) (from ! (stop !)) (init ! 10 refl (conn-typed 𝓤 H A W c is-c)) $
+        assigns ! (of-opd ! (load ! (from ! (hop ! (look ! 18 refl) (fld ! refl (stop !)))) (look-in ! 0 (as-named ! (sub ! 0 refl (whole !)))))) (from ! (stop !)) (init ! 10 refl (doors-typed 𝓤 H A W (c .doors) (doors-of c is-c))) $
         assigns ! (addr ! (from ! (fld ! refl (hop ! (look-in ! 14 (sub ! 0 refl (whole !))) (stop !))))) (from ! (stop !)) (init ! 8 refl (tt, tt)) $
         assigns ! (agg ! (and-then ! (load ! (from ! (stop !)) (look ! 8 refl)) (and-then ! (load ! (from ! (fld ! refl (stop !))) (look-in ! 14 (sub ! 1 refl (whole !)))) (no-more !)))) (from ! (stop !)) (init ! 6 refl (tt, (tt, (record { fits = p .0 .1 .0 }, tt)))) $
         move ! (4 ∷ 5 ∷ []) $
-        use2 W (raw (Say 𝓤 H A at-mem run .pre to-say)) (goes-say is-c) $
+        use2 W (raw (Say 𝓤 H A at-mem run .pre to-say)) (goes-say (doors-of c is-c)) $
         -- [asks; cell; open; obs; auth; _7; _6; _5; _4; _3; _2; _1; _0]
         calls-at ! fm (Say 𝓤 H A at-mem run) known to-say (and-then ! (load ! (from ! (stop !)) (look ! 9 refl)) (and-then ! (load ! (from ! (stop !)) (look ! 15 refl)) (and-then ! (load ! (from ! (stop !)) (look ! 5 refl)) (no-more !)))) (λ u.
-        use1 W (later (some (λ (t : Gone). ((‵ (flft κ₁ q₁) ⊛ ‵ ftrue) ⊛ ‵ (G.the-row .own t (u ∷ []))) ⊛ raw (ensured 𝓤 H A say.ended (say.clauses 𝓤 H A at-mem run) (κ₁, tt) (c, (id, (room, tt))) tt t)))) (id⊢ 𝓤 _) $ await ! tt $ pick ! (λ t.
+        use1 W (later (some (λ (t : Gone). ((‵ (flft κ₁ q₁) ⊛ ‵ ftrue) ⊛ ‵ (G.the-row .own t (u ∷ []))) ⊛ raw (ensured 𝓤 H A say.ended (say.clauses 𝓤 H A at-mem run) (κ₁, tt) (c .doors, (id, (room, tt))) tt t)))) (id⊢ 𝓤 _) $ await ! tt $ pick ! (λ t.
         split ! $ move ! (1 ∷ []) $
-        use1 W (some (λ (bs : Unit {0} × (Unit {0} × (List ℕ × Unit {0}))). ‵ (lasts say.ended (κ₁, tt) (c, (id, (room, tt))) bs) ⊛ raw (fact 𝓤 (GoesAway c id (room .now) t (bs .1 .1 .0))))) (id⊢ 𝓤 _) $ pick ! (λ bs.
+        use1 W (some (λ (bs : Unit {0} × (Unit {0} × (List ℕ × Unit {0}))). ‵ (lasts say.ended (κ₁, tt) (c .doors, (id, (room, tt))) bs) ⊛ raw (fact 𝓤 (GoesAway (c .doors) id (room .now) t (bs .1 .1 .0))))) (id⊢ 𝓤 _) $ pick ! (λ bs.
         split ! $ move ! (1 ∷ []) $
-        heard ! (GoesAway c id (room .now) t (bs .1 .1 .0)) (λ e.
+        heard ! (GoesAway (c .doors) id (room .now) t (bs .1 .1 .0)) (λ e.
         fsplit ! $ drop ! $ fsplit ! $ drop ! $ fsplit ! $ move ! (1 ∷ []) $ drop ! $ fsplit ! $ move ! (1 ∷ []) $
         feqL ! (λ l.
         move ! (1 ∷ []) $ split ! $ move ! (1 ∷ []) $
@@ -135,9 +137,9 @@ module _ {M : Type 1} (𝓤 : URA M) (H : Heap 𝓤) (A : Atoms 𝓤) (W : Given
         land ! (from ! (stop !)) (init ! 13 refl (LL.lawful G.the-type G′.the-laws 𝓤 H A W .typed t _ is-t .0)) $
         rewrite ! 13 (λ (w : Val). ‵ (fat fullShare G′.mir l4 0 w)) (ap only (LL.tells G.the-type G′.the-laws t _ is-t)) refl $
         drop ! $
-        assigns ! (of-opd ! (load ! (from ! (fld ! refl (stop !))) (look-in ! 12 (sub ! 0 refl (whole !))))) (from ! (hop ! (look ! 18 refl) (stop !))) (store-raw ! 2 refl (conn-typed 𝓤 H A W (t .conn) (fields .0))) $
+        assigns ! (of-opd ! (load ! (from ! (fld ! refl (stop !))) (look-in ! 12 (sub ! 0 refl (whole !))))) (from ! (hop ! (look ! 18 refl) (fld ! refl (stop !)))) (store-in ! 2 (as-named ! (sub ! 0 refl (whole !))) (doors-typed 𝓤 H A W (t .doors) (fields .0))) $
         move ! (2 ∷ 3 ∷ 4 ∷ 5 ∷ []) $
-        closes-conn ! tt b₀ o₀ c (t .conn) (fields .0) $
+        closes-conn ! tt b₀ o₀ c (withDoors c (t .doors)) (with-doors c (t .doors) is-c (fields .0)) $
         assigns ! (of-opd ! (load ! (from ! (fld ! refl (stop !))) (look-in ! 11 (sub ! 1 refl (whole !))))) (from ! (stop !)) (init ! 19 refl (LL.lawful N.the-type N′.the-laws 𝓤 H A W .typed (t .written) _ (fields .1 .0) .0)) $
         -- [obs; bor; κ₀; κ₁; bytes; _7; _6; _5; _4; _3; _2; _1; _0]
         returns ! (look ! 19 refl) $

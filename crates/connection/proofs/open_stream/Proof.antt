@@ -4,16 +4,10 @@ use Rattle.connection.proofs.open_stream.Statement.{statement}
 use Rattle.connection.proofs.open_stream.Tie as tie
 use Rattle.connection.proofs.open_stream.Reads as reads
 use Rattle.connection.proofs.open_stream.Lts as lts
-use Rattle.connection.proofs.doors_in.Reads as doors-in-reads
 use Rattle.connection.proofs.free_at.Reads as free-at-reads
 use Rattle.connection.proofs.numbered_report.Reads as numbered-report-reads
 use Rattle.connection.proofs.taken_by.Reads as taken-by-reads
-use Rattle.connection.proofs.with_doors.Reads as with-doors-reads
 use Rattle.doors.proofs.open.Reads as open-reads
-
--- src/lib.rt:325:25
-doors-in-requires : tie.Need-doors-in-requires
-doors-in-requires c κs = search needs
 
 -- src/lib.rt:325:42
 free-at-requires : tie.Need-free-at-requires
@@ -22,10 +16,6 @@ free-at-requires c κs = search needs
 -- src/lib.rt:325:9
 open-requires : tie.Need-open-requires
 open-requires c κs = search needs
-
--- src/lib.rt:328:15
-with-doors-requires : tie.Need-with-doors-requires
-with-doors-requires c κs = search needs
 
 -- src/lib.rt:329:14
 taken-by-requires : tie.Need-taken-by-requires
@@ -37,16 +27,14 @@ numbered-report-requires c κs = search needs
 
 -- src/lib.rt:321:1
 returns : tie.Need-returns
-returns c = let a = c .before .before .before .before .before .before .before .before .args in opened-so (a .c) (a .f) (a .id .0) (c .before .before .before .before .before .before .doors-in .ensures) (c .before .before .before .before .before .free-at .ensures) (c .before .before .before .before .«open» .ensures) (c .before .before .with-doors .ensures) (c .before .taken-by .ensures) (c .numbered-report .ensures)
+returns c = let a = c .before .before .before .before .before .before .args in opened-so (a .d) (a .f) (a .id .0) (c .before .before .before .before .free-at .ensures) (c .before .before .before .«open» .ensures) (c .before .taken-by .ensures) (c .numbered-report .ensures)
 
 pub open-stream-spec : {M : Type 1} → statement M
 open-stream-spec =
     tie.close
     (tie.spec
-    doors-in-requires
     free-at-requires
     open-requires
-    with-doors-requires
     taken-by-requires
     numbered-report-requires
     returns)

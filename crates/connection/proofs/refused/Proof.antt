@@ -1,5 +1,5 @@
 use mathlib.Core.Path.{ap}
-use Rattle.connection.specs.Turned.{turn}
+use Rattle.connection.specs.Turned.{near}
 use borrow.Author.Needs.{needs}
 use Rattle.connection.proofs.refused.Statement.{statement}
 use Rattle.connection.proofs.refused.Tie as tie
@@ -13,7 +13,7 @@ numbered-report-requires c κs = search needs
 
 -- src/lib.rt:231:1
 returns : tie.Need-returns
-returns c = let a = c .before .before .args in ap (turn (a .c) (a .f .row)) (c .numbered-report .ensures)
+returns c = let a = c .before .before .args in ap (near (a .d) (a .f .row)) (c .numbered-report .ensures)
 
 pub refused-spec : {M : Type 1} → statement M
 refused-spec = tie.close (tie.spec numbered-report-requires returns)

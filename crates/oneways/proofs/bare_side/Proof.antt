@@ -6,15 +6,15 @@ use Rattle.oneways.proofs.bare_side.Lts as lts
 
 -- src/lib.rt:194:9
 returns : tie.Need-returns
-returns c = bare-encoder (c .before .before .before .args .d) (c .before .before .before .args .kind) (c .if1 .taken)
+returns c = bare-encoder _ _ (c .if1 .taken)
 
 -- src/lib.rt:204:9
 returns-2 : tie.Need-returns-2
-returns-2 c = bare-decoder (c .before .before .before .before .args .d) (c .before .before .before .before .args .kind) (c .if2 .taken)
+returns-2 c = bare-decoder _ _ (c .if2 .taken)
 
 -- src/lib.rt:188:1
 returns-3 : tie.Need-returns-3
-returns-3 c = bare-other (c .before .before .before .before .args .d) (c .before .before .before .before .args .kind) (c .before .if1 .left) (c .if2 .left)
+returns-3 c = bare-other _ _ (c .before .if1 .left) (c .if2 .left)
 
 pub bare-side-spec : {M : Type 1} → statement M
 bare-side-spec = tie.close (tie.spec returns returns-2 returns-3)

@@ -1,3 +1,4 @@
+use mathlib.Core.Path.{_∙_}
 use Rattle.oneways.specs.Numbers.{tidy-none, tidy-some}
 use borrow.Author.Needs.{needs}
 use Rattle.oneways.proofs.tidy_kept.Statement.{statement}
@@ -5,7 +6,11 @@ use Rattle.oneways.proofs.tidy_kept.Tie as tie
 use Rattle.oneways.proofs.tidy_kept.Reads as reads
 use Rattle.oneways.proofs.tidy_kept.Lts as lts
 use Rattle.oneways.proofs.flag.Reads as flag-reads
+use Rattle.oneways.proofs.nothing_said.Reads as nothing-said-reads
 use Rattle.oneways.proofs.number_if.Reads as number-if-reads
+
+nothing-said-requires : tie.Need-nothing-said-requires
+nothing-said-requires c κs = search needs
 
 -- src/lib.rt:101:22
 flag-requires : tie.Need-flag-requires
@@ -33,7 +38,7 @@ number-if-requires-3 c κs = search needs
 
 -- src/lib.rt:81:1
 returns : tie.Need-returns
-returns c = tidy-none (c .before .before .before .before .args .k) (c .if1 .taken)
+returns c = c .nothing-said .ensures ∙ tidy-none _ (c .before .if1 .taken)
 
 -- src/lib.rt:81:1
 returns-2 : tie.Need-returns-2
@@ -43,6 +48,7 @@ pub tidy-kept-spec : {M : Type 1} → statement M
 tidy-kept-spec =
     tie.close
     (tie.spec
+    nothing-said-requires
     flag-requires
     number-if-requires
     flag-requires-2
