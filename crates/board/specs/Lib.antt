@@ -3,5 +3,6 @@ pub mod Lent
 pub mod Rows
 pub mod Search
 pub mod Writes
+pub mod Promises
 pub mod Once
 pub mod Refuted
