@@ -359,7 +359,7 @@ module _ {c c′ : Connection} {id : ℕ} {room room′ : List ℕ} {w : Written
   number-is : w .number ≡ written-by (writeOf (c .code) (doorsIn c) id (length room)) .number
   number-is = ap (λ y. y .number) (m .answered) ∙ ap (λ y. y .written .number) (m .goes .is) ∙ ap (λ y. y .number) (m .goes .sends .answers)
 
-  goaway-refused : ¬ (w .number ≡ 0) → (c′ ≡ c) × (room′ ≡ room)
+  pub goaway-refused : ¬ (w .number ≡ 0) → (c′ ≡ c) × (room′ ≡ room)
   unfolding sendingOf leftIn
   goaway-refused z =
       by (writeOf (c .code) (doorsIn c) id (length room)) (m .conn-left ∙ ap (λ y. y .conn) (m .goes .is) ∙ ap (λ y. withDoors c (y .doors)) (m .goes .sends .answers)) number-is (m .goes .sends .leaves)
@@ -613,7 +613,7 @@ pub record ToldSettings (k : Call streams) (p : Pair streams) (c′ : Connection
   pub told-so : call k p .answer ≡ gave (fed (r .used) (r .heads) (notice (settings size capacity blocked)))
   pub kept-so : SettingsAre c′ size capacity blocked
 
-report-seen : (k : Call streams) (a : Answer) {r : Report} → a-report r ≡ seenOf k a → r ≡ reportOf a
+pub report-seen : (k : Call streams) (a : Answer) {r : Report} → a-report r ≡ seenOf k a → r ≡ reportOf a
 unfolding seenOf
 report-seen start a e = let z : _≡_ {A = ℕ} 0 1 = cc in absurd (omega arith)
 report-seen (open′ id) a e = cc
