@@ -14,8 +14,9 @@ use Rattle.meaning.specs.FrameLaws.{head}
 use Rattle.meaning.specs.IntegerLaws.{Bytes}
 use Rattle.meaning.specs.WriterLaws.{FrameBack}
 use Rattle.traces.specs.Stream.{Code, of-stream, codeNumber, houseNumber, feed, section, end}
-use Rattle.traces.specs.Board.{request, one-way, kindOf, Call, open′, on, goaway, Answer, call, run, fresh, trace}
+use Rattle.traces.specs.Board.{request, one-way, kindOf, find, open′, on, goaway, Answer, call, run, fresh, trace}
 use Rattle.traces.specs.View.{View, running, ended, refused}
+use Rattle.traces.specs.Alone.{Aside}
 use Rattle.traces.specs.Ledger.{ledger}
 use Rattle.traces.specs.Demands.{Tells, Struck, endAnswer, all-refused}
 use Rattle.traces.specs.Progress.{Moves, awaits, faulty, moved, Takes, not-due, not-readable, unfit, taken}
@@ -24,14 +25,14 @@ use Rattle.varint.specs.Shortest.{sizeOf}
 use Rattle.record.specs.declared.Record.{Record}
 use Rattle.connection.specs.declared.Connection.{Connection}
 use Rattle.connection.specs.declared.Report.{Report}
-use Rattle.connection.specs.declared.Written.{Written}
 use Rattle.board.specs.Writes.{writtenOf}
-use Rattle.board.specs.Promises.{Started, Fed, Given, Ended, SaidGoaway, WroteHeader, WroteIntegerFrame, WroteOpening}
+use Rattle.board.specs.Promises.{Fed, Given, Ended}
 use Rattle.demands.specs.Streams.{streams}
 use Rattle.demands.specs.Reading.{reading}
 use Rattle.demands.specs.LongerStreams.{firstOf, statedBy, headerOf, Added}
 use Rattle.demands.specs.OneWayReads.{Heard}
 use Rattle.demands.specs.Demands as over-traces
+use Rattle.demands.specs.Demands.{Calls}
 use Rattle.demands.specs.Refusals.{numberOf}
 use Rattle.demands.specs.Means as means
 use Rattle.demands.specs.Means.{pairOf, reportOf}
@@ -41,7 +42,7 @@ use Rattle.demands.specs.Others.{verdictIn, Opens, Sends}
 use Rattle.demands.specs.Runs.{Seen, seenIn, starts, opens-one, feeds, gives, ends, numberIn, Refuses, does-nothing, goaway-refused, ToldSettings, settings-kept}
 use Rattle.demands.specs.Writes as writes
 use Rattle.demands.specs.Writes.{Ends, EitherAbove, twelve, OpensControl}
-use Rattle.demands.specs.Host.{Calls, Run, begun, then-called, shows, meant, answers, reports, sends, report-number, HandsNothing, AsTheTableSays, refused-so, SaysWhole, whole-seen, seen-whole, WholeAt, whole-at}
+use Rattle.demands.specs.Host.{Run, begun, then-called, shows, meant, leaves, answers, reports, sends, report-number, HandsNothing, AsTheTableSays, refused-so, SaysWhole, whole-seen, seen-whole, WholeAt, whole-at}
 use Rattle.demands.specs.Exports.{CallSays, StartSays, StreamSays, FeedSays, GiveSays, GoawaySays, FrameSays, RoomSays, World, OfStart, of-start, OfOpen, of-open, OfFeed, of-feed, OfGive, of-give, OfEnd, of-end, OfGoaway, of-goaway, Every, every, OfHeader, of-header, OfIntegerFrame, of-integer-frame, OfOpening, of-opening}
 
 -- ---- runs: every start on a row of 24 begins one, and every call of every function carries it on
@@ -80,6 +81,13 @@ RoomStays c id room r c′ room′ = ¬ (r .number ≡ 0) → (c′ ≡ c) × (r
 
 pub demand-1-room : (w : World) → OfGoaway w RoomStays
 demand-1-room w = of-goaway w RoomStays (λ c id room r c′ room′ m. goaway-refused m)
+
+-- OTHER STREAMS: no call but start touches the record of a stream that it does not name
+abbrev pub OthersStay : CallSays
+OthersStay c rows k x c′ rows′ = (ks : Calls) (xs : List Seen) → Run ks xs c rows → (id : ℕ) → Aside id k → find id (pairOf c′ rows′ .row) ≡ find id (pairOf c rows .row)
+
+pub demand-1-others : (w : World) → Every w OthersStay
+demand-1-others w = every w OthersStay (λ c rows k x c′ rows′ m ks xs r id n. ap (λ p. find id (p .row)) (leaves r m) ∙ others.others-untouched ks k id n ∙ sym (ap (λ p. find id (p .row)) (meant r .holds)))
 
 -- ---- DEMAND 2
 

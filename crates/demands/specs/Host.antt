@@ -10,7 +10,7 @@ use mathlib.Core.Option.{some}
 use lib.ListN.{length}
 use Rattle.rules.specs.Numbers as table
 use Rattle.rules.specs.Numbers.{rowOf}
-use Rattle.traces.specs.Stream.{houseNumber, codeNumber, of-stream, of-connection, qpack-bytes, settings, client-goaway, max-push-id, quiet, section-bytes, content-bytes, notice, Own, end, done, fed, whole, freed}
+use Rattle.traces.specs.Stream.{of-stream, of-connection, qpack-bytes, settings, client-goaway, max-push-id, quiet, section-bytes, content-bytes, notice, Own, end, done, fed, whole, freed}
 use Rattle.traces.specs.Board.{request, kindOf, Pair, Call, start, open′, on, goaway, Answer, gave, left, house, code, call, run, fresh, trace}
 use Rattle.traces.specs.Row.{pick-yes}
 use Rattle.traces.specs.View as shown-by
@@ -21,15 +21,13 @@ use Rattle.connection.specs.declared.Report.{Report}
 use Rattle.connection.specs.declared.Written.{Written}
 use Rattle.board.specs.Promises.{SaidGoaway}
 use Rattle.demands.specs.Streams.{streams}
+use Rattle.demands.specs.Demands.{Calls}
 use Rattle.demands.specs.Refusals.{numberOf, leavesIn, houseLeaves, leavesOf, in-table, LeavesBy, as-the-table-says}
 use Rattle.demands.specs.Means.{pairOf, noticed, reported, reportOf, writtenOf}
 use Rattle.demands.specs.Stands.{Stands}
 use Rattle.demands.specs.Steps.{started-fresh, started-stands}
 use Rattle.demands.specs.Runs.{Seen, a-number, a-report, a-written, seenOf, seenIn, Does, starts, goes-away, does-so, numberIn, report-seen}
 use Rattle.demands.specs.Only.{EndsWhole, whole-only}
-
-abbrev pub Calls : Type 0
-Calls = List (Call streams)
 
 -- ks are the calls since the start, xs is what the host has seen of them, and c and rows are what it holds now
 pub data Run : Calls → List Seen → Connection → List Record → Type 0 where
@@ -74,8 +72,11 @@ meant (then-called {ks = ks} {xs = xs} {c = c} {rows = rows} {k = k} {x = x} r m
 one-written : {p q : Written} → a-written p ≡ a-written q → p ≡ q
 one-written e = cc
 
--- a call on what a run has left answers as the trace's next call
+-- a call on what a run has left answers as the trace's next call, and leaves what it leaves
 module _ {ks : Calls} {xs : List Seen} {c : Connection} {rows : List Record} (r : Run ks xs c rows) where
+  pub leaves : {k : Call streams} {x : Seen} {c′ : Connection} {rows′ : List Record} → Does c rows k x c′ rows′ → pairOf c′ rows′ ≡ call k (run fresh ks) .after
+  leaves {k} m = let s = meant r in does-so (s .stands) m .after ∙ ap (λ p. call k p .after) (s .holds)
+
   pub answers : {k : Call streams} {x : Seen} {c′ : Connection} {rows′ : List Record} → Does c rows k x c′ rows′ → x ≡ seenOf k (call k (run fresh ks) .answer)
   answers {k} m = let s = meant r in does-so (s .stands) m .seen ∙ ap (λ p. seenOf k (call k p .answer)) (s .holds)
 

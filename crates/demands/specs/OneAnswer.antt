@@ -3,7 +3,6 @@
 -- decline leaves open what it then answers. What is no part of the engine is in docs/PROOFS. Assumes nothing.
 use mathlib.Core.Path.{_≡_, refl, sym, ap, ap₂, _∙_}
 use Prim.Native.Nat.{ℕ}
-use native.Mathlib.Omega.{arith}
 use mathlib.Core.List.{List, [], _∷_, _++_, map}
 use mathlib.Core.Bool.{Bool, true, false}
 use base.Logic.{ent, sep, fst∗, snd∗}
