@@ -12,9 +12,8 @@ ghost use lib.ListN.{length, set, getD};
 ghost use Rattle.connection.specs.Whose.{FoundIn};
 ghost use Rattle.connection.specs.Turned.{sweptOf};
 ghost use Rattle.board.specs.Layout.{connectionSize, recordSize, reportSize, writtenSize};
-ghost use Rattle.board.specs.Lent.{FirstIn, Stepped};
-ghost use Rattle.board.specs.Writes.{writtenOf};
-ghost use Rattle.board.specs.Promises.{Started, Opened, Fed, Given, Ended, Reset, SaidGoaway, WroteHeader, WroteIntegerFrame, WroteOpening};
+ghost use Rattle.board.specs.Lent.{FirstIn};
+ghost use Rattle.board.specs.Promises.{Started, Stepped, Opened, Fed, Given, Ended, Reset, SaidGoaway, writtenOf, WroteHeader, WroteIntegerFrame, WroteOpening};
 
 // ---- the row
 

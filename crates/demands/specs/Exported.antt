@@ -25,8 +25,7 @@ use Rattle.varint.specs.Shortest.{sizeOf}
 use Rattle.record.specs.declared.Record.{Record}
 use Rattle.connection.specs.declared.Connection.{Connection}
 use Rattle.connection.specs.declared.Report.{Report}
-use Rattle.board.specs.Writes.{writtenOf}
-use Rattle.board.specs.Promises.{Fed, Given, Ended}
+use Rattle.board.specs.Promises.{Fed, Given, Ended, writtenOf}
 use Rattle.demands.specs.Streams.{streams}
 use Rattle.demands.specs.Reading.{reading}
 use Rattle.demands.specs.LongerStreams.{firstOf, statedBy, headerOf, Added}

@@ -53,8 +53,7 @@ use Rattle.connection.specs.Halves.{stream-id, doorsIn, withDoors, sideIn, with
 use Rattle.connection.specs.Faults.{withCode, Fault, kept-fault, kept-none}
 use Rattle.connection.specs.Turned.{byCall, unaltered, openedAt, requestAs, oneWayAs, Turned, other-row, dead, opens, not-open, request, one-way, sweptOf}
 use Rattle.connection.specs.Ways.{begun-fresh, begun-other, swept-other, opening-refused}
-use Rattle.board.specs.Lent.{Stepped}
-use Rattle.board.specs.Promises.{Started, Opened, Fed, Given, Ended, Reset, SaidGoaway}
+use Rattle.board.specs.Promises.{Started, Stepped, Opened, Fed, Given, Ended, Reset, SaidGoaway}
 use Rattle.demands.specs.Streams.{Keeps, typesIn, isDue, eventOf, fedBy, isReadable, sectionOf, givenBy, endedBy, placeIn, keptBy, noticeOf, framesEvent, oneEvent, heardBy, closeOf, streams}
 use Rattle.demands.specs.Means.{pairOf, callOf, noticed, reported, reportOf, writtenOf}
 use Rattle.demands.specs.Suits.{ControlFits}

@@ -31,9 +31,7 @@ use Rattle.doors.specs.Goaway.{sentIn, sendingOf, writeOf, Sends}
 use Rattle.connection.specs.declared.Connection.{Connection}
 use Rattle.connection.specs.declared.Written.{Written}
 use Rattle.connection.specs.Halves.{stream-id, doorsIn}
-use Rattle.board.specs.Lent.{SaidGoaway}
-use Rattle.board.specs.Writes.{writtenOf, WroteInto}
-use Rattle.board.specs.Promises.{WroteHeader, WroteIntegerFrame, WroteOpening}
+use Rattle.board.specs.Promises.{SaidGoaway, writtenOf, WroteInto, WroteHeader, WroteIntegerFrame, WroteOpening}
 
 -- ---- what was written
 
