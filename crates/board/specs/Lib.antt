@@ -1,3 +1,4 @@
+pub mod Promises
 pub mod Layout
 pub mod Lent
 pub mod Rows

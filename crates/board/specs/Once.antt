@@ -19,9 +19,8 @@ use Rattle.connection.specs.Turned.{numbered, unaltered, Turned, other-row, dea
 use Rattle.connection.specs.Ways.{begun-fresh, swept-free}
 use Rattle.connection.specs.One.{one-turn, one-goaway}
 use Rattle.connection.specs.Pair.{Paired, kept-pair, goaway-pair, start-pair}
-use Rattle.board.specs.Lent.{Stepped, Started, SaidGoaway}
+use Rattle.board.specs.Promises.{Started, Stepped, SaidGoaway, WroteInto}
 use Rattle.board.specs.Rows.{set-past, set-other}
-use Rattle.board.specs.Writes.{WroteInto}
 
 -- ---- a call on one stream
 

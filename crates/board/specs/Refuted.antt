@@ -8,7 +8,7 @@ use Rattle.rules.specs.Text.{hex, hexFrom, nibble, between}
 use Rattle.rules.specs.Integers.{written, rows as forms, inFirst, inRow, low}
 use Rattle.rules.specs.Writer.{Write, refused, wrote, into, both, header-bytes, write-header, integer-frame, write-integer-frame, opening, write-opening}
 use Rattle.varint.specs.Write.{wroteOf, leftIn}
-use Rattle.board.specs.Writes.{writtenOf}
+use Rattle.board.specs.Promises.{writtenOf}
 
 -- the number, the count, and the room that is left
 unfoldable pub told : Write → List ℕ → List ℕ

@@ -8,17 +8,16 @@ use connection::Written;
 use record::Record;
 use varint::Wrote;
 ghost use mathlib.Core.Path.{_≡_};
-ghost use mathlib.Core.List.{[], map};
+ghost use mathlib.Core.List.{map};
 ghost use lib.ListN.{length, set, getD};
-ghost use Rattle.rules.specs.Writer.{write-header, write-integer-frame, write-opening};
 ghost use Rattle.record.specs.Row.{free-record};
 ghost use Rattle.record.specs.Sound.{cellsIn};
 ghost use Rattle.record.specs.Body.{contentIn};
 ghost use Rattle.connection.specs.Whose.{FoundIn};
 ghost use Rattle.connection.specs.Turned.{turn, Turned, sweptOf};
 ghost use Rattle.board.specs.Layout.{connectionSize, recordSize, reportSize, writtenSize};
-ghost use Rattle.board.specs.Lent.{FirstIn, Stepped, Started, SaidGoaway};
-ghost use Rattle.board.specs.Writes.{writtenOf, WroteInto};
+ghost use Rattle.board.specs.Lent.{FirstIn};
+ghost use Rattle.board.specs.Promises.{Started, Stepped, Opened, Fed, Given, Ended, Reset, SaidGoaway, writtenOf, WroteHeader, WroteIntegerFrame, WroteOpening};
 
 // ---- the row
 
@@ -138,7 +137,7 @@ pub extern "C" fn eistulko_start(conn: &mut Connection, row: &mut [Record]) -> u
 
 #[no_mangle]
 pub extern "C" fn eistulko_open(conn: &mut Connection, row: &mut [Record], id: u64) -> Report
-    ensures { λ r. ⌜ Stepped (now (conn .entry)) (now (row .entry)) 0 id 0 [] (now (conn .exit)) (now (row .exit)) r ⌝ }
+    ensures { λ r. ⌜ Opened (now (conn .entry)) (now (row .entry)) id (now (conn .exit)) (now (row .exit)) r ⌝ }
 {
     step(conn, row, 0, id, 0, b"")
 }
@@ -151,7 +150,7 @@ pub extern "C" fn eistulko_feed(
     piece: &[u8],
     allow: u64,
 ) -> Report
-    ensures { λ r. ⌜ Stepped (now (conn .entry)) (now (row .entry)) 1 id allow (now (piece .entry)) (now (conn .exit)) (now (row .exit)) r ⌝ }
+    ensures { λ r. ⌜ Fed (now (conn .entry)) (now (row .entry)) id (now (piece .entry)) allow (now (conn .exit)) (now (row .exit)) r ⌝ }
 {
     if row.len() == 24 {
         let f = seek(&*row, 1, id);
@@ -172,21 +171,21 @@ pub extern "C" fn eistulko_give(
     id: u64,
     block: &[u8],
 ) -> Report
-    ensures { λ r. ⌜ Stepped (now (conn .entry)) (now (row .entry)) 2 id 0 (now (block .entry)) (now (conn .exit)) (now (row .exit)) r ⌝ }
+    ensures { λ r. ⌜ Given (now (conn .entry)) (now (row .entry)) id (now (block .entry)) (now (conn .exit)) (now (row .exit)) r ⌝ }
 {
     step(conn, row, 2, id, 0, block)
 }
 
 #[no_mangle]
 pub extern "C" fn eistulko_end(conn: &mut Connection, row: &mut [Record], id: u64) -> Report
-    ensures { λ r. ⌜ Stepped (now (conn .entry)) (now (row .entry)) 3 id 0 [] (now (conn .exit)) (now (row .exit)) r ⌝ }
+    ensures { λ r. ⌜ Ended (now (conn .entry)) (now (row .entry)) id (now (conn .exit)) (now (row .exit)) r ⌝ }
 {
     step(conn, row, 3, id, 0, b"")
 }
 
 #[no_mangle]
 pub extern "C" fn eistulko_reset(conn: &mut Connection, row: &mut [Record], id: u64) -> Report
-    ensures { λ r. ⌜ Stepped (now (conn .entry)) (now (row .entry)) 4 id 0 [] (now (conn .exit)) (now (row .exit)) r ⌝ }
+    ensures { λ r. ⌜ Reset (now (conn .entry)) (now (row .entry)) id (now (conn .exit)) (now (row .exit)) r ⌝ }
 {
     step(conn, row, 4, id, 0, b"")
 }
@@ -216,21 +215,21 @@ fn told(w: Wrote) -> Written
 
 #[no_mangle]
 pub extern "C" fn eistulko_write_header(ftype: u64, len: u64, room: &mut [u8]) -> Written
-    ensures { λ r. ⌜ WroteInto (write-header (length (now (room .entry))) ftype len) (now (room .entry)) r (now (room .exit)) ⌝ }
+    ensures { λ r. ⌜ WroteHeader ftype len (now (room .entry)) r (now (room .exit)) ⌝ }
 {
     told(wire::write_header(ftype, len, room))
 }
 
 #[no_mangle]
 pub extern "C" fn eistulko_write_integer_frame(ftype: u64, value: u64, room: &mut [u8]) -> Written
-    ensures { λ r. ⌜ WroteInto (write-integer-frame (length (now (room .entry))) ftype value) (now (room .entry)) r (now (room .exit)) ⌝ }
+    ensures { λ r. ⌜ WroteIntegerFrame ftype value (now (room .entry)) r (now (room .exit)) ⌝ }
 {
     told(wire::write_integer_frame(ftype, value, room))
 }
 
 #[no_mangle]
 pub extern "C" fn eistulko_write_opening(room: &mut [u8]) -> Written
-    ensures { λ r. ⌜ WroteInto (write-opening (length (now (room .entry)))) (now (room .entry)) r (now (room .exit)) ⌝ }
+    ensures { λ r. ⌜ WroteOpening (now (room .entry)) r (now (room .exit)) ⌝ }
 {
     told(wire::write_opening(room))
 }

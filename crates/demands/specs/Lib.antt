@@ -24,6 +24,7 @@ pub mod Steps
 pub mod Sends
 pub mod Runs
 pub mod Exports
+pub mod Host
 pub mod OverTheCalls
 pub mod OneAnswer
 pub mod Only
@@ -31,3 +32,4 @@ pub mod Parts
 pub mod Others
 pub mod Instances
 pub mod Types
+pub mod Exported

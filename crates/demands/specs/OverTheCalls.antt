@@ -18,7 +18,7 @@ use Rattle.record.specs.declared.Record.{Record}
 use Rattle.connection.specs.declared.Connection.{Connection}
 use Rattle.connection.specs.declared.Report.{Report}
 use Rattle.connection.specs.Turned.{told, numbered}
-use Rattle.board.specs.Lent.{Started}
+use Rattle.board.specs.Promises.{Started}
 use Rattle.demands.specs.Streams.{streams}
 use Rattle.demands.specs.Reading.{sectionsOf, reading}
 use Rattle.demands.specs.Demands.{demand-2, end-exactly, legal-exactly}

@@ -53,7 +53,7 @@ use Rattle.connection.specs.Halves.{stream-id, doorsIn, withDoors, sideIn, with
 use Rattle.connection.specs.Faults.{withCode, Fault, kept-fault, kept-none}
 use Rattle.connection.specs.Turned.{byCall, unaltered, openedAt, requestAs, oneWayAs, Turned, other-row, dead, opens, not-open, request, one-way, sweptOf}
 use Rattle.connection.specs.Ways.{begun-fresh, begun-other, swept-other, opening-refused}
-use Rattle.board.specs.Lent.{Stepped, Started, SaidGoaway}
+use Rattle.board.specs.Promises.{Started, Stepped, Opened, Fed, Given, Ended, Reset, SaidGoaway}
 use Rattle.demands.specs.Streams.{Keeps, typesIn, isDue, eventOf, fedBy, isReadable, sectionOf, givenBy, endedBy, placeIn, keptBy, noticeOf, framesEvent, oneEvent, heardBy, closeOf, streams}
 use Rattle.demands.specs.Means.{pairOf, callOf, noticed, reported, reportOf, writtenOf}
 use Rattle.demands.specs.Suits.{ControlFits}
@@ -83,11 +83,11 @@ seenIn e = seenOf (e .asked) (e .answer)
 -- ONE CALL of the board, as its promise has it: which call of a trace it is, what the host sees, and what is left
 pub data Does (c : Connection) (rows : List Record) : Call streams → Seen → Connection → List Record → Type 0 where
   starts : {c′ : Connection} {rows′ : List Record} {n : ℕ} → Started c rows c′ rows′ n → Does c rows start (a-number n) c′ rows′
-  opens-one : {c′ : Connection} {rows′ : List Record} {r : Report} {id : ℕ} → Stepped c rows 0 id 0 [] c′ rows′ r → Does c rows (open′ id) (a-report r) c′ rows′
-  feeds : {c′ : Connection} {rows′ : List Record} {r : Report} {id allow : ℕ} {piece : List ℕ} → Stepped c rows 1 id allow piece c′ rows′ r → Does c rows (on id (feed allow piece)) (a-report r) c′ rows′
-  gives : {c′ : Connection} {rows′ : List Record} {r : Report} {id : ℕ} {block : List ℕ} → Stepped c rows 2 id 0 block c′ rows′ r → Does c rows (on id (section block)) (a-report r) c′ rows′
-  ends : {c′ : Connection} {rows′ : List Record} {r : Report} {id : ℕ} → Stepped c rows 3 id 0 [] c′ rows′ r → Does c rows (on id end) (a-report r) c′ rows′
-  resets : {c′ : Connection} {rows′ : List Record} {r : Report} {id : ℕ} → Stepped c rows 4 id 0 [] c′ rows′ r → Does c rows (on id reset) (a-report r) c′ rows′
+  opens-one : {c′ : Connection} {rows′ : List Record} {r : Report} {id : ℕ} → Opened c rows id c′ rows′ r → Does c rows (open′ id) (a-report r) c′ rows′
+  feeds : {c′ : Connection} {rows′ : List Record} {r : Report} {id allow : ℕ} {piece : List ℕ} → Fed c rows id piece allow c′ rows′ r → Does c rows (on id (feed allow piece)) (a-report r) c′ rows′
+  gives : {c′ : Connection} {rows′ : List Record} {r : Report} {id : ℕ} {block : List ℕ} → Given c rows id block c′ rows′ r → Does c rows (on id (section block)) (a-report r) c′ rows′
+  ends : {c′ : Connection} {rows′ : List Record} {r : Report} {id : ℕ} → Ended c rows id c′ rows′ r → Does c rows (on id end) (a-report r) c′ rows′
+  resets : {c′ : Connection} {rows′ : List Record} {r : Report} {id : ℕ} → Reset c rows id c′ rows′ r → Does c rows (on id reset) (a-report r) c′ rows′
   goes-away : {c′ : Connection} {w : Written} {id : ℕ} {room room′ : List ℕ} → SaidGoaway c id room c′ room′ w → Does c rows (goaway id (length room)) (a-written w) c′ rows
 
 -- CALL AFTER CALL, each on what the one before has left
@@ -358,7 +358,7 @@ module _ {c c′ : Connection} {id : ℕ} {room room′ : List ℕ} {w : Written
   number-is : w .number ≡ written-by (writeOf (c .doors .code) (doorsIn c) id (length room)) .number
   number-is = ap (λ y. y .number) (m .answered) ∙ ap (λ y. y .written .number) (m .goes .is) ∙ ap (λ y. y .number) (m .goes .sends .answers)
 
-  goaway-refused : ¬ (w .number ≡ 0) → (c′ ≡ c) × (room′ ≡ room)
+  pub goaway-refused : ¬ (w .number ≡ 0) → (c′ ≡ c) × (room′ ≡ room)
   unfolding sendingOf leftIn
   goaway-refused z =
       by (writeOf (c .doors .code) (doorsIn c) id (length room)) (m .conn-left ∙ ap (λ y. withDoors c (y .doors)) (m .goes .is) ∙ ap (λ y. withDoors c (y .doors)) (m .goes .sends .answers)) number-is (m .goes .sends .leaves)
@@ -612,7 +612,7 @@ pub record ToldSettings (k : Call streams) (p : Pair streams) (c′ : Connection
   pub told-so : call k p .answer ≡ gave (fed (r .used) (r .heads) (notice (settings size capacity blocked)))
   pub kept-so : SettingsAre c′ size capacity blocked
 
-report-seen : (k : Call streams) (a : Answer) {r : Report} → a-report r ≡ seenOf k a → r ≡ reportOf a
+pub report-seen : (k : Call streams) (a : Answer) {r : Report} → a-report r ≡ seenOf k a → r ≡ reportOf a
 unfolding seenOf
 report-seen start a e = let z : _≡_ {A = ℕ} 0 1 = cc in absurd (omega arith)
 report-seen (open′ id) a e = cc

@@ -24,7 +24,7 @@ use Rattle.connection.specs.declared.Written.{Written}
 use Rattle.connection.specs.Halves.{stream-id, doorsIn, withDoors, sideIn}
 use Rattle.connection.specs.Turned.{goneBy}
 use Rattle.connection.specs.Pair.{goaway-pair}
-use Rattle.board.specs.Lent.{SaidGoaway}
+use Rattle.board.specs.Promises.{SaidGoaway}
 use Rattle.demands.specs.Streams.{streams}
 use Rattle.demands.specs.Codes.{connection-range}
 use Rattle.demands.specs.Means.{rowOf, deadBy, connOf, pairOf, writtenOf}

@@ -31,8 +31,7 @@ use Rattle.doors.specs.Goaway.{sentIn, sendingOf, writeOf, Sends}
 use Rattle.connection.specs.declared.Connection.{Connection}
 use Rattle.connection.specs.declared.Written.{Written}
 use Rattle.connection.specs.Halves.{stream-id, doorsIn}
-use Rattle.board.specs.Lent.{SaidGoaway}
-use Rattle.board.specs.Writes.{writtenOf, WroteInto}
+use Rattle.board.specs.Promises.{SaidGoaway, writtenOf, WroteInto, WroteHeader, WroteIntegerFrame, WroteOpening}
 
 -- ---- what was written
 
@@ -414,7 +413,7 @@ module _ {Above : Type 0} {size : ℕ} {before : List ℕ} {r : Written} where
 
 module _ {before after : List ℕ} {r : Written} where
   -- A FRAME HEADER
-  module _ (type len : ℕ) (m : WroteInto (write-header (length before) type len) before r after) where
+  module _ (type len : ℕ) (m : WroteHeader type len before r after) where
     pub lent-header-ends : (a : Wrote) × (r ≡ writtenOf a) × Ends (EitherAbove type len) (sizeOf type + sizeOf len) before a after
     lent-header-ends = lent-ends (write-header (length before) type len) (header-ends type len) m
 
@@ -429,7 +428,7 @@ module _ {before after : List ℕ} {r : Written} where
     lent-header-shortest z = header-shortest type len (lent-header z)
 
   -- AN INTEGER FRAME
-  module _ (type v : ℕ) (m : WroteInto (write-integer-frame (length before) type v) before r after) where
+  module _ (type v : ℕ) (m : WroteIntegerFrame type v before r after) where
     pub lent-integer-frame-ends : (a : Wrote) × (r ≡ writtenOf a) × Ends (EitherAbove type v) (sizeOf type + 1 + sizeOf v) before a after
     lent-integer-frame-ends = lent-ends (write-integer-frame (length before) type v) (integer-frame-ends type v) m
 
@@ -444,7 +443,7 @@ module _ {before after : List ℕ} {r : Written} where
     lent-integer-frame-shortest z = integer-frame-shortest type v (lent-integer-frame z)
 
   -- OUR CONTROL OPENING
-  module _ (m : WroteInto (write-opening (length before)) before r after) where
+  module _ (m : WroteOpening before r after) where
     pub lent-opening-ends : (a : Wrote) × (r ≡ writtenOf a) × Ends ⊥ 12 before a after
     lent-opening-ends = lent-ends (write-opening (length before)) opening-ends m
 

@@ -1,4 +1,4 @@
--- `eistulko_reset` meets its contract: the walk of `Bare.antt`, at the number 4. Assumes nothing.
+-- `eistulko_reset` meets its contract: the walk of `Bare.antt`, at the number of its promise. Assumes nothing.
 use lib.Dec.{lit<}
 use contract.Running.{givenOf, tables, tablesOf}
 use denote.Triple.Spec.{tripleOf}
@@ -18,5 +18,5 @@ unfolding code.routine tablesOf
 eistulko-reset-spec 𝓤 H 𝓜 𝓖 𝓡 =
     entered 𝓤 H (tripleOf 𝓤 H (𝓖 .A) self.signature (self.spec 𝓤 H (𝓖 .A) (𝓜 .mem) (𝓡 .run)))
     (tables 𝓤 H 𝓜 𝓡 code.env .C) (tables 𝓤 H 𝓜 𝓡 code.env .Λ) #board·eistulko-reset code.function (code.unfolded 𝓤 H 𝓜 𝓡)
-    (bare-meets 4 (lit< tt) 𝓤 H (𝓖 .A) (givenOf 𝓤 H 𝓜 𝓖) (𝓜 .mem) (𝓡 .run) (tablesOf 𝓤 H 𝓜 (tables 𝓤 H 𝓜 𝓡 code.env))
+    (bare-meets _ (lit< tt) 𝓤 H (𝓖 .A) (givenOf 𝓤 H 𝓜 𝓖) (𝓜 .mem) (𝓡 .run) (tablesOf 𝓤 H 𝓜 (tables 𝓤 H 𝓜 𝓡 code.env))
     (cited 𝓤 H (StepC 𝓤 H (𝓖 .A) (𝓜 .mem) (𝓡 .run)) 𝓜 𝓡 code.env #board·step step-def.routine code.calls-board·step (step-thm.met 𝓤 H 𝓜 𝓖 𝓡)))
