@@ -93,3 +93,13 @@ pub data Numbered (P : Type 0) : Type 0 where
 unfoldable pub numbered : {P : Type 0} → Next P → Numbered P
 numbered (stop code) = stops (codeNumber code)
 numbered (go p) = goes p
+
+-- ---- how far a code reaches
+
+abbrev pub OfStream : Code → Type 0
+OfStream (of-stream f) = Unit {0}
+OfStream (of-connection f) = ⊥
+
+abbrev pub OfConnection : Code → Type 0
+OfConnection (of-stream f) = ⊥
+OfConnection (of-connection f) = Unit {0}
