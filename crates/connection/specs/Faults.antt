@@ -1,25 +1,23 @@
 -- What a connection fault does: the code is kept, all else is as before (document 01's last table). Assumes nothing.
-use mathlib.Core.Path.{_≡_, refl, sym, ap, _∙_}
-use Prim.Native.Nat.{ℕ, zero, suc, _+_, _-_, _≤_, _<_}
+use mathlib.Core.Path.{_≡_, refl, sym, _∙_}
+use Prim.Native.Nat.{ℕ, _≤_}
 use native.Mathlib.Omega.{arith}
+use mathlib.Core.List.{_∷_}
 use mathlib.Core.Bool.{Bool, true, false}
 use mathlib.Core.Option.{Option, none, some}
-use Rattle.rules.specs.Numbers.{Leaves, nothing-altered, id-unspent, untouched, record-freed, code-kept, Row, numbers, rowIn, rowOf}
-use Rattle.requests.specs.Severity.{row-view}
+use Rattle.rules.specs.Numbers.{ConnectionFault, stream-creation-error, closed-critical-stream, frame-unexpected, frame-error, excessive-load, id-error, settings-error, missing-settings, StreamFault, of-stream, of-connection, accepted, codeNumber, numberOf, rows, named, Leaves, nothing-altered, id-unspent, untouched, record-freed, code-kept, houseLeaves, leaves}
+use Rattle.meaning.specs.NumberLaws.{name-view, fault-named, code-high}
 use Rattle.connection.specs.declared.Connection.{Connection}
 use Rattle.connection.specs.Halves.{withDoors}
 
 -- document 01's last table says which numbers are kept
-unfoldable pub keeps : Leaves → Bool
-keeps nothing-altered = false
-keeps id-unspent = false
-keeps untouched = false
-keeps record-freed = false
-keeps code-kept = true
-
-unfoldable pub keepsRow : Option Row → Bool
-keepsRow none = false
-keepsRow (some row) = keeps (row .leaves)
+unfoldable pub keeps : Option Leaves → Bool
+keeps none = false
+keeps (some nothing-altered) = false
+keeps (some id-unspent) = false
+keeps (some untouched) = false
+keeps (some record-freed) = false
+keeps (some code-kept) = true
 
 abbrev pub withCode : (code : ℕ) → Connection → Connection
 withCode code c = withDoors c (record { code = code; requests = c .requests; oneways = c .oneways; goaways = c .sent; goaway = record { 0 = c .ours } })
@@ -30,37 +28,47 @@ keptIf false code c = c
 
 -- THE CONNECTION THAT A NUMBER LEAVES
 abbrev pub codeKept : Connection → (number : ℕ) → Connection
-codeKept c n = keptIf (keepsRow (rowOf n)) n c
+codeKept c n = keptIf (keeps (leaves (named n))) n c
 
--- ---- laws: the numbers from 0x0103 to 0x010a, and no other
+-- ---- laws
 
-fault-kept : (k : ℕ) → k < 8 → keepsRow (rowOf (0x0103 + k)) ≡ true
-unfolding rowOf rowIn numbers keepsRow keeps
-fault-kept zero h = refl
-fault-kept (suc zero) h = refl
-fault-kept (suc (suc zero)) h = refl
-fault-kept (suc (suc (suc zero))) h = refl
-fault-kept (suc (suc (suc (suc zero)))) h = refl
-fault-kept (suc (suc (suc (suc (suc zero))))) h = refl
-fault-kept (suc (suc (suc (suc (suc (suc zero)))))) h = refl
-fault-kept (suc (suc (suc (suc (suc (suc (suc zero))))))) h = refl
-fault-kept (suc (suc (suc (suc (suc (suc (suc (suc k)))))))) h = absurd (omega arith)
-
+-- the number of a connection fault
 abbrev pub Fault : ℕ → Type 0
-Fault n = (0x0103 ≤ n) × (n ≤ 0x010a)
+Fault n = (f : ConnectionFault) × (n ≡ codeNumber (of-connection f))
 
-no-fault : (n : ℕ) → (Fault n → ⊥) → keepsRow (rowOf n) ≡ false
-unfolding rowOf numbers keepsRow keeps
+no-fault : (n : ℕ) → (Fault n → ⊥) → keeps (leaves (named n)) ≡ false
+unfolding named rows numberOf leaves houseLeaves keeps
 no-fault n other =
-    row-view n (λ o. keepsRow o ≡ false) numbers
-    ((λ e. refl), ((λ e. refl), ((λ e. refl), ((λ e. refl), ((λ e. refl), ((λ e. refl), ((λ e. refl), ((λ e. refl), ((λ e. refl), ((λ e. refl), ((λ e. refl), ((λ e. refl), ((λ e. refl), ((λ e. absurd (other (omega arith, omega arith))), ((λ e. absurd (other (omega arith, omega arith))), ((λ e. absurd (other (omega arith, omega arith))), ((λ e. absurd (other (omega arith, omega arith))), ((λ e. absurd (other (omega arith, omega arith))), ((λ e. absurd (other (omega arith, omega arith))), ((λ e. absurd (other (omega arith, omega arith))), ((λ e. absurd (other (omega arith, omega arith))), tt)))))))))))))))))))))
+    name-view n (λ a. keeps (leaves a) ≡ false) (accepted ∷ rows)
+    ((λ e. refl), ((λ e. refl), ((λ e. refl), ((λ e. refl), ((λ e. refl), ((λ e. refl), ((λ e. refl), ((λ e. refl), ((λ e. refl), ((λ e. refl), ((λ e. refl), ((λ e. refl), ((λ e. refl), ((λ e. refl), ((λ e. absurd (other (stream-creation-error, e))), ((λ e. absurd (other (closed-critical-stream, e))), ((λ e. absurd (other (frame-unexpected, e))), ((λ e. absurd (other (frame-error, e))), ((λ e. absurd (other (excessive-load, e))), ((λ e. absurd (other (id-error, e))), ((λ e. absurd (other (settings-error, e))), ((λ e. absurd (other (missing-settings, e))), tt))))))))))))))))))))))
     refl
 
-module _ (c : Connection) (n : ℕ) where
-  pub kept-fault : Fault n → withCode n c ≡ codeKept c n
-  unfolding keptIf
-  kept-fault h = let e : 0x0103 + (n - 0x0103) ≡ n = omega arith in let q = ap (λ x. keepsRow (rowOf x)) (sym e) ∙ fault-kept (n - 0x0103) (omega arith) in rw q refl
+module _ (c : Connection) where
+  pub connection-keeps : (f : ConnectionFault) → codeKept c (codeNumber (of-connection f)) ≡ withCode (codeNumber (of-connection f)) c
+  unfolding keptIf keeps leaves
+  connection-keeps f = let e = fault-named (of-connection f) in rw e refl
 
-  pub kept-none : (Fault n → ⊥) → c ≡ codeKept c n
+  pub stream-keeps-none : (f : StreamFault) → codeKept c (codeNumber (of-stream f)) ≡ c
+  unfolding keptIf keeps leaves
+  stream-keeps-none f = let e = fault-named (of-stream f) in rw e refl
+
+-- each of the numbers that are kept, and no other
+pub keeps-one : (f : ConnectionFault) (n : ℕ) → n ≡ codeNumber (of-connection f) → true ≡ keeps (leaves (named n))
+unfolding keeps leaves
+keeps-one f n e = let q = fault-named (of-connection f) in rw (e, q) refl
+
+pub keeps-none : (n : ℕ) → (Fault n → ⊥) → false ≡ keeps (leaves (named n))
+keeps-none n h = sym (no-fault n h)
+
+module _ (c : Connection) (n : ℕ) where
+  pub kept-so : {b : Bool} {d : Connection} → b ≡ keeps (leaves (named n)) → b ≡ true → d ≡ withCode n c → d ≡ codeKept c n
   unfolding keptIf
-  kept-none h = let q = no-fault n h in rw q refl
+  kept-so e t q = let k = sym e ∙ t in rw k q
+
+  pub kept-not : {b : Bool} → b ≡ keeps (leaves (named n)) → b ≡ false → c ≡ codeKept c n
+  unfolding keptIf
+  kept-not e f = let k = sym e ∙ f in rw k refl
+
+  -- 0 and the house's numbers keep nothing
+  pub kept-small : n ≤ 9 → c ≡ codeKept c n
+  kept-small l = kept-not (keeps-none n (λ x. (let h = code-high (of-connection (x .0)) in let e = x .1 in omega arith))) refl

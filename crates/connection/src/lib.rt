@@ -13,7 +13,8 @@ ghost use Rattle.record.specs.Sound.{Decides};
 ghost use Rattle.connection.specs.Whose.{Wanted};
 ghost use Rattle.record.specs.Row.{recordAt, no-cells};
 ghost use Rattle.connection.specs.Halves.{doorsIn, withDoors, sideIn, withSide};
-ghost use Rattle.connection.specs.Faults.{codeKept};
+ghost use Rattle.rules.specs.Numbers.{leaves, named};
+ghost use Rattle.connection.specs.Faults.{keeps, codeKept};
 ghost use Rattle.connection.specs.Turned.{fresh-connection, numbered, unaltered, firstRecord, takenBy, freeAt, openedAt, Asks, replied, Hears, overheard, Turned, begunOf, sweptOf, GoesAway};
 ghost use Rattle.connection.specs.Briefly.{Briefly};
 
@@ -240,24 +241,38 @@ fn refused(number: u64, c: Connection, f: Found) -> Turn
     }
 }
 
+// Whether document 01's last table has a number's code kept.
+fn keeps_code(number: u64) -> bool
+    ensures { λ r. ⌜ r ≡ keeps (leaves (named number)) ⌝ }
+{
+    match number {
+        rules::STREAM_CREATION_ERROR
+        | rules::CLOSED_CRITICAL_STREAM
+        | rules::FRAME_UNEXPECTED
+        | rules::FRAME_ERROR
+        | rules::EXCESSIVE_LOAD
+        | rules::ID_ERROR
+        | rules::SETTINGS_ERROR
+        | rules::MISSING_SETTINGS => true,
+        _ => false,
+    }
+}
+
 // A connection fault: the code is kept.
 fn code_kept(c: Connection, number: u64) -> Connection
     ensures { λ r. ⌜ r ≡ codeKept c number ⌝ }
 {
-    if number < 0x0103 {
-        return c;
+    if keeps_code(number) {
+        let d = Doors {
+            code: number,
+            requests: c.requests,
+            oneways: c.oneways,
+            goaways: c.sent,
+            goaway: StreamId(c.ours),
+        };
+        return with_doors(c, d);
     }
-    if 0x010a < number {
-        return c;
-    }
-    let d = Doors {
-        code: number,
-        requests: c.requests,
-        oneways: c.oneways,
-        goaways: c.sent,
-        goaway: StreamId(c.ours),
-    };
-    with_doors(c, d)
+    c
 }
 
 // ---- the row
