@@ -1,12 +1,13 @@
 -- What a connection fault does: the code is kept, all else is as before (document 01's last table). Assumes nothing.
-use mathlib.Core.Path.{_≡_, refl, sym, _∙_}
+use mathlib.Core.Path.{_≡_, refl, sym, ap, _∙_}
 use Prim.Native.Nat.{ℕ, _≤_}
 use native.Mathlib.Omega.{arith}
 use mathlib.Core.List.{_∷_}
 use mathlib.Core.Bool.{Bool, true, false}
+use mathlib.Core.Logic.{_⊎_, inl, inr}
 use mathlib.Core.Option.{Option, none, some}
-use Rattle.rules.specs.Numbers.{ConnectionFault, stream-creation-error, closed-critical-stream, frame-unexpected, frame-error, excessive-load, id-error, settings-error, missing-settings, StreamFault, of-stream, of-connection, accepted, codeNumber, numberOf, rows, named, Leaves, nothing-altered, id-unspent, untouched, record-freed, code-kept, houseLeaves, leaves}
-use Rattle.meaning.specs.NumberLaws.{name-view, fault-named, code-high}
+use Rattle.rules.specs.Numbers.{ConnectionFault, stream-creation-error, closed-critical-stream, frame-unexpected, frame-error, excessive-load, id-error, settings-error, missing-settings, StreamFault, of-stream, of-connection, Answer, accepted, refusal, fault, other, codeNumber, numberOf, rows, named, Leaves, nothing-altered, id-unspent, untouched, record-freed, code-kept, houseLeaves, leaves}
+use Rattle.meaning.specs.NumberLaws.{name-view, named-exact, fault-named, code-high}
 use Rattle.connection.specs.declared.Connection.{Connection}
 use Rattle.connection.specs.Halves.{withDoors}
 
@@ -36,11 +37,23 @@ codeKept c n = keptIf (keeps (leaves (named n))) n c
 abbrev pub Fault : ℕ → Type 0
 Fault n = (f : ConnectionFault) × (n ≡ codeNumber (of-connection f))
 
+-- a number is a connection fault's, or it is not
+pub faulty : (n : ℕ) → Fault n ⊎ (Fault n → ⊥)
+unfolding numberOf
+faulty n = by (named n) (named-exact n) (λ f e. ap named e ∙ fault-named (of-connection f))
+  where
+    by : (a : Answer) → numberOf a ≡ n → ((f : ConnectionFault) → n ≡ codeNumber (of-connection f) → a ≡ fault (of-connection f)) → Fault n ⊎ (Fault n → ⊥)
+    by accepted e back = inr (λ x. (let q = back (x .0) (x .1) in let z : _≡_ {A = ℕ} 0 1 = cc in omega arith))
+    by (refusal h) e back = inr (λ x. (let q = back (x .0) (x .1) in let z : _≡_ {A = ℕ} 0 1 = cc in omega arith))
+    by (fault (of-stream f)) e back = inr (λ x. (let q = back (x .0) (x .1) in let z : _≡_ {A = ℕ} 0 1 = cc in omega arith))
+    by (fault (of-connection f)) e back = inl (f, sym e)
+    by (other m) e back = inr (λ x. (let q = back (x .0) (x .1) in let z : _≡_ {A = ℕ} 0 1 = cc in omega arith))
+
 no-fault : (n : ℕ) → (Fault n → ⊥) → keeps (leaves (named n)) ≡ false
 unfolding named rows numberOf leaves houseLeaves keeps
-no-fault n other =
+no-fault n none-is =
     name-view n (λ a. keeps (leaves a) ≡ false) (accepted ∷ rows)
-    ((λ e. refl), ((λ e. refl), ((λ e. refl), ((λ e. refl), ((λ e. refl), ((λ e. refl), ((λ e. refl), ((λ e. refl), ((λ e. refl), ((λ e. refl), ((λ e. refl), ((λ e. refl), ((λ e. refl), ((λ e. refl), ((λ e. absurd (other (stream-creation-error, e))), ((λ e. absurd (other (closed-critical-stream, e))), ((λ e. absurd (other (frame-unexpected, e))), ((λ e. absurd (other (frame-error, e))), ((λ e. absurd (other (excessive-load, e))), ((λ e. absurd (other (id-error, e))), ((λ e. absurd (other (settings-error, e))), ((λ e. absurd (other (missing-settings, e))), tt))))))))))))))))))))))
+    ((λ e. refl), ((λ e. refl), ((λ e. refl), ((λ e. refl), ((λ e. refl), ((λ e. refl), ((λ e. refl), ((λ e. refl), ((λ e. refl), ((λ e. refl), ((λ e. refl), ((λ e. refl), ((λ e. refl), ((λ e. refl), ((λ e. absurd (none-is (stream-creation-error, e))), ((λ e. absurd (none-is (closed-critical-stream, e))), ((λ e. absurd (none-is (frame-unexpected, e))), ((λ e. absurd (none-is (frame-error, e))), ((λ e. absurd (none-is (excessive-load, e))), ((λ e. absurd (none-is (id-error, e))), ((λ e. absurd (none-is (settings-error, e))), ((λ e. absurd (none-is (missing-settings, e))), tt))))))))))))))))))))))
     refl
 
 module _ (c : Connection) where
@@ -68,6 +81,12 @@ module _ (c : Connection) (n : ℕ) where
   pub kept-not : {b : Bool} → b ≡ keeps (leaves (named n)) → b ≡ false → c ≡ codeKept c n
   unfolding keptIf
   kept-not e f = let k = sym e ∙ f in rw k refl
+
+  pub kept-fault : Fault n → withCode n c ≡ codeKept c n
+  kept-fault (f, e) = rw e (sym (connection-keeps c f))
+
+  pub kept-none : (Fault n → ⊥) → c ≡ codeKept c n
+  kept-none h = kept-not (keeps-none n h) refl
 
   -- 0 and the house's numbers keep nothing
   pub kept-small : n ≤ 9 → c ≡ codeKept c n

@@ -10,6 +10,7 @@ use mathlib.Core.Option.{Option, none, some}
 use mathlib.Core.Logic.{_↔_}
 use lib.Dec.{eqb·suc-zero}
 use lib.ListN.{length, take}
+use Rattle.rules.specs.Numbers.{frame-error, section-due, of-stream, of-connection}
 use Rattle.rules.specs.Reading.{Part, Kept, Use, content, skipped, section, kept, Ruling, refuse, accept, Next, stop, go, Grammar, ended}
 use Rattle.rules.specs.Integers.{integer}
 use Rattle.rules.specs.Message as message
@@ -28,7 +29,7 @@ use Rattle.meaning.specs.EveryFeed as E
 use Rattle.meaning.specs.EveryFeed.{feed-stops, feed-allows}
 use Rattle.meaning.specs.OneWayFeed as O
 use Rattle.meaning.specs.OneWays.{one-allows, OneStops, one-stops}
-use Rattle.traces.specs.Stream.{frame-error, section-due, of-stream, of-connection, qpack-bytes, settings, client-goaway, max-push-id, Event, quiet, section-bytes, content-bytes, notice, Fed, goes, faults, Ended, is-whole, broken, done, fed, feed, ofFed, mapOut, Machine, act, act₁, either}
+use Rattle.traces.specs.Stream.{qpack-bytes, settings, client-goaway, max-push-id, Event, quiet, section-bytes, content-bytes, notice, Fed, goes, faults, Ended, is-whole, broken, done, fed, feed, ofFed, mapOut, Machine, act, act₁, either}
 use Rattle.traces.specs.Stream as stream
 use Rattle.traces.specs.Board.{request, kindOf, Stream, asking, telling, Pair, Held, Call, on, Answer, gave, left, house, code, same, with, alive, faulted, actOn, settle, acting, find, fresh, call, run, trace, one-way}
 use Rattle.traces.specs.View.{Shown, running, View, plusFeed, view}

@@ -19,7 +19,7 @@ readingOf bytes blocks = R.read (request document) (sectionsOf blocks) bytes
 
 unfoldable pub verdictBy : R.Verdict → Verdict
 verdictBy R.whole = is-legal
-verdictBy (R.fault code place) = bad (codeOf code)
+verdictBy (R.fault code place) = bad code
 verdictBy (R.waits place) = waits
 
 -- THE MEANING of a request stream: its verdict once it is ended, and the place of it; its content; its section bytes; its frame headers, the refused one among them

@@ -12,10 +12,10 @@ use Rattle.rules.specs.Reading.{waits, ended}
 use Rattle.rules.specs.Message.{Message, Ended, all-come, lacks, ends}
 use Rattle.rules.specs.Request.{document, request, end-of}
 use Rattle.rules.specs.Numbers as table
-use Rattle.rules.specs.Numbers.{numbers, rowIn, rowOf}
+use Rattle.rules.specs.Numbers.{numbers, rowIn, rowOf, House, not-open, not-next, no-record, section-due, none-due, unreadable, short-room, bad-value, not-24, houseNumber, StreamFault, request-rejected, request-cancelled, request-incomplete, message-error, ConnectionFault, stream-creation-error, closed-critical-stream, frame-unexpected, frame-error, excessive-load, id-error, settings-error, missing-settings, Code, of-stream, of-connection, codeNumber}
 use Rattle.meaning.specs.Machine.{need, State, in-type, in-length, in-payload, due, finish}
 use Rattle.meaning.specs.Machine as machine
-use Rattle.traces.specs.Stream.{House, not-open, not-next, no-room, section-due, none-due, unreadable, short-buffer, bad-goaway, not-24, houseNumber, StreamCode, rejected, cancelled, incomplete, malformed, ConnCode, creation, critical, unexpected, frame-error, excessive, id-error, settings-error, missing, Code, of-stream, of-connection, codeNumber, Event, quiet, Own, Gave, done, fed, Left}
+use Rattle.traces.specs.Stream.{Event, quiet, Own, Gave, done, fed, Left}
 use Rattle.traces.specs.Board.{Kind, kindOf, free, Row, Pair, Call, open′, on, Answer, gave, left, house, code, spend, killed, fresh, call, lent, run, trace}
 use Rattle.traces.specs.Row.{Replaced}
 use Rattle.traces.specs.Went.{pair}
@@ -58,12 +58,12 @@ leavesIn (some r) = some (r .leaves)
 unfoldable pub houseLeaves : House → table.Leaves
 houseLeaves not-open = table.nothing-altered
 houseLeaves not-next = table.nothing-altered
-houseLeaves no-room = table.id-unspent
+houseLeaves no-record = table.id-unspent
 houseLeaves section-due = table.nothing-altered
 houseLeaves none-due = table.nothing-altered
 houseLeaves unreadable = table.nothing-altered
-houseLeaves short-buffer = table.untouched
-houseLeaves bad-goaway = table.nothing-altered
+houseLeaves short-room = table.untouched
+houseLeaves bad-value = table.nothing-altered
 houseLeaves not-24 = table.nothing-altered
 
 unfoldable pub leavesOf : Answer → Option table.Leaves
@@ -75,30 +75,30 @@ leavesOf (code (of-connection k) u h) = some table.code-kept
 
 -- EACH REFUSAL HAS A NUMBER OF THE TABLE, is as grave as its row says, and has that row's last column; 0 is no row's
 pub in-table : (a : Answer) → (severityIn (rowOf (numberOf a)) ≡ severityOf a) × (leavesIn (rowOf (numberOf a)) ≡ leavesOf a)
-unfolding severityIn leavesIn severityOf leavesOf houseLeaves numberOf houseNumber codeNumber rowOf rowIn numbers
+unfolding severityIn leavesIn severityOf leavesOf houseLeaves numberOf rowOf rowIn numbers
 in-table (gave g) = (refl, refl)
 in-table (left l) = (refl, refl)
 in-table (house not-open) = (refl, refl)
 in-table (house not-next) = (refl, refl)
-in-table (house no-room) = (refl, refl)
+in-table (house no-record) = (refl, refl)
 in-table (house section-due) = (refl, refl)
 in-table (house none-due) = (refl, refl)
 in-table (house unreadable) = (refl, refl)
-in-table (house short-buffer) = (refl, refl)
-in-table (house bad-goaway) = (refl, refl)
+in-table (house short-room) = (refl, refl)
+in-table (house bad-value) = (refl, refl)
 in-table (house not-24) = (refl, refl)
-in-table (code (of-stream rejected) u h) = (refl, refl)
-in-table (code (of-stream cancelled) u h) = (refl, refl)
-in-table (code (of-stream incomplete) u h) = (refl, refl)
-in-table (code (of-stream malformed) u h) = (refl, refl)
-in-table (code (of-connection creation) u h) = (refl, refl)
-in-table (code (of-connection critical) u h) = (refl, refl)
-in-table (code (of-connection unexpected) u h) = (refl, refl)
+in-table (code (of-stream request-rejected) u h) = (refl, refl)
+in-table (code (of-stream request-cancelled) u h) = (refl, refl)
+in-table (code (of-stream request-incomplete) u h) = (refl, refl)
+in-table (code (of-stream message-error) u h) = (refl, refl)
+in-table (code (of-connection stream-creation-error) u h) = (refl, refl)
+in-table (code (of-connection closed-critical-stream) u h) = (refl, refl)
+in-table (code (of-connection frame-unexpected) u h) = (refl, refl)
 in-table (code (of-connection frame-error) u h) = (refl, refl)
-in-table (code (of-connection excessive) u h) = (refl, refl)
+in-table (code (of-connection excessive-load) u h) = (refl, refl)
 in-table (code (of-connection id-error) u h) = (refl, refl)
 in-table (code (of-connection settings-error) u h) = (refl, refl)
-in-table (code (of-connection missing) u h) = (refl, refl)
+in-table (code (of-connection missing-settings) u h) = (refl, refl)
 
 -- THE VERDICT WAITS ONLY WHILE A SECTION IS DUE, and then an end is answered before it is asked for: Streams, endedBy, never answers a wait
 pub waits-while-due : (at : ℕ) (s : State Message) {place : ℕ} → finish (request document) at s ≡ waits place → isDue s ≡ true
@@ -145,18 +145,18 @@ pub data LeavesBy (p : Pair streams) : table.Leaves → Call streams → Answer 
   untouched : {c : Call streams} {a : Answer} → LeavesBy p table.untouched c a p
   freed : {id : ℕ} {o : Own streams} {a : Answer} {row : Row streams} → Replaced id free (p .row) row → LeavesBy p table.record-freed (on id o) a (pair (p .conn) row)
   spent : {id : ℕ} {k : Kind} {a : Answer} → kindOf id ≡ some k → LeavesBy p table.record-freed (open′ id) a (pair (spend k (p .conn)) (p .row))
-  code-kept : {c : Call streams} {k : ConnCode} {u h : ℕ} {p′ : Pair streams} → p′ ≡ pair (killed k (p .conn)) (p .row) → LeavesBy p table.code-kept c (code (of-connection k) u h) p′
+  code-kept : {c : Call streams} {k : ConnectionFault} {u h : ℕ} {p′ : Pair streams} → p′ ≡ pair (killed k (p .conn)) (p .row) → LeavesBy p table.code-kept c (code (of-connection k) u h) p′
 
 house-leaves : (p : Pair streams) (c : Call streams) (h : House) → LeavesBy p (houseLeaves h) c (house h) p
 unfolding houseLeaves
 house-leaves p c not-open = as-it-was
 house-leaves p c not-next = as-it-was
-house-leaves p c no-room = id-unspent
+house-leaves p c no-record = id-unspent
 house-leaves p c section-due = as-it-was
 house-leaves p c none-due = as-it-was
 house-leaves p c unreadable = as-it-was
-house-leaves p c short-buffer = untouched
-house-leaves p c bad-goaway = as-it-was
+house-leaves p c short-room = untouched
+house-leaves p c bad-value = as-it-was
 house-leaves p c not-24 = as-it-was
 
 module _ {p p′ : Pair streams} {c : Call streams} {a : Answer} (l : table.Leaves) where
@@ -181,7 +181,7 @@ pub lent-as-the-table-says : (c : Call streams) (p : Pair streams) (l : table.Le
 lent-as-the-table-says c p l e = by-column l (sym (in-table (lent c p .answer) .1) ∙ e) (demand-1-lent c p)
 
 -- DEAD STAYS DEAD: each later call but start gives the code, and leaves all as it was
-pub dead-stays : (c : Call streams) (p : Pair streams) (k : ConnCode) → Later c → p .conn .dead ≡ some k → call c p ≡ record { answer = code (of-connection k) 0 0; after = p }
+pub dead-stays : (c : Call streams) (p : Pair streams) (k : ConnectionFault) → Later c → p .conn .dead ≡ some k → call c p ≡ record { answer = code (of-connection k) 0 0; after = p }
 dead-stays c p k l e = A.dead-stays c p k l e
 
 -- ---- openings

@@ -8,6 +8,7 @@ use mathlib.Core.Bool.{Bool, true, false}
 use mathlib.Core.Option.{Option, none, some}
 use lib.ListN.{length, set}
 use lib.Seq.{set-getD}
+use Rattle.rules.specs.Numbers.{section-due, none-due, not-24, houseNumber, ConnectionFault, MISSING-SETTINGS}
 use Rattle.rules.specs.Block.{Lines, readable, unreadable, lines}
 use Rattle.rules.specs.Integers.{integer}
 use Rattle.rules.specs.Reading as reading
@@ -24,7 +25,7 @@ use Rattle.meaning.specs.Feed as F
 use Rattle.meaning.specs.OneWayFeed as O
 use Rattle.meaning.specs.OneWayFeed.{OneState, OneOutcome, OneEvent}
 use Rattle.traces.specs.Stream as trace
-use Rattle.traces.specs.Stream.{section-due, none-due, not-24, houseNumber, ConnCode, qpack-bytes, settings, client-goaway, max-push-id, Event, quiet, section-bytes, content-bytes, notice, Own, feed, section, end, reset, Gave, done, fed, Out, refuse, step, leave, ofFed, ofGiven, ofEnded, ofClosed, mapOut, either, act, act₁}
+use Rattle.traces.specs.Stream.{qpack-bytes, settings, client-goaway, max-push-id, Event, quiet, section-bytes, content-bytes, notice, Own, feed, section, end, reset, Gave, done, fed, Out, refuse, step, leave, ofFed, ofGiven, ofEnded, ofClosed, mapOut, either, act, act₁}
 use Rattle.traces.specs.Board.{Stream, asking, telling, Pair, Held, Call, start, open′, on, goaway, Answer, gave, left, house, code, keeping, call, same, actOn, run, Entry, trace, fresh}
 use Rattle.traces.specs.Went as went
 use Rattle.traces.specs.Went.{Went}
@@ -169,7 +170,7 @@ module _ {c : Connection} {rows : List Record} {n id allow : ℕ} {piece : List 
 
 module _ {c : Connection} {rows : List Record} {n id allow : ℕ} {piece : List ℕ} {c′ : Connection} {rows′ : List Record} {r : Report} (other : ¬ (length rows ≡ 24)) (m : Stepped c rows n id allow piece c′ rows′ r) where
   pub nine : (c′ ≡ c) × (rows′ ≡ rows) × (r ≡ reportOf (house not-24))
-  unfolding reportOf houseNumber
+  unfolding reportOf
   nine = let q = by (m .turned) in let u = stored m (unaltered-so 9 q) in (u .0, u .1, m .answered ∙ ap (λ t. t .report) q)
     where
       short : m .found .len ≡ 24 → ⊥
@@ -186,7 +187,7 @@ module _ {c : Connection} {rows : List Record} {n id allow : ℕ} {piece : List 
 -- and so a start
 module _ {c : Connection} {rows : List Record} {c′ : Connection} {rows′ : List Record} {n : ℕ} (other : ¬ (length rows ≡ 24)) (m : Started c rows c′ rows′ n) where
   pub start-nine : (c′ ≡ c) × (rows′ ≡ rows) × (n ≡ reportOf (house not-24) .number)
-  unfolding reportOf houseNumber
+  unfolding reportOf
   start-nine = let q = sym (begun-other c (length rows) other) in (m .conn-left ∙ ap (λ b. b .conn) q, m .rows-left ∙ swept rows, m .answered ∙ ap (λ b. b .number) q)
     where
       swept : (rs : List Record) → map (sweptOf (length rows)) rs ≡ rs
@@ -200,7 +201,7 @@ OfHouse n = (1 ≤ n) × (n ≤ 9)
 
 -- a number that frees no record
 abbrev FreesNone : ℕ → Type 0
-FreesNone n = (1 ≤ n) × (n ≤ 0x010a)
+FreesNone n = (1 ≤ n) × (n ≤ MISSING-SETTINGS)
 
 -- what holds of each call's answer holds of any
 module _ {A : Type 0} (P : A → Type 0) {f g e r : A} where
@@ -519,7 +520,7 @@ module _ (k : Keeps) where
   heard-says u h (O.qpack-bytes q len) (O.lives s) w = tt
   heard-says u h e (O.dies n) w = tt
 
-  closed-says : (c : Option ConnCode) → TellSays (ofClosed c)
+  closed-says : (c : Option ConnectionFault) → TellSays (ofClosed c)
   unfolding ofClosed mapOut
   closed-says none = tt
   closed-says (some c) = tt
