@@ -30,7 +30,7 @@ use Rattle.connection.specs.declared.Connection.{Connection}
 use Rattle.connection.specs.declared.Report.{Report}
 use Rattle.connection.specs.Faults.{withCode, codeKept, kept-small, connection-keeps, stream-keeps-none}
 use Rattle.connection.specs.Turned.{byCall, told, turn, requestAs, replied}
-use Rattle.demands.specs.Streams.{codeOf, isDue, eventOf, fedBy, isReadable, sectionOf, givenBy, endedBy, streams}
+use Rattle.demands.specs.Streams.{streamCode, isDue, eventOf, fedBy, isReadable, sectionOf, givenBy, endedBy, streams}
 use Rattle.demands.specs.Means.{slotAt, connOf, ownOf, reported, reportOf}
 use Rattle.demands.specs.Suits.{RequestSuits, Given, given-suits}
 use Rattle.demands.specs.Settles.{Comes, refuses, steps, leaves, fails, kills}

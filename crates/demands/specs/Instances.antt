@@ -27,10 +27,10 @@ use Rattle.traces.specs.View.{ended, refused, View, nothing, plusFeed, plusByte
 use Rattle.traces.specs.Ledger.{ledger, ledgerFrom, noted, dies, opens, counts, blank}
 use Rattle.traces.specs.Demands.{endAnswer, Struck, SameOutput, is-ended}
 use Rattle.traces.specs.Progress.{Moves, Takes, a-feed}
-use Rattle.demands.specs.Streams.{pick as choose, streamCode, connCode, codeOf, isDue, eventOf, fedBy, isReadable, sectionOf, givenBy, endedBy, came, typesIn, noticeOf, framesEvent, oneEvent, heardBy, streams}
+use Rattle.demands.specs.Streams.{streamCode, connCode, isDue, eventOf, fedBy, isReadable, sectionOf, givenBy, endedBy, came, typesIn, noticeOf, framesEvent, oneEvent, heardBy, streams}
 use Rattle.demands.specs.Reading.{sectionsOf, verdictBy, reading}
 use Rattle.demands.specs.LongerStreams.{firstOf, statedBy, headerOf, Added}
-use Rattle.demands.specs.OneWayReads.{named, faultBy, closeAnswer}
+use Rattle.demands.specs.OneWayReads.{faultBy, closeAnswer}
 use Rattle.demands.specs.ToTheEnd.{Shared, serve, EndsSo}
 use Rattle.demands.specs.Demands.{end-exactly, two-traces, demand-3, half-an-upload, progress, section-exactly, of-the-bytes, any-cutting, to-the-end, closes-exactly}
 use Rattle.demands.specs.Others.{dead-stays, Opens, opens-exactly, Sends, sends-exactly}
@@ -42,7 +42,7 @@ Calls = List (Call streams)
 
 -- what stream 0 shows, to compute with
 unfoldable pub shows : Calls → View streams
-unfolding view viewFrom seen opened unseen nothing ifRunning mine fedly plusFeed plusBytes plusSection part contentIn sectionIn noticesIn qpackIn run trace call alive opening kindOf pick ℕ-discrete decLt decLe nextOf spend keeping killed barred over find put behind seat same with fresh first seated faulted actOn settle acting ofFed ofGiven ofEnded mapOut act either choose streamCode connCode codeOf isDue eventOf fedBy isReadable sectionOf givenBy endedBy F.feed F.halt F.also F.onward F.over-event F.left-event F.behind-header F.named F.taking M.given M.answered M.typed M.keep M.over M.with-left M.after M.fed M.finish endAnswer sectionsOf verdictBy firstOf statedBy headersIn worked.answer
+unfolding view viewFrom seen opened unseen nothing ifRunning mine fedly plusFeed plusBytes plusSection part contentIn sectionIn noticesIn qpackIn run trace call alive opening kindOf pick ℕ-discrete decLt decLe nextOf spend keeping killed barred over find put behind seat same with fresh first seated faulted actOn settle acting ofFed ofGiven ofEnded mapOut act either streamCode connCode isDue eventOf fedBy isReadable sectionOf givenBy endedBy F.feed F.halt F.also F.onward F.over-event F.left-event F.behind-header F.named F.taking M.given M.answered M.typed M.keep M.over M.with-left M.after M.fed M.finish endAnswer sectionsOf verdictBy firstOf statedBy headersIn worked.answer
 shows cs = view 0 (trace fresh cs)
 
 -- ---- the calls
@@ -206,7 +206,7 @@ unfolding shows control-open act₁ heardBy O.feed O.type-feed O.also O.typed-fe
 settings-told = refl
 
 pub critical-closed : call (on 2 end) (run fresh control-open) .answer ≡ code (of-connection closed-critical-stream) 0 0
-unfolding shows control-open act₁ heardBy O.feed O.type-feed O.also O.typed-feed typesIn came O.kind-feed O.of-control O.controlled F.judged-event closeAnswer faultBy named
+unfolding shows control-open act₁ heardBy O.feed O.type-feed O.also O.typed-feed typesIn came O.kind-feed O.of-control O.controlled F.judged-event closeAnswer faultBy
 critical-closed = closes-exactly 2 refl control-open refl .0
 
 -- ---- a write: the header of a DATA frame of three bytes

@@ -37,7 +37,7 @@ rowOf d rows = map (slotOf d) rows
 -- ---- the connection
 
 -- code 0: it is alive
-unfoldable pub deadBy : (code : Code) → Option ConnectionFault
+unfoldable pub deadBy : (code : ℕ) → Option ConnectionFault
 deadBy zero = none
 deadBy (suc n) = some (connCode (coded (suc n)))
 

@@ -22,7 +22,7 @@ use Rattle.traces.specs.Stream.{Event, Fed, goes, faults}
 use Rattle.traces.specs.Oneways.{Both, Like, goes-alike, faults-alike, second, ByItself}
 use Rattle.traces.specs.Kept.{Steps, tells-nothing, becomes, tells-on}
 use Rattle.demands.specs.Becomes.{as-control, isFor, typeNumber, Unseen, type-unseen}
-use Rattle.demands.specs.Streams.{pick, connCode, isDue, Keeps, came, typesIn, placeIn, keptBy, oneEvent, heardBy, streams}
+use Rattle.demands.specs.Streams.{connCode, isDue, Keeps, came, typesIn, placeIn, keptBy, oneEvent, heardBy, streams}
 use Rattle.demands.specs.Reads.{fed-goes}
 
 -- ---- a request gets on
@@ -118,7 +118,7 @@ heard-alike k u h e (O.lives s) = goes-alike
 heard-alike k u h e (O.dies code) = faults-alike
 
 second-heard : (k : Keeps) (u h : ℕ) (e : O.OneEvent) (x : Fed O.OneState) → Like streams x (heardBy k u h e (O.dies (of-connection stream-creation-error)))
-unfolding heardBy connCode pick
+unfolding heardBy connCode
 second-heard k u h e x = second
 
 like-of : (k : Keeps) (f x : O.OneFeeding) → Alike f x → Like streams (aloneBy (f .used) (f .heads) (f .event) (f .after)) (heardBy k (x .used) (x .heads) (x .event) (x .after))

@@ -7,7 +7,7 @@ use mathlib.Core.List.{List, [], _∷_, _++_, map, append-nil, append-assoc, map
 use mathlib.Core.Option.{Option, none, some}
 use mathlib.Core.Logic.{_⊎_, inl, inr}
 use lib.ListN.{length, take, drop}
-use Rattle.rules.specs.Numbers.{ConnectionFault, stream-creation-error, Code, of-connection, CLOSED-CRITICAL-STREAM}
+use Rattle.rules.specs.Numbers.{ConnectionFault, stream-creation-error, Code, of-connection, CLOSED-CRITICAL-STREAM, closed-critical-stream, named}
 use Rattle.rules.specs.Reading as R
 use Rattle.rules.specs.Control.{Control, control, Told, told-settings, told-goaway, told-max-push-id, told-nothing, tells}
 use Rattle.rules.specs.OneWay as W
@@ -24,7 +24,7 @@ use Rattle.traces.specs.View.{Shown, Fate, unopened, spent, running, ended, dro
 use Rattle.traces.specs.Alone.{call-on}
 use Rattle.traces.specs.Follow.{Agrees, open-still, over, not-running}
 use Rattle.traces.specs.Oneways.{Both, Reached₁, at-first, by-feed, Story₁, not-yet, never, cut-off, closed, closed-critical, bad-feed, second-of-type, Says, says, story₁, follows₁}
-use Rattle.demands.specs.Streams.{pick, connCode, Keeps, typesIn, noticeOf, framesEvent, oneEvent, heardBy, typeOf, closeOf, streams}
+use Rattle.demands.specs.Streams.{connCode, Keeps, typesIn, noticeOf, framesEvent, oneEvent, heardBy, typeOf, closeOf, streams}
 use Rattle.demands.specs.Reads.{part-is}
 use Rattle.demands.specs.Becomes.{Once, as-control, as-encoder, as-decoder, isFor}
 use Rattle.demands.specs.Moves.{aloneBy, aloneOf, alone}
@@ -62,13 +62,9 @@ headsBy (W.of-control r) = headersIn (r .said)
 headsBy (W.of-qpack q bytes) = 0
 headsBy W.passed-over = 0
 
-unfoldable pub named : Option ℕ → Option Code
-named none = none
-named (some code) = some code
-
 -- the fault that the bytes bring, or else the one of closing
 unfoldable pub faultBy : W.OneWay → Option Code
-faultBy m = named (W.closed m)
+faultBy m = W.closed m
 
 -- ---- what events tell, and what is said
 
@@ -247,7 +243,7 @@ abbrev doneOf : Shown streams → List R.Saying → List ℕ → O.OneOutcome �
 doneOf s frames raw o = record { bytes = s .bytes; frames = frames; qpack = raw; heads = s .heads; after = o }
 
 -- a control stream may never end
-control-closes : (n : ℕ) (c : M.State Control) → ReadsOn c → W.faultIn (M.finished control n (M.settled control n [] (M.lives c))) ≡ some CLOSED-CRITICAL-STREAM
+control-closes : (n : ℕ) (c : M.State Control) → ReadsOn c → W.faultIn (M.finished control n (M.settled control n [] (M.lives c))) ≡ some (of-connection closed-critical-stream)
 unfolding M.settled M.supplied M.finished M.finish W.faultIn R.ended
 control-closes n (M.in-type M.fresh p) h = refl
 control-closes n (M.in-type (M.need k v) p) h = refl
@@ -263,12 +259,12 @@ lived : (w w′ : O.OneState) → O.lives w ≡ O.lives w′ → w ≡ w′
 lived w w′ e = cc
 
 control-by : (w : O.OneState) (c : M.Outcome Control) (n : ℕ) (v : R.Verdict) → ReadsOnOne w → O.lives w ≡ O.controlled c → v ≡ M.finished control n (M.settled control n [] c)
-    → named (W.faultIn v) ≡ codeFor (closeOf w)
+    → W.faultIn v ≡ codeFor (closeOf w)
 unfolding O.controlled
 control-by w (M.lives s) n v h a e =
     let z = lived w (O.in-control s) a in
     let y = control-closes n s (subst ReadsOnOne z h) in
-    ap named (ap W.faultIn e ∙ y) ∙ unfold named connCode pick codeFor closeOf in (rw z refl)
+    ap W.faultIn e ∙ y ∙ unfold codeFor closeOf in (rw z refl)
 control-by w (M.dies code) n v h a e = let z : _≡_ {A = ℕ} 0 1 = cc in absurd (omega arith)
 
 module _ (seen : List ℕ) where
@@ -320,7 +316,7 @@ module _ (seen : List ℕ) where
       }
 
   -- so the bytes up to it are all that a fault adds
-  been-dead : (s : Shown streams) (w : O.OneState) (allow u h code : ℕ) (piece : List ℕ) → Been s (O.lives w) → let f = O.feed seen allow w piece in
+  been-dead : (s : Shown streams) (w : O.OneState) (allow u h : ℕ) (code : Code) (piece : List ℕ) → Been s (O.lives w) → let f = O.feed seen allow w piece in
       f .after ≡ O.dies code → f .used ≡ u → f .heads ≡ h → Been (plusBytes u h piece s) (O.dies code)
   unfolding plusBytes
   been-dead s w allow u h code piece b e x y =
@@ -372,13 +368,13 @@ module _ (seen : List ℕ) where
 
   -- closing
   close-by : (s : Shown streams) (w : O.OneState) (b : Been s (O.lives w)) {m : W.OneWay} → ReadsOnOne w → Came seen (doneOf s (b .frames) (b .raw) (O.lives w)) m
-      → named (W.closed m) ≡ codeFor (closeOf w)
+      → W.closed m ≡ codeFor (closeOf w)
   unfolding W.closed
-  close-by s w b h (still-untyped {g = g} a f q n) = unfold named codeFor closeOf in (rw (lived w (O.in-stream-type g) a) refl)
+  close-by s w b h (still-untyped {g = g} a f q n) = unfold codeFor closeOf in (rw (lived w (O.in-stream-type g) a) refl)
   close-by s w b h (type-refused a f q n) = let z : _≡_ {A = ℕ} 0 1 = cc in absurd (omega arith)
   close-by s w b h (a-control-stream {r = r} c a f q n v) = control-by w c (length (s .bytes)) (r .verdict) h a v
-  close-by s w b h (a-qpack-stream {q = q} a f n) = unfold named connCode pick codeFor closeOf in (rw (lived w (O.in-qpack q) a) refl)
-  close-by s w b h (a-skipped-stream a f q n) = unfold named codeFor closeOf in (rw (lived w O.in-skipped a) refl)
+  close-by s w b h (a-qpack-stream {q = q} a f n) = unfold codeFor closeOf in (rw (lived w (O.in-qpack q) a) refl)
+  close-by s w b h (a-skipped-stream a f q n) = unfold codeFor closeOf in (rw (lived w O.in-skipped a) refl)
 
   closes : (s : Shown streams) (w : O.OneState) → Been s (O.lives w) → faultBy (W.oneWay seen (s .bytes)) ≡ codeFor (closeOf w)
   unfolding faultBy
@@ -464,7 +460,7 @@ fault-of seen s w allow u h piece k b code e x y c =
     let v = been-dead seen s w allow u h code piece b e x y in
     let s′ = plusBytes u h piece s in
     let d = dead-by seen s′ code v (came-of seen s′ (O.dies code) v) in
-    (hears seen s′ (O.dies code) v, unfold faultBy in (ap named d ∙ unfold named in (ap some c)))
+    (hears seen s′ (O.dies code) v, unfold faultBy in (d ∙ ap some c))
 
 fault-story : (s : Shown streams) (w : O.OneState) (allow u h : ℕ) (piece : List ℕ) (k : Code) → Been [] s (O.lives w) → aloneOf w allow piece ≡ faults k u h
     → Heard (record { fate = refused k; shown = plusBytes u h piece s })

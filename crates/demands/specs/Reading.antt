@@ -8,7 +8,7 @@ use Rattle.rules.specs.Request.{document, request}
 use Rattle.meaning.specs.Feeds.{headersIn}
 use Rattle.meaning.specs.First.{placeOf}
 use Rattle.traces.specs.Demands.{Verdict, is-legal, bad, waits, Meaning}
-use Rattle.demands.specs.Streams.{codeOf, sectionOf, streams}
+use Rattle.demands.specs.Streams.{sectionOf, streams}
 
 -- blocks stand for the sections that they read as
 unfoldable pub sectionsOf : (blocks : List (List ℕ)) → List Section

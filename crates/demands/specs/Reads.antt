@@ -23,7 +23,7 @@ use Rattle.traces.specs.Stream.{Event, part, contentIn, sectionIn, noticesIn, q
 use Rattle.traces.specs.View.{Shown, nothing, plusFeed, plusBytes, plusSection}
 use Rattle.traces.specs.Story.{Reached, at-first, by-feed, by-section}
 use Rattle.traces.specs.Demands.{is-legal, bad, waits, Shows, verdictOf, Struck, NoFault, Reads}
-use Rattle.demands.specs.Streams.{streamCode, codeOf, isDue, eventOf, fedBy, isReadable, sectionOf, givenBy, endedBy, streams}
+use Rattle.demands.specs.Streams.{streamCode, isDue, eventOf, fedBy, isReadable, sectionOf, givenBy, endedBy, streams}
 use Rattle.demands.specs.Codes.{is-of-stream}
 use Rattle.demands.specs.InPlace.{Placed, feed-placed, given-placed, given-of-stream}
 use Rattle.demands.specs.Reading.{sectionsOf, readingOf, verdictBy, reading}
@@ -345,7 +345,7 @@ been (by-feed {s = s} {r = r} {r′ = r′} {allow = allow} {u = u} {h = h} {pie
 been (by-section {s = s} {r = r} {r′ = r′} {b = b} t d y q) = been-sound s r r′ b d (been t) q
 
 -- a fault is silent, so the bytes up to it are all that it adds
-been-dead : (s : Shown streams) (r : M.State Message) (allow u h code : ℕ) (piece : List ℕ) → Been s (M.lives r) → let f = F.feed G allow r piece in
+been-dead : (s : Shown streams) (r : M.State Message) (allow u h : ℕ) (code : Code) (piece : List ℕ) → Been s (M.lives r) → let f = F.feed G allow r piece in
     f .after ≡ M.dies code → f .used ≡ u → f .heads ≡ h → Been (plusBytes u h piece s) (M.dies code)
 unfolding plusBytes
 been-dead s r allow u h code piece b e x y =

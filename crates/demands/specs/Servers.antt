@@ -19,7 +19,7 @@ use Rattle.traces.specs.Progress.{Moves, awaits, faulty, moved, Takes}
 use Rattle.rules.specs.Worked.{answer}
 use Rattle.meaning.specs.Feeds.{headersIn}
 use Rattle.meaning.specs.First.{placeOf}
-use Rattle.demands.specs.Streams.{pick as choose, streamCode, connCode, codeOf, streams}
+use Rattle.demands.specs.Streams.{streamCode, connCode, streams}
 use Rattle.demands.specs.Reading.{sectionsOf, verdictBy, reading}
 use Rattle.demands.specs.Demands.{demand-2, end-exactly, progress, section-exactly}
 use Rattle.demands.specs.Refusals.{opening-exactly}
@@ -129,7 +129,7 @@ not-legal k e = let z : _≡_ {A = ℕ} 0 1 = cc in omega arith
 
 -- of no bytes
 empty-means : reading .verdict [] [] ≡ bad (of-stream request-incomplete)
-unfolding answer verdictBy sectionsOf codeOf streamCode choose
+unfolding answer verdictBy sectionsOf streamCode
 empty-means = refl
 
 pub whole-breaks : Promised calls-whole → ⊥
@@ -164,7 +164,7 @@ other-code e = let z : _≡_ {A = ℕ} 0 1 = cc in omega arith
 
 -- of an empty DATA frame
 data-means : reading .verdict (0x00 ∷ 0x00 ∷ []) [] ≡ bad (of-connection frame-unexpected)
-unfolding answer verdictBy sectionsOf codeOf connCode choose
+unfolding answer verdictBy sectionsOf connCode
 data-means = refl
 
 pub early-breaks : Promised settles-early → ⊥

@@ -1,6 +1,7 @@
 -- What the core makes of the record that was found is what the trace makes of the stream: answer by answer. Assumes nothing.
 use mathlib.Core.Path.{_≡_, refl, sym, ap, _∙_}
-use Prim.Native.Nat.{ℕ}
+use Prim.Native.Nat.{ℕ, zero, suc, _<_}
+use native.Mathlib.Omega.{arith}
 use mathlib.Core.List.{List}
 use mathlib.Core.Option.{some}
 use lib.ListN.{getD, set}
@@ -18,7 +19,7 @@ use Rattle.connection.specs.declared.Turn.{Turn}
 use Rattle.connection.specs.Halves.{sideIn}
 use Rattle.connection.specs.Faults.{withCode}
 use Rattle.connection.specs.Turned.{numbered, turn}
-use Rattle.demands.specs.Streams.{connCode, pick, streams}
+use Rattle.demands.specs.Streams.{connCode, streams}
 use Rattle.meaning.specs.NumberLaws.{code-high}
 use Rattle.demands.specs.Codes.{connection-back}
 use Rattle.demands.specs.Means.{slotAt, slotOf, rowOf, deadBy, connOf, pairOf, reportOf}

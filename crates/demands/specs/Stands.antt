@@ -4,7 +4,7 @@ use mathlib.Core.Path.{_≡_, refl, sym, subst}
 use Prim.Native.Nat.{ℕ, _≤_}
 use native.Mathlib.Decide.{decLe}
 use mathlib.Core.List.{List}
-use mathlib.Core.Logic.{_⊎_, inr}
+use mathlib.Core.Logic.{_⊎_, inl, inr}
 use lib.ListN.{length}
 use Rattle.rules.specs.Writer.{Write, refused, wrote}
 use Rattle.doors.specs.declared.Doors.{Doors}
@@ -42,15 +42,15 @@ kept-coded c n h = subst (λ x. Coded (x .code)) (kept-by (faulty n)) (by (fault
   where
     after : (Fault n ⊎ (Fault n → ⊥)) → Connection
     after (inl f) = withCode n c
-    after (inr no) = c
+    after (inr other) = c
 
     kept-by : (x : Fault n ⊎ (Fault n → ⊥)) → after x ≡ codeKept c n
     kept-by (inl f) = kept-fault c n f
-    kept-by (inr no) = kept-none c n no
+    kept-by (inr other) = kept-none c n other
 
     by : (x : Fault n ⊎ (Fault n → ⊥)) → Coded (after x .code)
     by (inl f) = inr f
-    by (inr no) = h
+    by (inr other) = h
 
 opened-code : {d : Doors} {id free : ℕ} {o : Opening} → Went d id free o → o .doors .code ≡ d .code
 opened-code (doors.refused n z) = refl

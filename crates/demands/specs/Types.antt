@@ -9,7 +9,7 @@ use mathlib.Core.Bool.{Bool, true, false, true≢false}
 use mathlib.Core.Option.{Option, none, some, Option·none-ne-some, Option·some-injective}
 use mathlib.Core.Logic.{_↔_, _⊎_, inl, inr}
 use lib.ListN.{take}
-use Rattle.rules.specs.Numbers.{ConnectionFault, stream-creation-error, of-stream, of-connection}
+use Rattle.rules.specs.Numbers.{ConnectionFault, stream-creation-error, of-stream, of-connection, Code}
 use Rattle.rules.specs.Text.{isOneOf}
 use Rattle.rules.specs.Control.{Control, control}
 use Rattle.rules.specs.OneWay as W
@@ -27,6 +27,8 @@ use Rattle.traces.specs.Alone.{call-on, dead-stays}
 use Rattle.traces.specs.Story.{Asks, asks, Story, story}
 use Rattle.traces.specs.Follow.{Agrees, open-still, over, agrees, not-running}
 use Rattle.traces.specs.Oneways.{Both, Says, says, Story₁, story₁, follows₁}
+use Rattle.meaning.specs.NumberLaws.{OfConnection}
+use Rattle.demands.specs.Codes.{one-way-listed}
 use Rattle.demands.specs.Streams.{Keeps, keptBy, came, typesIn, heardBy, closeOf, streams}
 use Rattle.demands.specs.Becomes.{Once, as-control, as-encoder, as-decoder, isFor, typeNumber, Unseen, type-unseen}
 use Rattle.demands.specs.Moves.{alone}
@@ -171,10 +173,11 @@ turns seen allow O.in-skipped s piece e c q = let z : O.in-skipped ≡ s = cc in
 module _ (k : Keeps) (w : O.OneState) where
   fed-next : (u h : ℕ) (e : O.OneEvent) (o : O.OneOutcome) → ((s : O.OneState) → o ≡ O.lives s → (c : Once) → isFor w ≡ some c → isFor s ≡ some c)
       → ((s : O.OneState) → o ≡ O.lives s → (c : Once) → isFor s ≡ some c → (isFor w ≡ some c) ⊎ (has c k ≡ false))
-      → Next k (telling w) (mapOut (λ (x : Both streams). record { stream = telling (x .state); kept = x .kept }) (ofFed (heardBy k u h e o)))
+      → ((n : Code) → o ≡ O.dies n → OfConnection n) → Next k (telling w) (mapOut (λ (x : Both streams). record { stream = telling (x .state); kept = x .kept }) (ofFed (heardBy k u h e o)))
   unfolding heardBy mapOut ofFed streamIs
-  fed-next u h e (O.lives s) l m = record { new = λ c z. kept-new k s c z; keeps = λ c z. l s refl c z; grows = λ c z. kept-grows k s c z; becomes = λ c z. kept-so k s c c z refl; only = λ c z. m s refl c z }
-  fed-next u h e (O.dies n) l m = tt
+  fed-next u h e (O.lives s) l m d = record { new = λ c z. kept-new k s c z; keeps = λ c z. l s refl c z; grows = λ c z. kept-grows k s c z; becomes = λ c z. kept-so k s c c z refl; only = λ c z. m s refl c z }
+  fed-next u h e (O.dies (of-stream n)) l m d = absurd (d (of-stream n) refl)
+  fed-next u h e (O.dies (of-connection n)) l m d = tt
 
 close-next : (k : Keeps) (w : O.OneState) → Next k (telling w) (mapOut (λ (x : Both streams). record { stream = telling (x .state); kept = x .kept }) (ofClosed (closeOf w)))
 unfolding mapOut ofClosed closeOf streamIs isFor
@@ -186,7 +189,7 @@ close-next k O.in-skipped = refl
 nexts : (k : Keeps) (s : Stream streams) (o : Own streams) → Next k s (actOn k s o)
 unfolding actOn act₁ mapOut
 nexts k (asking r) o = asks-next k r (act streams r o)
-nexts k (telling w) (feed allow piece) = let f = O.feed (typesIn k) allow w piece in fed-next k w (f .used) (f .heads) (f .event) (f .after) (λ s e. stays (typesIn k) allow w s piece e) (λ s e c z. unseen-has k c (isFor w ≡ some c) (turns (typesIn k) allow w s piece e c z))
+nexts k (telling w) (feed allow piece) = let f = O.feed (typesIn k) allow w piece in fed-next k w (f .used) (f .heads) (f .event) (f .after) (λ s e. stays (typesIn k) allow w s piece e) (λ s e c z. unseen-has k c (isFor w ≡ some c) (turns (typesIn k) allow w s piece e c z)) (λ n e. one-way-listed (typesIn k) allow w piece n e)
 nexts k (telling w) (section b) = tt
 nexts k (telling w) end = close-next k w
 nexts k (telling w) reset = close-next k w

@@ -488,7 +488,7 @@ as-frame sent room id {bytes} e = by (badGoaway sent id) e
     by false e = e
 
 module _ (d : Doors) (id : ℕ) (before after : List ℕ) where
-  sent-by : (code : Code) (g : Goaway) → g ≡ sendingOf d (stream-id id) (writeOf code d id (length before)) → after ≡ leftIn (writeOf code d id (length before)) before → g .number ≡ 0
+  sent-by : (code : ℕ) (g : Goaway) → g ≡ sendingOf d (stream-id id) (writeOf code d id (length before)) → after ≡ leftIn (writeOf code d id (length before)) before → g .number ≡ 0
       → Put (write-integer-frame (length before) 7 id) before after (g .count)
   unfolding writeOf sendingOf leftIn
   sent-by (suc c) g e f z = let x : g .number ≡ suc c = ap (λ y. y .number) e in absurd (omega arith)

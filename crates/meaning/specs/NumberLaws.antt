@@ -15,7 +15,6 @@ abbrev pub EachRow : (n : ℕ) → (Answer → Type 0) → List Answer → Type 
 EachRow n P [] = Unit {0}
 EachRow n P (a ∷ rest) = (n ≡ numberOf a → P a) × EachRow n P rest
 
-
 match : (n : ℕ) (P : Answer → Type 0) (a : Answer) {or : Answer} → (n ≡ numberOf a → P a) → P or → (x : Bool) → eqb n (numberOf a) ≡ x → P (elim x [ true ↦ a | false ↦ or ])
 match n P a this or true e = this (eqb→eq n (numberOf a) (rw e tt))
 match n P a this or false e = or
