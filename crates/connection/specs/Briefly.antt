@@ -11,7 +11,7 @@ use Rattle.connection.specs.declared.Connection.{Connection}
 use Rattle.connection.specs.declared.Found.{Found}
 use Rattle.connection.specs.declared.Report.{Report}
 use Rattle.connection.specs.declared.Brief.{Brief}
-use Rattle.connection.specs.Faults.{kept-none}
+use Rattle.connection.specs.Faults.{kept-small}
 use Rattle.connection.specs.Turned.{told, numbered, turn, Turned}
 use Rattle.connection.specs.Ways.{asks-feed, on-request}
 
@@ -33,6 +33,6 @@ module _ {code : ℕ} {f : Found} {allow : ℕ} {piece : List ℕ} where
   briefly-so l z w k {a} keeps = record {
     turns = λ y c id e.
         on-request id allow (record { long = l; alive = e ∙ z }) (λ x. omega arith) w {a = a} k (asks-feed (f .row) 1 allow piece refl (keeps y .0))
-        (ap (λ x. turn x (a .row) (told (a .number) (a .event) (a .start) (a .len) (a .used) (a .heads) 0)) (kept-none c (a .number) (λ h. omega (arith, y, h .0))));
+        (ap (λ x. turn x (a .row) (told (a .number) (a .event) (a .start) (a .len) (a .used) (a .heads) 0)) (kept-small c (a .number) (omega arith)));
     alters = λ y. keeps y .1;
   }

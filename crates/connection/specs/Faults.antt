@@ -1,26 +1,25 @@
 -- What a connection fault does: the code is kept, all else is as before (document 01's last table). Assumes nothing.
 use mathlib.Core.Path.{_≡_, refl, sym, ap, _∙_}
-use Prim.Native.Nat.{ℕ, zero, suc, _+_, _-_, _≤_, _<_}
+use Prim.Native.Nat.{ℕ, _≤_}
 use native.Mathlib.Omega.{arith}
+use mathlib.Core.List.{_∷_}
 use mathlib.Core.Bool.{Bool, true, false}
+use mathlib.Core.Logic.{_⊎_, inl, inr}
 use mathlib.Core.Option.{Option, none, some}
-use Rattle.rules.specs.Numbers.{Leaves, nothing-altered, id-unspent, untouched, record-freed, code-kept, Row, numbers, rowIn, rowOf}
-use Rattle.requests.specs.Severity.{row-view}
+use Rattle.rules.specs.Numbers.{ConnectionFault, stream-creation-error, closed-critical-stream, frame-unexpected, frame-error, excessive-load, id-error, settings-error, missing-settings, StreamFault, of-stream, of-connection, Answer, accepted, refusal, fault, other, codeNumber, numberOf, rows, named, Leaves, nothing-altered, id-unspent, untouched, record-freed, code-kept, houseLeaves, leaves}
+use Rattle.meaning.specs.NumberLaws.{name-view, named-exact, fault-named, code-high}
 use Rattle.doors.specs.declared.Doors.{Doors}
 use Rattle.connection.specs.declared.Connection.{Connection}
 use Rattle.connection.specs.Halves.{withDoors}
 
 -- document 01's last table says which numbers are kept
-unfoldable pub keeps : Leaves → Bool
-keeps nothing-altered = false
-keeps id-unspent = false
-keeps untouched = false
-keeps record-freed = false
-keeps code-kept = true
-
-unfoldable pub keepsRow : Option Row → Bool
-keepsRow none = false
-keepsRow (some row) = keeps (row .leaves)
+unfoldable pub keeps : Option Leaves → Bool
+keeps none = false
+keeps (some nothing-altered) = false
+keeps (some id-unspent) = false
+keeps (some untouched) = false
+keeps (some record-freed) = false
+keeps (some code-kept) = true
 
 -- as before, but for the code
 abbrev pub coded : (code : ℕ) → Doors → Doors
@@ -35,48 +34,69 @@ keptIf false code d = d
 
 -- THE DOORS THAT A NUMBER LEAVES
 abbrev pub codeIn : Doors → (number : ℕ) → Doors
-codeIn d n = keptIf (keepsRow (rowOf n)) n d
+codeIn d n = keptIf (keeps (leaves (named n))) n d
 
 -- THE CONNECTION THAT A NUMBER LEAVES
 abbrev pub codeKept : Connection → (number : ℕ) → Connection
 codeKept c n = withDoors c (codeIn (c .doors) n)
 
--- ---- laws: the numbers from 0x0103 to 0x010a, and no other
+-- ---- laws
 
-fault-kept : (k : ℕ) → k < 8 → keepsRow (rowOf (0x0103 + k)) ≡ true
-unfolding rowOf rowIn numbers keepsRow keeps
-fault-kept zero h = refl
-fault-kept (suc zero) h = refl
-fault-kept (suc (suc zero)) h = refl
-fault-kept (suc (suc (suc zero))) h = refl
-fault-kept (suc (suc (suc (suc zero)))) h = refl
-fault-kept (suc (suc (suc (suc (suc zero))))) h = refl
-fault-kept (suc (suc (suc (suc (suc (suc zero)))))) h = refl
-fault-kept (suc (suc (suc (suc (suc (suc (suc zero))))))) h = refl
-fault-kept (suc (suc (suc (suc (suc (suc (suc (suc k)))))))) h = absurd (omega arith)
-
+-- the number of a connection fault
 abbrev pub Fault : ℕ → Type 0
-Fault n = (0x0103 ≤ n) × (n ≤ 0x010a)
+Fault n = (f : ConnectionFault) × (n ≡ codeNumber (of-connection f))
 
-no-fault : (n : ℕ) → (Fault n → ⊥) → keepsRow (rowOf n) ≡ false
-unfolding rowOf numbers keepsRow keeps
-no-fault n other =
-    row-view n (λ o. keepsRow o ≡ false) numbers
-    ((λ e. refl), ((λ e. refl), ((λ e. refl), ((λ e. refl), ((λ e. refl), ((λ e. refl), ((λ e. refl), ((λ e. refl), ((λ e. refl), ((λ e. refl), ((λ e. refl), ((λ e. refl), ((λ e. refl), ((λ e. absurd (other (omega arith, omega arith))), ((λ e. absurd (other (omega arith, omega arith))), ((λ e. absurd (other (omega arith, omega arith))), ((λ e. absurd (other (omega arith, omega arith))), ((λ e. absurd (other (omega arith, omega arith))), ((λ e. absurd (other (omega arith, omega arith))), ((λ e. absurd (other (omega arith, omega arith))), ((λ e. absurd (other (omega arith, omega arith))), tt)))))))))))))))))))))
+-- a number is a connection fault's, or it is not
+pub faulty : (n : ℕ) → Fault n ⊎ (Fault n → ⊥)
+unfolding numberOf
+faulty n = by (named n) (named-exact n) (λ f e. ap named e ∙ fault-named (of-connection f))
+  where
+    by : (a : Answer) → numberOf a ≡ n → ((f : ConnectionFault) → n ≡ codeNumber (of-connection f) → a ≡ fault (of-connection f)) → Fault n ⊎ (Fault n → ⊥)
+    by accepted e back = inr (λ x. (let q = back (x .0) (x .1) in let z : _≡_ {A = ℕ} 0 1 = cc in omega arith))
+    by (refusal h) e back = inr (λ x. (let q = back (x .0) (x .1) in let z : _≡_ {A = ℕ} 0 1 = cc in omega arith))
+    by (fault (of-stream f)) e back = inr (λ x. (let q = back (x .0) (x .1) in let z : _≡_ {A = ℕ} 0 1 = cc in omega arith))
+    by (fault (of-connection f)) e back = inl (f, sym e)
+    by (other m) e back = inr (λ x. (let q = back (x .0) (x .1) in let z : _≡_ {A = ℕ} 0 1 = cc in omega arith))
+
+no-fault : (n : ℕ) → (Fault n → ⊥) → keeps (leaves (named n)) ≡ false
+unfolding named rows numberOf leaves houseLeaves keeps
+no-fault n none-is =
+    name-view n (λ a. keeps (leaves a) ≡ false) (accepted ∷ rows)
+    ((λ e. refl), ((λ e. refl), ((λ e. refl), ((λ e. refl), ((λ e. refl), ((λ e. refl), ((λ e. refl), ((λ e. refl), ((λ e. refl), ((λ e. refl), ((λ e. refl), ((λ e. refl), ((λ e. refl), ((λ e. refl), ((λ e. absurd (none-is (stream-creation-error, e))), ((λ e. absurd (none-is (closed-critical-stream, e))), ((λ e. absurd (none-is (frame-unexpected, e))), ((λ e. absurd (none-is (frame-error, e))), ((λ e. absurd (none-is (excessive-load, e))), ((λ e. absurd (none-is (id-error, e))), ((λ e. absurd (none-is (settings-error, e))), ((λ e. absurd (none-is (missing-settings, e))), tt))))))))))))))))))))))
     refl
 
-module _ (d : Doors) (n : ℕ) where
-  pub code-in : Fault n → coded n d ≡ codeIn d n
-  unfolding keptIf
-  code-in h = let e : 0x0103 + (n - 0x0103) ≡ n = omega arith in let q = ap (λ x. keepsRow (rowOf x)) (sym e) ∙ fault-kept (n - 0x0103) (omega arith) in rw q refl
+-- each of the numbers that are kept, and no other
+pub keeps-one : (f : ConnectionFault) (n : ℕ) → n ≡ codeNumber (of-connection f) → true ≡ keeps (leaves (named n))
+unfolding keeps leaves
+keeps-one f n e = let q = fault-named (of-connection f) in rw (e, q) refl
 
-  pub no-code-in : (Fault n → ⊥) → d ≡ codeIn d n
+pub keeps-none : (n : ℕ) → (Fault n → ⊥) → false ≡ keeps (leaves (named n))
+keeps-none n h = sym (no-fault n h)
+
+module _ (d : Doors) (n : ℕ) where
+  pub kept-so : {b : Bool} {e : Doors} → b ≡ keeps (leaves (named n)) → b ≡ true → e ≡ coded n d → e ≡ codeIn d n
   unfolding keptIf
-  no-code-in h = let q = no-fault n h in rw q refl
+  kept-so e t q = let k = sym e ∙ t in rw k q
+
+  pub kept-not : {b : Bool} → b ≡ keeps (leaves (named n)) → b ≡ false → d ≡ codeIn d n
+  unfolding keptIf
+  kept-not e f = let k = sym e ∙ f in rw k refl
 
 module _ (c : Connection) (n : ℕ) where
   pub kept-fault : Fault n → withCode n c ≡ codeKept c n
-  kept-fault h = ap (withDoors c) (code-in (c .doors) n h)
+  kept-fault (f, e) = ap (withDoors c) (kept-so (c .doors) n (keeps-one f n e) refl refl)
 
   pub kept-none : (Fault n → ⊥) → c ≡ codeKept c n
-  kept-none h = ap (withDoors c) (no-code-in (c .doors) n h)
+  kept-none h = ap (withDoors c) (kept-not (c .doors) n (keeps-none n h) refl)
+
+  -- 0 and the house's numbers keep nothing
+  pub kept-small : n ≤ 9 → c ≡ codeKept c n
+  kept-small l = kept-none (λ x. (let h = code-high (of-connection (x .0)) in let e = x .1 in omega arith))
+
+module _ (c : Connection) where
+  pub connection-keeps : (f : ConnectionFault) → codeKept c (codeNumber (of-connection f)) ≡ withCode (codeNumber (of-connection f)) c
+  connection-keeps f = sym (kept-fault c (codeNumber (of-connection f)) (f, refl))
+
+  pub stream-keeps-none : (f : StreamFault) → codeKept c (codeNumber (of-stream f)) ≡ c
+  unfolding keptIf keeps leaves
+  stream-keeps-none f = let e = fault-named (of-stream f) in rw e refl

@@ -11,7 +11,7 @@ use lib.Seq.{set-out, getD-set-same, getD-set-other}
 use Rattle.rules.specs.Message.{opening}
 use Rattle.rules.specs.Control.{Control}
 use Rattle.rules.specs.OneWay.{encoder, decoder}
-use Rattle.rules.specs.Numbers.{rowOf}
+use Rattle.rules.specs.Numbers.{named as answer-named, leaves, REQUEST-REJECTED}
 use Rattle.rules.specs.Writer.{Write, refused, wrote}
 use Rattle.meaning.specs.Machine.{State, between, fresh}
 use Rattle.meaning.specs.OneWayFeed.{OneState, in-stream-type, in-control, in-qpack, in-skipped, lives}
@@ -36,7 +36,7 @@ use Rattle.connection.specs.declared.Turn.{Turn}
 use Rattle.connection.specs.declared.Gone.{Gone}
 use Rattle.connection.specs.Whose.{Vacant, Belongs, FoundIn, wanted-belongs}
 use Rattle.connection.specs.Halves.{stream-id, doorsIn, withDoors, sideIn, withSide}
-use Rattle.connection.specs.Faults.{keepsRow, keptIf, codeKept}
+use Rattle.connection.specs.Faults.{keeps, keptIf, codeKept}
 use Rattle.connection.specs.Turned.{unaltered, firstAs, takenBy, freeAt, requestAs, oneWayAs, StaysOn, Turned, other-row, dead, opens, not-open, request, one-way, begunOf, sweptOf, GoesAway}
 use Rattle.connection.specs.Ways.{begun-fresh, swept-free, taken-none}
 use Rattle.connection.specs.Leavings as left
@@ -90,7 +90,7 @@ later-pair l p = record {
 -- the code alone
 later-code : {c d : Connection} (n : ℕ) → Later c d → Later c (codeKept d n)
 unfolding keptIf
-later-code {c} {d} n l = by (keepsRow (rowOf n))
+later-code {c} {d} n l = by (keeps (leaves (answer-named n)))
   where
     by : (b : Bool) → Later c (withDoors d (keptIf b n (d .doors)))
     by true = record { requests = l .requests; oneways = l .oneways; control = l .control }
@@ -241,7 +241,7 @@ module _ {c : Connection} {rows : List Record} (p : Paired c rows) (id : ℕ) wh
 
     after-opening : {o : Opening} → Went (doorsIn c) id free o → Paired (withDoors c (o .doors)) (set rows k (takenBy (o .number) id r))
     after-opening (doors.refused n z) = same-record p k later-same _ (sym (taken-none id r n z refl) ∙ was)
-    after-opening (barred m e) = same-record p k spent-request _ (sym (taken-none id r 0x010b (λ z. omega arith) refl) ∙ was)
+    after-opening (barred m e) = same-record p k spent-request _ (sym (taken-none id r REQUEST-REJECTED (λ z. omega arith) refl) ∙ was)
     after-opening (a-request m e l f) =
         leave p k spent-request _ (rw (first-is-request id r m) (record {
           known = inr (inl (begins-open id l m));

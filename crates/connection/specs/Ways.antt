@@ -9,7 +9,7 @@ use Rattle.rules.specs.Reading.{Verdict, whole, fault, waits}
 use Rattle.rules.specs.Message.{Message}
 use Rattle.rules.specs.Request.{document}
 use Rattle.rules.specs.Request as rules
-use Rattle.rules.specs.Numbers.{numbers, rowIn, rowOf}
+use Rattle.rules.specs.Numbers.{numberOf, rows as answers, namedIn, named as answer-named, houseLeaves, leaves, REQUEST-REJECTED}
 use Rattle.meaning.specs.Machine.{State, finish}
 use Rattle.meaning.specs.Hom.{map-state}
 use Rattle.meaning.specs.OneWayFeed.{OneState}
@@ -17,7 +17,7 @@ use Rattle.varint.specs.ByByte.{partOf}
 use Rattle.record.specs.declared.Record.{Record}
 use Rattle.record.specs.Row.{phaseOf, statedIn, isStated, lengthOf, sumIn, numbersOf, placeIn, recordAt, oneWayRecord, no-cells, free-record}
 use Rattle.requests.specs.declared.Reply.{Reply}
-use Rattle.requests.specs.Reply.{Open, stateIn, fedAs, givenAs, endedAs, endedBy, resetAs, freesRow, freedIf, Answered, shut, opened, Keeps}
+use Rattle.requests.specs.Reply.{Open, stateIn, fedAs, givenAs, endedAs, endedBy, resetAs, frees, freedIf, Answered, shut, opened, Keeps}
 use Rattle.doors.specs.declared.Doors.{Doors}
 use Rattle.doors.specs.declared.Opening.{Opening}
 use Rattle.doors.specs.declared.Goaway.{Goaway}
@@ -35,7 +35,7 @@ use Rattle.connection.specs.declared.Found.{Found}
 use Rattle.connection.specs.declared.Turn.{Turn}
 use Rattle.connection.specs.Whose.{Vacant}
 use Rattle.connection.specs.Halves.{stream-id, doorsIn, sideIn}
-use Rattle.connection.specs.Faults.{kept-none}
+use Rattle.connection.specs.Faults.{kept-small}
 use Rattle.connection.specs.Turned.{fresh-connection, numbered, turn, near, unaltered, firstAs, firstRecord, takenBy, freeAt, lets-in, let-in, opensAt, openedAt, byCall, requestAs, Asks, replied, oneWayAs, Hears, overheard, Alive, Turned, not-open, request, one-way, begunOf, sweptOf, goneBy, GoesAway}
 
 -- ---- start
@@ -98,10 +98,10 @@ opened-so d f id {n} {o} {q} {p} en eo eq ep =
 
 module _ (c : Connection) (f : Found) (id : ℕ) where
   -- AN OPENING THAT IS REFUSED ALTERS NOTHING, unless it was barred
-  pub opening-refused : let n = openedAt c f id .report .number in (n ≡ 0 → ⊥) → (n ≡ 0x010b → ⊥) → openedAt c f id ≡ unaltered n c f
+  pub opening-refused : let n = openedAt c f id .report .number in (n ≡ 0 → ⊥) → (n ≡ REQUEST-REJECTED → ⊥) → openedAt c f id ≡ unaltered n c f
   opening-refused = by (went (doorsIn c) id (freeAt (f .at)))
     where
-      by : {o : Opening} → Went (doorsIn c) id (freeAt (f .at)) o → (o .number ≡ 0 → ⊥) → (o .number ≡ 0x010b → ⊥) → let-in c f id o ≡ unaltered (o .number) c f
+      by : {o : Opening} → Went (doorsIn c) id (freeAt (f .at)) o → (o .number ≡ 0 → ⊥) → (o .number ≡ REQUEST-REJECTED → ⊥) → let-in c f id o ≡ unaltered (o .number) c f
       by (doors.refused n z) x y = ap (λ q. turn c q (numbered n)) (sym (taken-none id (f .row) n z refl))
       by (barred k e) x y = absurd (y refl)
       by (a-request k e l r) x y = absurd (x refl)
@@ -156,7 +156,7 @@ module _ (r : Record) (call allow : ℕ) (piece : List ℕ) {a : Reply} where
   asks-give e = keeps-on (by-give _ _ _ _ call e)
 
   pub asks-end : call ≡ 3 → Answered r (endedAs r) a → Asks r call allow piece a
-  unfolding endedBy freesRow freedIf numbers rowIn rowOf
+  unfolding endedBy frees freedIf numberOf answers namedIn answer-named houseLeaves leaves
   asks-end e x = record { answers = answered-as (by-end _ _ _ _ call e) x; stays = left x }
     where
       whole-free : Open r → (v : Verdict) → endedBy r v .number ≡ 0 → Open (endedBy r v .row) ⊎ Vacant (endedBy r v .row)
@@ -202,7 +202,7 @@ module _ {c : Connection} {f : Found} {call : ℕ} (id allow : ℕ) {piece : Lis
         none s x (inr h) = let z = h .kind in omega arith
 
         by : Answered (f .row) (requestAs call allow piece (f .row)) a → Turned c f call id allow piece t
-        by (shut s e) = not-open live n (none s) (q ∙ ap (replied c) e ∙ ap (λ x. turn x (f .row) (numbered 1)) (sym (kept-none c 1 (λ x. omega arith))))
+        by (shut s e) = not-open live n (none s) (q ∙ ap (replied c) e ∙ ap (λ x. turn x (f .row) (numbered 1)) (sym (kept-small c 1 (omega arith))))
         by (opened o e) = request live n w o (q ∙ ap (replied c) e) (rw q (m .stays))
 
     pub on-one-way : {d : Side} {a : Heard} → (f .row .kind ≡ 1 → ⊥) → d ≡ sideIn c → Hears (f .row) d call allow piece a → t ≡ overheard c a → Turned c f call id allow piece t
@@ -216,7 +216,7 @@ module _ {c : Connection} {f : Found} {call : ℕ} (id allow : ℕ) {piece : Lis
         by m = go (m .answers)
           where
             go : HeardAs (f .row) (sideIn c) (oneWayAs call allow piece (f .row) (sideIn c)) a → Turned c f call id allow piece t
-            go (side.shut s x) = not-open live n (none s) (q ∙ ap (overheard c) x ∙ ap (λ x. turn x (f .row) (numbered 1)) (sym (kept-none c 1 (λ x. omega arith))))
+            go (side.shut s x) = not-open live n (none s) (q ∙ ap (overheard c) x ∙ ap (λ x. turn x (f .row) (numbered 1)) (sym (kept-small c 1 (omega arith))))
             go (side.opened o x) = one-way live n w o (q ∙ ap (overheard c) x) (rw x at (m .stays o))
 
 -- ---- our GOAWAY

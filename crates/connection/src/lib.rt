@@ -10,7 +10,8 @@ ghost use lib.ListN.{length};
 ghost use Rattle.record.specs.Sound.{Decides};
 ghost use Rattle.connection.specs.Whose.{Wanted};
 ghost use Rattle.record.specs.Row.{recordAt, no-cells};
-ghost use Rattle.connection.specs.Faults.{codeIn};
+ghost use Rattle.rules.specs.Numbers.{leaves, named};
+ghost use Rattle.connection.specs.Faults.{keeps, codeIn};
 ghost use Rattle.connection.specs.Turned.{fresh-connection, numbered, stays, firstRecord, takenBy, freeAt, opensAt, Asks, replies, Hears, overhears, Turned, begunOf, sweptOf, GoesAway};
 ghost use Rattle.connection.specs.Nearly.{Nearly};
 ghost use Rattle.connection.specs.Briefly.{Briefly};
@@ -113,19 +114,33 @@ fn refused(number: u64, d: Doors, f: Found) -> Near
     }
 }
 
+// Whether document 01's last table has a number's code kept.
+fn keeps_code(number: u64) -> bool
+    ensures { λ r. ⌜ r ≡ keeps (leaves (named number)) ⌝ }
+{
+    match number {
+        rules::STREAM_CREATION_ERROR
+        | rules::CLOSED_CRITICAL_STREAM
+        | rules::FRAME_UNEXPECTED
+        | rules::FRAME_ERROR
+        | rules::EXCESSIVE_LOAD
+        | rules::ID_ERROR
+        | rules::SETTINGS_ERROR
+        | rules::MISSING_SETTINGS => true,
+        _ => false,
+    }
+}
+
 // A connection fault: the code is kept.
 fn code_kept(d: Doors, number: u64) -> Doors
     ensures { λ r. ⌜ r ≡ codeIn d number ⌝ }
 {
-    if number < 0x0103 {
-        return d;
+    if keeps_code(number) {
+        let mut dead = d;
+        dead.code = number;
+        return dead;
     }
-    if 0x010a < number {
-        return d;
-    }
-    let mut dead = d;
-    dead.code = number;
-    dead
+    d
 }
 
 // ---- the row

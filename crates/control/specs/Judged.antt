@@ -7,6 +7,7 @@ use mathlib.Core.Bool.{Bool, true, false}
 use mathlib.Core.Option.{Option, none, some}
 use lib.Dec.{ltb}
 use borrow.Author.Tests.{lt-ltb, le-ltb}
+use Rattle.rules.specs.Numbers.{FRAME-UNEXPECTED, FRAME-ERROR, ID-ERROR}
 use Rattle.rules.specs.Integers.{integer}
 use Rattle.rules.specs.Reading.{Next, stop, go}
 use Rattle.rules.specs.Control.{Settings, settings-of, only}
@@ -18,6 +19,7 @@ use Rattle.settings.specs.declared.Judged.{Judged}
 use Rattle.settings.specs.declared.Judged.the-variants as judgement
 use Rattle.settings.specs.declared.Single.{Single}
 use Rattle.settings.specs.declared.Single.the-variants as single
+use Rattle.meaning.specs.NumberLaws.{Numbered, stops, goes, numbered}
 use Rattle.settings.specs.Answers.{settingsIs, judgedIs, singleIs}
 use Rattle.control.specs.declared.Kept.{Kept}
 use Rattle.control.specs.declared.Verdict.{Verdict}
@@ -27,8 +29,8 @@ push-id n = record { 0 = n }
 
 -- ---- the answer
 
-abbrev pub refusal : (code : ℕ) → Kept → Verdict
-refusal code k = record { number = code; event = 0; id = push-id 0; kept = k }
+abbrev pub refusal : (number : ℕ) → Kept → Verdict
+refusal number k = record { number = number; event = 0; id = push-id 0; kept = k }
 
 abbrev pub settled : (limited size capacity blocked : ℕ) → Kept
 settled limited size capacity blocked =
@@ -41,9 +43,9 @@ limitsOf (some n) c b = settled 1 n c b
 abbrev pub settingsKept : Settings → Kept
 settingsKept s = limitsOf (s .section-size) (s .table-capacity) (s .blocked-streams)
 
-unfoldable pub settingsOf : Kept → Next Settings → Verdict
-settingsOf k (stop code) = refusal code k
-settingsOf k (go s) = record { number = 0; event = 8; id = push-id 0; kept = settingsKept s }
+unfoldable pub settingsOf : Kept → Numbered Settings → Verdict
+settingsOf k (stops number) = refusal number k
+settingsOf k (goes s) = record { number = 0; event = 8; id = push-id 0; kept = settingsKept s }
 
 abbrev pub goawayTaken : Kept → PushId → Verdict
 goawayTaken k id = record {
@@ -88,32 +90,32 @@ unless (suc h) true good refused = refused
 unless (suc h) false good refused = good
 
 unfoldable pub goawayOf : Kept → PushId → Verdict
-goawayOf k id = unless (k .goaways) (ltb (k .goaway .0) (id .0)) (goawayTaken k id) (refusal 0x0108 k)
+goawayOf k id = unless (k .goaways) (ltb (k .goaway .0) (id .0)) (goawayTaken k id) (refusal ID-ERROR k)
 
 unfoldable pub maxPushOf : Kept → PushId → Verdict
-maxPushOf k id = unless (k .pushes) (ltb (id .0) (k .push .0)) (maxPushTaken k id) (refusal 0x0108 k)
+maxPushOf k id = unless (k .pushes) (ltb (id .0) (k .push .0)) (maxPushTaken k id) (refusal ID-ERROR k)
 
 -- 8 SETTINGS, 9 GOAWAY, 10 MAX_PUSH_ID, else CANCEL_PUSH
 unfoldable pub idOf : (which : ℕ) → Kept → PushId → Verdict
-idOf (suc (suc (suc (suc (suc (suc (suc (suc zero)))))))) k id = refusal 0x0105 k
+idOf (suc (suc (suc (suc (suc (suc (suc (suc zero)))))))) k id = refusal FRAME-UNEXPECTED k
 idOf (suc (suc (suc (suc (suc (suc (suc (suc (suc zero))))))))) k id = goawayOf k id
 idOf (suc (suc (suc (suc (suc (suc (suc (suc (suc (suc zero)))))))))) k id = maxPushOf k id
-idOf (suc (suc (suc (suc (suc (suc (suc (suc (suc (suc (suc n))))))))))) k id = refusal 0x0108 k
-idOf zero k id = refusal 0x0108 k
-idOf (suc zero) k id = refusal 0x0108 k
-idOf (suc (suc zero)) k id = refusal 0x0108 k
-idOf (suc (suc (suc zero))) k id = refusal 0x0108 k
-idOf (suc (suc (suc (suc zero)))) k id = refusal 0x0108 k
-idOf (suc (suc (suc (suc (suc zero))))) k id = refusal 0x0108 k
-idOf (suc (suc (suc (suc (suc (suc zero)))))) k id = refusal 0x0108 k
-idOf (suc (suc (suc (suc (suc (suc (suc zero))))))) k id = refusal 0x0108 k
+idOf (suc (suc (suc (suc (suc (suc (suc (suc (suc (suc (suc n))))))))))) k id = refusal ID-ERROR k
+idOf zero k id = refusal ID-ERROR k
+idOf (suc zero) k id = refusal ID-ERROR k
+idOf (suc (suc zero)) k id = refusal ID-ERROR k
+idOf (suc (suc (suc zero))) k id = refusal ID-ERROR k
+idOf (suc (suc (suc (suc zero)))) k id = refusal ID-ERROR k
+idOf (suc (suc (suc (suc (suc zero))))) k id = refusal ID-ERROR k
+idOf (suc (suc (suc (suc (suc (suc zero)))))) k id = refusal ID-ERROR k
+idOf (suc (suc (suc (suc (suc (suc (suc zero))))))) k id = refusal ID-ERROR k
 
 unfoldable pub integerOf : (which : ℕ) → Kept → Option ℕ → Verdict
-integerOf which k none = refusal 0x0106 k
+integerOf which k none = refusal FRAME-ERROR k
 integerOf which k (some id) = idOf which k (push-id id)
 
 unfoldable pub payloadOf : (set which : ℕ) → Kept → List ℕ → Verdict
-payloadOf zero which k payload = settingsOf k (settings-of payload)
+payloadOf zero which k payload = settingsOf k (numbered (settings-of payload))
 payloadOf (suc n) which k payload = integerOf which k (only (integer 0 payload))
 
 -- THE ANSWER to a complete payload
@@ -130,13 +132,13 @@ pub size-limited : (s : kept-settings.Settings) {r : Kept} {n : ℕ} → s .size
 unfolding limitsOf
 size-limited s e f = f ∙ rw e refl
 
-module _ (k : Kept) (payload : List ℕ) (a : Judged) (met : judgedIs a ≡ settings-of payload) where
-  pub settings-refused : {code : ℕ} {r : Verdict} → a ≡ judgement.Refused code → r ≡ refusal code k → r ≡ settingsOf k (settings-of payload)
+module _ (k : Kept) (payload : List ℕ) (a : Judged) (met : judgedIs a ≡ numbered (settings-of payload)) where
+  pub settings-refused : {number : ℕ} {r : Verdict} → a ≡ judgement.Refused number → r ≡ refusal number k → r ≡ settingsOf k (numbered (settings-of payload))
   unfolding settingsOf
   settings-refused e f = f ∙ ap (λ x. settingsOf k (judgedIs x)) (sym e) ∙ ap (settingsOf k) met
 
   pub settings-kept : {s : kept-settings.Settings} {q : Kept} → a ≡ judgement.Kept s → q ≡ settingsKept (settingsIs s)
-      → _≡_ {A = Verdict} (record { number = 0; event = 8; id = push-id 0; kept = q }) (settingsOf k (settings-of payload))
+      → _≡_ {A = Verdict} (record { number = 0; event = 8; id = push-id 0; kept = q }) (settingsOf k (numbered (settings-of payload)))
   unfolding settingsOf
   settings-kept e f = ap (λ x. record { number = 0; event = 8; id = push-id 0; kept = x }) f ∙ ap (λ x. settingsOf k (judgedIs x)) (sym e) ∙ ap (settingsOf k) met
 
@@ -166,7 +168,7 @@ module _ (k : Kept) (id : PushId) {r : Verdict} where
   unfolding goawayOf
   goaway-first e f = f ∙ unless-none (k .goaways) _ _ _ e
 
-  pub goaway-above : (k .goaways ≡ 0 → ⊥) → k .goaway .0 < id .0 → r ≡ refusal 0x0108 k → r ≡ goawayOf k id
+  pub goaway-above : (k .goaways ≡ 0 → ⊥) → k .goaway .0 < id .0 → r ≡ refusal ID-ERROR k → r ≡ goawayOf k id
   unfolding goawayOf
   goaway-above n h f = f ∙ unless-bad (k .goaways) _ _ _ n (lt-ltb _ _ h)
 
@@ -178,7 +180,7 @@ module _ (k : Kept) (id : PushId) {r : Verdict} where
   unfolding maxPushOf
   max-push-first e f = f ∙ unless-none (k .pushes) _ _ _ e
 
-  pub max-push-below : (k .pushes ≡ 0 → ⊥) → id .0 < k .push .0 → r ≡ refusal 0x0108 k → r ≡ maxPushOf k id
+  pub max-push-below : (k .pushes ≡ 0 → ⊥) → id .0 < k .push .0 → r ≡ refusal ID-ERROR k → r ≡ maxPushOf k id
   unfolding maxPushOf
   max-push-below n h f = f ∙ unless-bad (k .pushes) _ _ _ n (lt-ltb _ _ h)
 
@@ -194,11 +196,11 @@ module _ (k : Kept) (id : PushId) {r : Verdict} where
   unfolding idOf
   id-max-push which e f = f ∙ rw e refl
 
-  pub id-settings : (which : ℕ) → which ≡ 8 → r ≡ refusal 0x0105 k → r ≡ idOf which k id
+  pub id-settings : (which : ℕ) → which ≡ 8 → r ≡ refusal FRAME-UNEXPECTED k → r ≡ idOf which k id
   unfolding idOf
   id-settings which e f = f ∙ rw e refl
 
-  pub id-cancel : (which : ℕ) → (which ≡ 9 → ⊥) → (which ≡ 10 → ⊥) → (which ≡ 8 → ⊥) → r ≡ refusal 0x0108 k → r ≡ idOf which k id
+  pub id-cancel : (which : ℕ) → (which ≡ 9 → ⊥) → (which ≡ 10 → ⊥) → (which ≡ 8 → ⊥) → r ≡ refusal ID-ERROR k → r ≡ idOf which k id
   unfolding idOf
   id-cancel zero a b d f = f
   id-cancel (suc zero) a b d f = f
@@ -214,7 +216,7 @@ module _ (k : Kept) (id : PushId) {r : Verdict} where
   id-cancel (suc (suc (suc (suc (suc (suc (suc (suc (suc (suc (suc n))))))))))) a b d f = f
 
 module _ (which : ℕ) (k : Kept) (payload : List ℕ) (a : Single) (met : singleIs a ≡ only (integer 0 payload)) {r : Verdict} where
-  pub integer-not : a ≡ single.Not → r ≡ refusal 0x0106 k → r ≡ integerOf which k (only (integer 0 payload))
+  pub integer-not : a ≡ single.Not → r ≡ refusal FRAME-ERROR k → r ≡ integerOf which k (only (integer 0 payload))
   unfolding integerOf
   integer-not e f = f ∙ ap (λ x. integerOf which k (singleIs x)) (sym e) ∙ ap (integerOf which k) met
 
@@ -223,7 +225,7 @@ module _ (which : ℕ) (k : Kept) (payload : List ℕ) (a : Single) (met : singl
   integer-is e f = f ∙ ap (λ x. integerOf which k (singleIs x)) (sym e) ∙ ap (integerOf which k) met
 
 module _ (which : ℕ) (k : Kept) (payload : List ℕ) {r : Verdict} where
-  pub judged-settings : k .set ≡ 0 → r ≡ settingsOf k (settings-of payload) → r ≡ judgedOf which k payload
+  pub judged-settings : k .set ≡ 0 → r ≡ settingsOf k (numbered (settings-of payload)) → r ≡ judgedOf which k payload
   unfolding payloadOf
   judged-settings e f = f ∙ rw e refl
 

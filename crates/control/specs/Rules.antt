@@ -5,11 +5,13 @@ use mathlib.Core.List.{List}
 use mathlib.Core.Bool.{Bool, true, false}
 use mathlib.Core.Option.{Option, none, some}
 use lib.Dec.{ltb}
+use Rattle.rules.specs.Numbers.{ID-ERROR, codeNumber}
 use Rattle.rules.specs.Integers.{integer}
 use Rattle.rules.specs.Reading.{Kept as Payload, settings, goaway, max-push-id, cancel-push, Next, stop, go}
 use Rattle.rules.specs.Control.{Settings, settings-of, Control, unset, set, only, above, below, after-goaway, after-max-push, after-integer, after-settings, judged, Told, told-settings, told-goaway, told-max-push-id, told-nothing, settings-in, id-in, tells}
 use Rattle.ids.specs.declared.PushId.{PushId}
 use Rattle.streams.specs.Answers.{keptAt}
+use Rattle.meaning.specs.NumberLaws.{numbered}
 use Rattle.control.specs.declared.Kept.{Kept}
 use Rattle.control.specs.declared.Verdict.{Verdict}
 use Rattle.control.specs.Judged.{push-id, refusal, settled, limitsOf, settingsKept, settingsOf, goawayTaken, maxPushTaken, unless, goawayOf, maxPushOf, idOf, integerOf, payloadOf, judgedOf}
@@ -47,7 +49,7 @@ toldAt (suc (suc (suc (suc (suc (suc (suc zero))))))) id k = told-nothing
 
 -- an answer says this of the rules' next place: the code, all as it was and nothing told; or 0, that place, and what the payload tells
 unfoldable pub Says : Kept → (told : Told) → Verdict → Next Control → Type 0
-Says k told r (stop code) = r ≡ refusal code k
+Says k told r (stop code) = r ≡ refusal (codeNumber code) k
 Says k told r (go c) = (r .number ≡ 0) × (controlOf (r .kept) ≡ c) × (toldAt (r .event) (r .id) (r .kept) ≡ told)
 
 -- ---- SETTINGS
@@ -58,8 +60,8 @@ unfolding limitsOf controlAt someIf toldAt
 limits-back none c b = (refl, refl)
 limits-back (some n) c b = (refl, refl)
 
-settings-say : (k : Kept) (n : Next Settings) → Says k (settings-in n) (settingsOf k n) (after-settings n)
-unfolding Says settingsOf after-settings settings-in
+settings-say : (k : Kept) (n : Next Settings) → Says k (settings-in n) (settingsOf k (numbered n)) (after-settings n)
+unfolding numbered Says settingsOf after-settings settings-in
 settings-say k (stop code) = refl
 settings-say k (go s) = let q = limits-back (s .section-size) (s .table-capacity) (s .blocked-streams) in (refl, q .0, q .1)
 
@@ -74,14 +76,14 @@ module _ (k : Kept) where
 
 module _ (k : Kept) (id : ℕ) where
   goaway-say : (has : ℕ) (bad : Bool) → ltb (k .goaway .0) id ≡ bad
-      → Says k (told-goaway id) (unless has bad (goawayTaken k (push-id id)) (refusal 0x0108 k)) (after-goaway (limitsIs k) (someIf has (k .goaway .0)) (max-push-kept k) id)
+      → Says k (told-goaway id) (unless has bad (goawayTaken k (push-id id)) (refusal ID-ERROR k)) (after-goaway (limitsIs k) (someIf has (k .goaway .0)) (max-push-kept k) id)
   unfolding Says unless after-goaway above someIf controlAt toldAt
   goaway-say zero bad e = (refl, refl, refl)
   goaway-say (suc has) true e = rw (e, after-goaway, above, someIf) refl
   goaway-say (suc has) false e = rw (e, after-goaway, above, someIf) (refl, refl, refl)
 
   max-push-say : (has : ℕ) (bad : Bool) → ltb id (k .push .0) ≡ bad
-      → Says k (told-max-push-id id) (unless has bad (maxPushTaken k (push-id id)) (refusal 0x0108 k)) (after-max-push (limitsIs k) (goaway-kept k) (someIf has (k .push .0)) id)
+      → Says k (told-max-push-id id) (unless has bad (maxPushTaken k (push-id id)) (refusal ID-ERROR k)) (after-max-push (limitsIs k) (goaway-kept k) (someIf has (k .push .0)) id)
   unfolding Says unless after-max-push below someIf controlAt toldAt
   max-push-say zero bad e = (refl, refl, refl)
   max-push-say (suc has) true e = rw (e, after-max-push, below, someIf) refl
@@ -94,7 +96,7 @@ module _ (k : Kept) (id : ℕ) where
   id-told max-push-id = told-max-push-id id
   id-told cancel-push = told-nothing
 
-  cancel-say : (told : Told) → Says k told (refusal 0x0108 k) (after-integer cancel-push (limitsIs k) (goaway-kept k) (max-push-kept k) (some id))
+  cancel-say : (told : Told) → Says k told (refusal ID-ERROR k) (after-integer cancel-push (limitsIs k) (goaway-kept k) (max-push-kept k) (some id))
   unfolding Says after-integer
   cancel-say told = refl
 

@@ -7,6 +7,7 @@ use settings::Single;
 ghost use mathlib.Core.Path.{_≡_};
 ghost use Rattle.settings.specs.Answers.{settingsIs};
 ghost use Rattle.rules.specs.Integers.{integer};
+ghost use Rattle.meaning.specs.NumberLaws.{numbered};
 ghost use Rattle.rules.specs.Control.{settings-of, only};
 ghost use Rattle.control.specs.Judged.{refusal, settled, settingsKept, settingsOf, goawayTaken, maxPushTaken, goawayOf, maxPushOf, idOf, integerOf, judgedOf};
 
@@ -73,7 +74,7 @@ fn keep_settings(s: Settings) -> Kept
 }
 
 fn judge_settings(kept: Kept, payload: &[u8]) -> Verdict
-    ensures { λ r. ⌜ r ≡ settingsOf kept (settings-of (now (payload .entry))) ⌝ }
+    ensures { λ r. ⌜ r ≡ settingsOf kept (numbered (settings-of (now (payload .entry)))) ⌝ }
 {
     match settings::judge(payload) {
         Judged::Refused(code) => refused(code, kept),

@@ -4,6 +4,7 @@ use Prim.Native.Nat.{ℕ}
 use mathlib.Core.List.{List, [], _∷_}
 use mathlib.Core.Bool.{Bool, true, false}
 use mathlib.Core.Option.{Option, none, some, Option·none-ne-some, Option·some-injective}
+use Rattle.rules.specs.Numbers.{of-connection, stream-creation-error}
 use Rattle.rules.specs.Text.{isOneOf}
 use Rattle.rules.specs.Control.{Control}
 use Rattle.rules.specs.OneWay as W
@@ -47,7 +48,7 @@ module _ (seen : List ℕ) where
   unfolding W.once
   once-unseen t k l = go (isOneOf seen t) refl
     where
-      go : (x : Bool) → isOneOf seen t ≡ x → UnseenType (elim x [ true ↦ W.refuse 0x0103 | false ↦ W.is k ])
+      go : (x : Bool) → isOneOf seen t ≡ x → UnseenType (elim x [ true ↦ W.refuse (of-connection stream-creation-error) | false ↦ W.is k ])
       go true e = tt
       go false e = l e
 

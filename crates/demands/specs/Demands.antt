@@ -7,6 +7,7 @@ use mathlib.Core.List.{List, [], _∷_, _++_}
 use mathlib.Core.Option.{some}
 use mathlib.Core.Logic.{_↔_}
 use lib.ListN.{length}
+use Rattle.rules.specs.Numbers.{Code}
 use Rattle.rules.specs.Frames.{framesFrom}
 use Rattle.rules.specs.Reading.{whole}
 use Rattle.rules.specs.Request.{document}
@@ -14,7 +15,7 @@ use Rattle.rules.specs.Control.{Control}
 use Rattle.rules.specs.Legal.{Legal}
 use Rattle.rules.specs.OneWay.{oneWay}
 use Rattle.meaning.specs.Whole.{whole-iff-legal}
-use Rattle.traces.specs.Stream.{Code, Own, feed, section, end, reset}
+use Rattle.traces.specs.Stream.{Own, feed, section, end, reset}
 use Rattle.traces.specs.Board.{request, one-way, kindOf, Call, on, fresh, call, run, trace}
 use Rattle.traces.specs.View.{running, ended, refused, view}
 use Rattle.traces.specs.Follow.{Agrees}

@@ -3,13 +3,14 @@
 use mathlib.Core.Path.{_≡_, refl, subst}
 use Prim.Native.Nat.{ℕ}
 use mathlib.Core.List.{List}
+use Rattle.rules.specs.Numbers.{Code}
 use Rattle.rules.specs.Block.{Section}
 use Rattle.rules.specs.Reading.{Next, stop, go}
 use Rattle.rules.specs.Message.{Message}
 use Rattle.rules.specs.Request.{document, request, given as next-given}
 use Rattle.meaning.specs.Machine.{State, in-type, in-length, in-payload, due, Outcome, lives, dies, answered, given}
 use Rattle.meaning.specs.Feed.{feed}
-use Rattle.demands.specs.Codes.{OfStream}
+use Rattle.meaning.specs.NumberLaws.{OfStream}
 use Rattle.demands.specs.Suits.{OutcomeSuits, RequestFits, RequestSuits, request-suits, Given, given-suits}
 
 abbrev pub Placed : State Message → Type 0
@@ -52,5 +53,5 @@ given-dies block (in-payload u k left p) w = tt
 given-dies block (due t p) w = only-dies (given (request document) block (due t p)) (given-suits t p w block)
 
 -- A SECTION GIVEN WHERE ONE IS DUE, and refused: a stream's fault
-pub given-of-stream : (block : Section) (s : State Message) → Placed s → (code : ℕ) → given (request document) block s ≡ dies code → OfStream code
+pub given-of-stream : (block : Section) (s : State Message) → Placed s → (code : Code) → given (request document) block s ≡ dies code → OfStream code
 given-of-stream block s w code e = subst Dies e (given-dies block s w)

@@ -9,6 +9,7 @@ use mathlib.Core.List.{List, [], _∷_, _++_, map}
 use mathlib.Core.Bool.{true}
 use mathlib.Core.Option.{some}
 use lib.ListN.{length}
+use Rattle.rules.specs.Numbers.{not-open, not-next, section-due, bad-value, message-error, frame-unexpected, closed-critical-stream, of-stream, of-connection}
 use Rattle.rules.specs.Text.{ascii, hex}
 use Rattle.rules.specs.Frames.{frame, framesFrom}
 use Rattle.rules.specs.Writer.{into, both, header-bytes, write-header}
@@ -20,16 +21,16 @@ use Rattle.meaning.specs.Feed as F
 use Rattle.meaning.specs.OneWayFeed as O
 use Rattle.meaning.specs.FrameLaws.{head}
 use Rattle.meaning.specs.Feeds.{headersIn}
-use Rattle.traces.specs.Stream.{not-open, not-next, section-due, bad-goaway, malformed, unexpected, critical, settings, of-stream, of-connection, section-bytes, content-bytes, part, contentIn, sectionIn, noticesIn, qpackIn, done, fed, whole, freed, feed, section, end, reset, ofFed, ofGiven, ofEnded, mapOut, toldBy, act, act₁, either}
+use Rattle.traces.specs.Stream.{settings, section-bytes, content-bytes, part, contentIn, sectionIn, noticesIn, qpackIn, done, fed, whole, freed, feed, section, end, reset, ofFed, ofGiven, ofEnded, mapOut, toldBy, act, act₁, either}
 use Rattle.traces.specs.Board.{pick, kindOf, over, Call, open′, on, gave, left, house, code, nextOf, spend, keeping, killed, barred, find, put, behind, seat, same, with, alive, fresh, first, seated, opening, faulted, actOn, settle, acting, higher, goodGoaway, goawaySize, sending, call, run, trace}
 use Rattle.traces.specs.View.{ended, refused, View, nothing, plusFeed, plusBytes, plusSection, fedly, mine, ifRunning, opened, unseen, seen, viewFrom, view}
 use Rattle.traces.specs.Ledger.{ledger, ledgerFrom, noted, dies, opens, counts, blank}
 use Rattle.traces.specs.Demands.{endAnswer, Struck, SameOutput, is-ended}
 use Rattle.traces.specs.Progress.{Moves, Takes, a-feed}
-use Rattle.demands.specs.Streams.{pick as choose, streamCode, connCode, codeOf, isDue, eventOf, fedBy, isReadable, sectionOf, givenBy, endedBy, came, typesIn, noticeOf, framesEvent, oneEvent, heardBy, streams}
+use Rattle.demands.specs.Streams.{streamCode, connCode, isDue, eventOf, fedBy, isReadable, sectionOf, givenBy, endedBy, came, typesIn, noticeOf, framesEvent, oneEvent, heardBy, streams}
 use Rattle.demands.specs.Reading.{sectionsOf, verdictBy, reading}
 use Rattle.demands.specs.LongerStreams.{firstOf, statedBy, headerOf, Added}
-use Rattle.demands.specs.OneWayReads.{named, faultBy, closeAnswer}
+use Rattle.demands.specs.OneWayReads.{faultBy, closeAnswer}
 use Rattle.demands.specs.ToTheEnd.{Shared, serve, EndsSo}
 use Rattle.demands.specs.Demands.{end-exactly, two-traces, demand-3, half-an-upload, progress, section-exactly, of-the-bytes, any-cutting, to-the-end, closes-exactly}
 use Rattle.demands.specs.Others.{dead-stays, Opens, opens-exactly, Sends, sends-exactly}
@@ -41,7 +42,7 @@ Calls = List (Call streams)
 
 -- what stream 0 shows, to compute with
 unfoldable pub shows : Calls → View streams
-unfolding view viewFrom seen opened unseen nothing ifRunning mine fedly plusFeed plusBytes plusSection part contentIn sectionIn noticesIn qpackIn run trace call alive opening kindOf pick ℕ-discrete decLt decLe nextOf spend keeping killed barred over find put behind seat same with fresh first seated faulted actOn settle acting ofFed ofGiven ofEnded mapOut act either choose streamCode connCode codeOf isDue eventOf fedBy isReadable sectionOf givenBy endedBy F.feed F.halt F.also F.onward F.over-event F.left-event F.behind-header F.named F.taking M.given M.answered M.typed M.keep M.over M.with-left M.after M.fed M.finish endAnswer sectionsOf verdictBy firstOf statedBy headersIn worked.answer
+unfolding view viewFrom seen opened unseen nothing ifRunning mine fedly plusFeed plusBytes plusSection part contentIn sectionIn noticesIn qpackIn run trace call alive opening kindOf pick ℕ-discrete decLt decLe nextOf spend keeping killed barred over find put behind seat same with fresh first seated faulted actOn settle acting ofFed ofGiven ofEnded mapOut act either streamCode connCode isDue eventOf fedBy isReadable sectionOf givenBy endedBy F.feed F.halt F.also F.onward F.over-event F.left-event F.behind-header F.named F.taking M.given M.answered M.typed M.keep M.over M.with-left M.after M.fed M.finish endAnswer sectionsOf verdictBy firstOf statedBy headersIn worked.answer
 shows cs = view 0 (trace fresh cs)
 
 -- ---- the calls
@@ -105,7 +106,7 @@ pub upload-legal : EndsWhole upload (on 0 end)
 upload-legal = whole-only upload (on 0 end) .0 upload-ends
 
 -- half of it is malformed; asked again, the stream is not open; and a reset does not say whole
-pub half-ends : call (on 0 end) (run fresh half) .answer ≡ code (of-stream malformed) 0 0
+pub half-ends : call (on 0 end) (run fresh half) .answer ≡ code (of-stream message-error) 0 0
 unfolding shows half block
 half-ends = end-exactly 0 refl half refl
 
@@ -139,22 +140,22 @@ unfoldable pub just-open : Calls
 just-open = open′ 0 ∷ []
 
 -- the second byte brings it, whatever follows
-pub struck-at-two : Struck reading (of-connection unexpected) (0x00 ∷ 0x00 ∷ []) []
+pub struck-at-two : Struck reading (of-connection frame-unexpected) (0x00 ∷ 0x00 ∷ []) []
 unfolding shows just-open
-struck-at-two = of-the-bytes 0 refl just-open refl (feed 5 (0x00 ∷ 0x00 ∷ 0x21 ∷ [])) a-feed (of-connection unexpected) refl
+struck-at-two = of-the-bytes 0 refl just-open refl (feed 5 (0x00 ∷ 0x00 ∷ 0x21 ∷ [])) a-feed (of-connection frame-unexpected) refl
 
 unfoldable pub bytewise : Calls
 bytewise = open′ 0 ∷ on 0 (feed 1 (0x00 ∷ [])) ∷ on 0 (feed 1 (0x00 ∷ [])) ∷ []
 
 -- byte by byte: the same code, at the same byte
-pub bytewise-too : let w = view 0 (trace fresh bytewise) in (w .fate ≡ refused (of-connection unexpected)) × (w .shown .bytes ≡ 0x00 ∷ 0x00 ∷ [])
+pub bytewise-too : let w = view 0 (trace fresh bytewise) in (w .fate ≡ refused (of-connection frame-unexpected)) × (w .shown .bytes ≡ 0x00 ∷ 0x00 ∷ [])
 unfolding shows just-open bytewise
-bytewise-too = any-cutting 0 0 refl refl just-open bytewise (feed 5 (0x00 ∷ 0x00 ∷ 0x21 ∷ [])) (of-connection unexpected) [] [] refl a-feed refl refl refl
+bytewise-too = any-cutting 0 0 refl refl just-open bytewise (feed 5 (0x00 ∷ 0x00 ∷ 0x21 ∷ [])) (of-connection frame-unexpected) [] [] refl a-feed refl refl refl
 
 -- and the connection is dead
-pub then-dead : call (open′ 4) (run fresh bytewise) ≡ record { answer = code (of-connection unexpected) 0 0; after = run fresh bytewise }
+pub then-dead : call (open′ 4) (run fresh bytewise) ≡ record { answer = code (of-connection frame-unexpected) 0 0; after = run fresh bytewise }
 unfolding shows bytewise ledger ledgerFrom noted dies opens counts blank
-then-dead = dead-stays bytewise (open′ 4) unexpected tt refl
+then-dead = dead-stays bytewise (open′ 4) frame-unexpected tt refl
 
 -- ---- a section, and a host that offers the rest again and again
 
@@ -191,7 +192,7 @@ pub goaway-goes : Sends (ledger (trace fresh just-open)) 0 3 (gave done)
 unfolding shows just-open sending goodGoaway higher goawaySize
 goaway-goes = sends-exactly just-open 0 3
 
-pub no-such-goaway : Sends (ledger (trace fresh just-open)) 2 3 (house bad-goaway)
+pub no-such-goaway : Sends (ledger (trace fresh just-open)) 2 3 (house bad-value)
 unfolding shows just-open sending goodGoaway
 no-such-goaway = sends-exactly just-open 2 3
 
@@ -204,8 +205,8 @@ pub settings-told : view 2 (trace fresh control-open) .shown .notices ≡ settin
 unfolding shows control-open act₁ heardBy O.feed O.type-feed O.also O.typed-feed typesIn came O.kind-feed O.of-control O.controlled F.judged-event oneEvent framesEvent noticeOf toldBy
 settings-told = refl
 
-pub critical-closed : call (on 2 end) (run fresh control-open) .answer ≡ code (of-connection critical) 0 0
-unfolding shows control-open act₁ heardBy O.feed O.type-feed O.also O.typed-feed typesIn came O.kind-feed O.of-control O.controlled F.judged-event closeAnswer faultBy named
+pub critical-closed : call (on 2 end) (run fresh control-open) .answer ≡ code (of-connection closed-critical-stream) 0 0
+unfolding shows control-open act₁ heardBy O.feed O.type-feed O.also O.typed-feed typesIn came O.kind-feed O.of-control O.controlled F.judged-event closeAnswer faultBy
 critical-closed = closes-exactly 2 refl control-open refl .0
 
 -- ---- a write: the header of a DATA frame of three bytes

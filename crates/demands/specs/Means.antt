@@ -4,7 +4,8 @@ use Prim.Native.Nat.{ℕ, zero, suc}
 use mathlib.Core.List.{List, map}
 use mathlib.Core.Bool.{Bool, true, false}
 use mathlib.Core.Option.{Option, none, some}
-use Rattle.traces.specs.Stream.{houseNumber, ConnCode, codeNumber, Notice, qpack-bytes, settings, client-goaway, max-push-id, Event, quiet, section-bytes, content-bytes, notice, Own, feed, section, end, reset, done, fed, whole, freed}
+use Rattle.rules.specs.Numbers.{houseNumber, ConnectionFault, codeNumber, Code, coded}
+use Rattle.traces.specs.Stream.{Notice, qpack-bytes, settings, client-goaway, max-push-id, Event, quiet, section-bytes, content-bytes, notice, Own, feed, section, end, reset, done, fed, whole, freed}
 use Rattle.traces.specs.Board.{asking, telling, Slot, free, held, Row, Conn, Pair, Call, open′, on, Answer, gave, left, house, code, goawaySize}
 use Rattle.control.specs.Rules.{controlOf}
 use Rattle.record.specs.declared.Record.{Record}
@@ -36,9 +37,9 @@ rowOf d rows = map (slotOf d) rows
 -- ---- the connection
 
 -- code 0: it is alive
-unfoldable pub deadBy : (code : ℕ) → Option ConnCode
+unfoldable pub deadBy : (code : ℕ) → Option ConnectionFault
 deadBy zero = none
-deadBy (suc n) = some (connCode (suc n))
+deadBy (suc n) = some (connCode (coded (suc n)))
 
 unfoldable pub isThere : ℕ → Bool
 isThere zero = false

@@ -7,6 +7,7 @@ use native.Mathlib.Omega.{arith}
 use mathlib.Core.List.{List, [], _∷_}
 use mathlib.Core.Bool.{Bool, true, false, true≢false}
 use mathlib.Core.Option.{Option, none, some}
+use Rattle.rules.specs.Numbers.{of-connection, stream-creation-error}
 use Rattle.rules.specs.Text.{lookup, isOneOf}
 use Rattle.rules.specs.Message.{Message}
 use Rattle.rules.specs.Request.{document, request}
@@ -17,11 +18,11 @@ use Rattle.meaning.specs.Feed as F
 use Rattle.meaning.specs.EveryFeed.{ReadsOn, feed-moves}
 use Rattle.meaning.specs.OneWayFeed as O
 use Rattle.meaning.specs.TextLaws.{lookup-absent}
-use Rattle.traces.specs.Stream.{of-connection, Event, Fed, goes, faults}
+use Rattle.traces.specs.Stream.{Event, Fed, goes, faults}
 use Rattle.traces.specs.Oneways.{Both, Like, goes-alike, faults-alike, second, ByItself}
 use Rattle.traces.specs.Kept.{Steps, tells-nothing, becomes, tells-on}
 use Rattle.demands.specs.Becomes.{as-control, isFor, typeNumber, Unseen, type-unseen}
-use Rattle.demands.specs.Streams.{pick, connCode, isDue, Keeps, came, typesIn, placeIn, keptBy, oneEvent, heardBy, streams}
+use Rattle.demands.specs.Streams.{connCode, isDue, Keeps, came, typesIn, placeIn, keptBy, oneEvent, heardBy, streams}
 use Rattle.demands.specs.Reads.{fed-goes}
 
 -- ---- a request gets on
@@ -47,7 +48,7 @@ feed-gets-on r r′ (suc n) u h b bs e d l q = moved r r′ n u h b bs e d q
 
 unfoldable pub aloneBy : (used heads : ℕ) → O.OneEvent → O.OneOutcome → Fed O.OneState
 aloneBy u h e (O.lives s) = goes u h (oneEvent u e) s
-aloneBy u h e (O.dies code) = faults (of-connection (connCode code)) u h
+aloneBy u h e (O.dies code) = faults code u h
 
 -- as where no other stream has come
 abbrev pub aloneOf : O.OneState → (allow : ℕ) → (piece : List ℕ) → Fed O.OneState
@@ -56,13 +57,13 @@ aloneOf w allow piece = let f = O.feed [] allow w piece in aloneBy (f .used) (f 
 -- a ruling on a type that has come whole: the same, or the type has come before
 data Ruled : (alone here : Typed) → Type 0 where
   the-same : {x : Typed} → Ruled x x
-  came-before : {x : Typed} → Ruled x (refuse 0x0103)
+  came-before : {x : Typed} → Ruled x (refuse (of-connection stream-creation-error))
 
 once-ruled : (seen : List ℕ) (t : ℕ) (k : Kind) → Ruled (is k) (once seen t k)
 unfolding once
 once-ruled seen t k = go (isOneOf seen t)
   where
-    go : (x : Bool) → Ruled (is k) (elim x [ true ↦ refuse 0x0103 | false ↦ is k ])
+    go : (x : Bool) → Ruled (is k) (elim x [ true ↦ refuse (of-connection stream-creation-error) | false ↦ is k ])
     go true = came-before
     go false = the-same
 
@@ -75,14 +76,14 @@ type-ruled seen (suc (suc (suc zero))) = unfold once in once-ruled seen 3 (a-qpa
 type-ruled seen (suc (suc (suc (suc n)))) =
     let t = suc (suc (suc (suc n))) in
     let none-of : (t ≡ 0 → ⊥) × ((t ≡ 1 → ⊥) × ((t ≡ 2 → ⊥) × ((t ≡ 3 → ⊥) × Unit {0}))) = ((λ e. omega arith), ((λ e. omega arith), ((λ e. omega arith), ((λ e. omega arith), tt)))) in
-    let a = lookup-absent t ((0, once [] 0 a-control) ∷ (1, refuse 0x0103) ∷ (2, once [] 2 (a-qpack encoder)) ∷ (3, once [] 3 (a-qpack decoder)) ∷ []) (is skipped) none-of in
-    let b = lookup-absent t ((0, once seen 0 a-control) ∷ (1, refuse 0x0103) ∷ (2, once seen 2 (a-qpack encoder)) ∷ (3, once seen 3 (a-qpack decoder)) ∷ []) (is skipped) none-of in
+    let a = lookup-absent t ((0, once [] 0 a-control) ∷ (1, refuse (of-connection stream-creation-error)) ∷ (2, once [] 2 (a-qpack encoder)) ∷ (3, once [] 3 (a-qpack decoder)) ∷ []) (is skipped) none-of in
+    let b = lookup-absent t ((0, once seen 0 a-control) ∷ (1, refuse (of-connection stream-creation-error)) ∷ (2, once seen 2 (a-qpack encoder)) ∷ (3, once seen 3 (a-qpack decoder)) ∷ []) (is skipped) none-of in
     subst (λ x. Ruled x (typeRule seen t)) (sym a) (subst (λ y. Ruled (is skipped) y) (sym b) the-same)
 
 -- a feed: the same, or refused as the second of its type
 data Alike (f x : O.OneFeeding) : Type 0 where
   same-feed : f ≡ x → Alike f x
-  second-of-type : x .after ≡ O.dies 0x0103 → Alike f x
+  second-of-type : x .after ≡ O.dies (of-connection stream-creation-error) → Alike f x
 
 also-alike : (f x : O.OneFeeding) → Alike f x → Alike (O.also f) (O.also x)
 also-alike f x (same-feed e) = same-feed (ap O.also e)
@@ -116,8 +117,8 @@ unfolding aloneBy heardBy
 heard-alike k u h e (O.lives s) = goes-alike
 heard-alike k u h e (O.dies code) = faults-alike
 
-second-heard : (k : Keeps) (u h : ℕ) (e : O.OneEvent) (x : Fed O.OneState) → Like streams x (heardBy k u h e (O.dies 0x0103))
-unfolding heardBy connCode pick
+second-heard : (k : Keeps) (u h : ℕ) (e : O.OneEvent) (x : Fed O.OneState) → Like streams x (heardBy k u h e (O.dies (of-connection stream-creation-error)))
+unfolding heardBy connCode
 second-heard k u h e x = second
 
 like-of : (k : Keeps) (f x : O.OneFeeding) → Alike f x → Like streams (aloneBy (f .used) (f .heads) (f .event) (f .after)) (heardBy k (x .used) (x .heads) (x .event) (x .after))

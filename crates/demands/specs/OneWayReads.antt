@@ -7,6 +7,7 @@ use mathlib.Core.List.{List, [], _∷_, _++_, map, append-nil, append-assoc, map
 use mathlib.Core.Option.{Option, none, some}
 use mathlib.Core.Logic.{_⊎_, inl, inr}
 use lib.ListN.{length, take, drop}
+use Rattle.rules.specs.Numbers.{ConnectionFault, stream-creation-error, Code, of-connection, CLOSED-CRITICAL-STREAM, closed-critical-stream, named}
 use Rattle.rules.specs.Reading as R
 use Rattle.rules.specs.Control.{Control, control, Told, told-settings, told-goaway, told-max-push-id, told-nothing, tells}
 use Rattle.rules.specs.OneWay as W
@@ -17,13 +18,13 @@ use Rattle.meaning.specs.Feeds.{unheaded, headersIn}
 use Rattle.meaning.specs.EveryFeed.{ReadsOn, feed-silent}
 use Rattle.meaning.specs.OneWayFeed as O
 use Rattle.meaning.specs.OneWays.{Came, still-untyped, type-refused, a-control-stream, a-qpack-stream, a-skipped-stream, calls-read, always-reads, ReadsOnOne}
-use Rattle.traces.specs.Stream.{ConnCode, creation, Code, of-connection, Notice, toldBy, noticesIn, ofType, partBy, qpackIn, Event, contentIn, sectionIn, Fed, goes, faults, end, reset, ofClosed, mapOut, freed, act₁}
+use Rattle.traces.specs.Stream.{Notice, toldBy, noticesIn, ofType, partBy, qpackIn, Event, contentIn, sectionIn, Fed, goes, faults, end, reset, ofClosed, mapOut, freed, act₁}
 use Rattle.traces.specs.Board.{one-way, kindOf, telling, Pair, Call, on, Answer, left as is-left, code as is-code, with, faulted, settle, actOn, fresh, call, run, trace}
 use Rattle.traces.specs.View.{Shown, Fate, unopened, spent, running, ended, dropped, refused, lost, View, nothing, plusFeed, plusBytes, view}
 use Rattle.traces.specs.Alone.{call-on}
 use Rattle.traces.specs.Follow.{Agrees, open-still, over, not-running}
 use Rattle.traces.specs.Oneways.{Both, Reached₁, at-first, by-feed, Story₁, not-yet, never, cut-off, closed, closed-critical, bad-feed, second-of-type, Says, says, story₁, follows₁}
-use Rattle.demands.specs.Streams.{pick, connCode, Keeps, typesIn, noticeOf, framesEvent, oneEvent, heardBy, typeOf, closeOf, streams}
+use Rattle.demands.specs.Streams.{connCode, Keeps, typesIn, noticeOf, framesEvent, oneEvent, heardBy, typeOf, closeOf, streams}
 use Rattle.demands.specs.Reads.{part-is}
 use Rattle.demands.specs.Becomes.{Once, as-control, as-encoder, as-decoder, isFor}
 use Rattle.demands.specs.Moves.{aloneBy, aloneOf, alone}
@@ -61,13 +62,9 @@ headsBy (W.of-control r) = headersIn (r .said)
 headsBy (W.of-qpack q bytes) = 0
 headsBy W.passed-over = 0
 
-unfoldable pub named : Option ℕ → Option Code
-named none = none
-named (some code) = some (of-connection (connCode code))
-
 -- the fault that the bytes bring, or else the one of closing
 unfoldable pub faultBy : W.OneWay → Option Code
-faultBy m = named (W.closed m)
+faultBy m = W.closed m
 
 -- ---- what events tell, and what is said
 
@@ -133,7 +130,7 @@ SameType (O.in-qpack q) o = o ≡ O.lives (O.in-qpack q)
 SameType O.in-skipped o = Unit {0}
 
 data Names (w : O.OneState) (u : ℕ) : O.OneEvent → O.OneOutcome → Type 0 where
-  frames-only : {e : F.Event} {o : O.OneOutcome} → SameType w o → ((code : ℕ) → o ≡ O.dies code → e ≡ F.quiet) → Names w u (O.of-frames e) o
+  frames-only : {e : F.Event} {o : O.OneOutcome} → SameType w o → ((code : Code) → o ≡ O.dies code → e ≡ F.quiet) → Names w u (O.of-frames e) o
   a-part : {q : Qpack} {len : ℕ} → len ≤ u → SameType w (O.lives (O.in-qpack q)) → Names w u (O.qpack-bytes q len) (O.lives (O.in-qpack q))
 
 abbrev NamesIn : O.OneState → O.OneFeeding → Type 0
@@ -147,7 +144,7 @@ also-names : (w : O.OneState) (f : O.OneFeeding) → NamesIn w f → NamesIn w (
 unfolding O.also
 also-names w f n = more n
 
-controlled-dies : (o : M.Outcome Control) (code : ℕ) → O.controlled o ≡ O.dies code → o ≡ M.dies code
+controlled-dies : (o : M.Outcome Control) (code : Code) → O.controlled o ≡ O.dies code → o ≡ M.dies code
 unfolding O.controlled
 controlled-dies (M.lives s) code e = let z : _≡_ {A = ℕ} 0 1 = cc in absurd (omega arith)
 controlled-dies (M.dies c) code e = cc
@@ -192,7 +189,7 @@ module _ (seen : List ℕ) where
   feed-names allow O.in-skipped piece = frames-only tt (λ code e. refl)
 
 -- a fault is silent
-silent : {w : O.OneState} {u : ℕ} {e : O.OneEvent} {o : O.OneOutcome} {code : ℕ} → Names w u e o → o ≡ O.dies code → e ≡ O.of-frames F.quiet
+silent : {w : O.OneState} {u : ℕ} {e : O.OneEvent} {o : O.OneOutcome} {code : Code} → Names w u e o → o ≡ O.dies code → e ≡ O.of-frames F.quiet
 silent {code = code} (frames-only s q) d = ap O.of-frames (q code d)
 silent (a-part l s) d = let z : _≡_ {A = ℕ} 0 1 = cc in absurd (omega arith)
 
@@ -246,7 +243,7 @@ abbrev doneOf : Shown streams → List R.Saying → List ℕ → O.OneOutcome �
 doneOf s frames raw o = record { bytes = s .bytes; frames = frames; qpack = raw; heads = s .heads; after = o }
 
 -- a control stream may never end
-control-closes : (n : ℕ) (c : M.State Control) → ReadsOn c → W.faultIn (M.finished control n (M.settled control n [] (M.lives c))) ≡ some 0x0104
+control-closes : (n : ℕ) (c : M.State Control) → ReadsOn c → W.faultIn (M.finished control n (M.settled control n [] (M.lives c))) ≡ some (of-connection closed-critical-stream)
 unfolding M.settled M.supplied M.finished M.finish W.faultIn R.ended
 control-closes n (M.in-type M.fresh p) h = refl
 control-closes n (M.in-type (M.need k v) p) h = refl
@@ -254,7 +251,7 @@ control-closes n (M.in-length t g p) h = refl
 control-closes n (M.in-payload u k left p) h = refl
 control-closes n (M.due t p) h = absurd h
 
-unfoldable pub codeFor : Option ConnCode → Option Code
+unfoldable pub codeFor : Option ConnectionFault → Option Code
 codeFor none = none
 codeFor (some c) = some (of-connection c)
 
@@ -262,12 +259,12 @@ lived : (w w′ : O.OneState) → O.lives w ≡ O.lives w′ → w ≡ w′
 lived w w′ e = cc
 
 control-by : (w : O.OneState) (c : M.Outcome Control) (n : ℕ) (v : R.Verdict) → ReadsOnOne w → O.lives w ≡ O.controlled c → v ≡ M.finished control n (M.settled control n [] c)
-    → named (W.faultIn v) ≡ codeFor (closeOf w)
+    → W.faultIn v ≡ codeFor (closeOf w)
 unfolding O.controlled
 control-by w (M.lives s) n v h a e =
     let z = lived w (O.in-control s) a in
     let y = control-closes n s (subst ReadsOnOne z h) in
-    ap named (ap W.faultIn e ∙ y) ∙ unfold named connCode pick codeFor closeOf in (rw z refl)
+    ap W.faultIn e ∙ y ∙ unfold codeFor closeOf in (rw z refl)
 control-by w (M.dies code) n v h a e = let z : _≡_ {A = ℕ} 0 1 = cc in absurd (omega arith)
 
 module _ (seen : List ℕ) where
@@ -319,7 +316,7 @@ module _ (seen : List ℕ) where
       }
 
   -- so the bytes up to it are all that a fault adds
-  been-dead : (s : Shown streams) (w : O.OneState) (allow u h code : ℕ) (piece : List ℕ) → Been s (O.lives w) → let f = O.feed seen allow w piece in
+  been-dead : (s : Shown streams) (w : O.OneState) (allow u h : ℕ) (code : Code) (piece : List ℕ) → Been s (O.lives w) → let f = O.feed seen allow w piece in
       f .after ≡ O.dies code → f .used ≡ u → f .heads ≡ h → Been (plusBytes u h piece s) (O.dies code)
   unfolding plusBytes
   been-dead s w allow u h code piece b e x y =
@@ -359,7 +356,7 @@ module _ (seen : List ℕ) where
   hears s o b = let h = hears-by s o b (came-of s o b) in record { notices = h .0; qpack = h .1; heads = h .2; content = b .content; blocks = b .blocks }
 
   -- a fault is the one that the bytes bring
-  dead-by : (s : Shown streams) (code : ℕ) (b : Been s (O.dies code)) {m : W.OneWay} → Came seen (doneOf s (b .frames) (b .raw) (O.dies code)) m → W.closed m ≡ some code
+  dead-by : (s : Shown streams) (code : Code) (b : Been s (O.dies code)) {m : W.OneWay} → Came seen (doneOf s (b .frames) (b .raw) (O.dies code)) m → W.closed m ≡ some code
   unfolding W.closed
   dead-by s code b (still-untyped a f q n) = let z : _≡_ {A = ℕ} 0 1 = cc in absurd (omega arith)
   dead-by s code b (type-refused a f q n) = ap some (cc)
@@ -371,13 +368,13 @@ module _ (seen : List ℕ) where
 
   -- closing
   close-by : (s : Shown streams) (w : O.OneState) (b : Been s (O.lives w)) {m : W.OneWay} → ReadsOnOne w → Came seen (doneOf s (b .frames) (b .raw) (O.lives w)) m
-      → named (W.closed m) ≡ codeFor (closeOf w)
+      → W.closed m ≡ codeFor (closeOf w)
   unfolding W.closed
-  close-by s w b h (still-untyped {g = g} a f q n) = unfold named codeFor closeOf in (rw (lived w (O.in-stream-type g) a) refl)
+  close-by s w b h (still-untyped {g = g} a f q n) = unfold codeFor closeOf in (rw (lived w (O.in-stream-type g) a) refl)
   close-by s w b h (type-refused a f q n) = let z : _≡_ {A = ℕ} 0 1 = cc in absurd (omega arith)
   close-by s w b h (a-control-stream {r = r} c a f q n v) = control-by w c (length (s .bytes)) (r .verdict) h a v
-  close-by s w b h (a-qpack-stream {q = q} a f n) = unfold named connCode pick codeFor closeOf in (rw (lived w (O.in-qpack q) a) refl)
-  close-by s w b h (a-skipped-stream a f q n) = unfold named codeFor closeOf in (rw (lived w O.in-skipped a) refl)
+  close-by s w b h (a-qpack-stream {q = q} a f n) = unfold codeFor closeOf in (rw (lived w (O.in-qpack q) a) refl)
+  close-by s w b h (a-skipped-stream a f q n) = unfold codeFor closeOf in (rw (lived w O.in-skipped a) refl)
 
   closes : (s : Shown streams) (w : O.OneState) → Been s (O.lives w) → faultBy (W.oneWay seen (s .bytes)) ≡ codeFor (closeOf w)
   unfolding faultBy
@@ -392,7 +389,7 @@ alone-goes u₀ h₀ e₀ (O.lives s) q = (cc, cc, cc, cc)
 alone-goes u₀ h₀ e₀ (O.dies code) q = let z : _≡_ {A = ℕ} 0 1 = cc in absurd (omega arith)
 
 alone-faults : (u₀ h₀ : ℕ) (e₀ : O.OneEvent) (o : O.OneOutcome) {u h : ℕ} {k : Code} → aloneBy u₀ h₀ e₀ o ≡ faults k u h
-    → (code : ℕ) × (o ≡ O.dies code) × (u₀ ≡ u) × (h₀ ≡ h) × (of-connection (connCode code) ≡ k)
+    → (code : Code) × (o ≡ O.dies code) × (u₀ ≡ u) × (h₀ ≡ h) × (code ≡ k)
 unfolding aloneBy
 alone-faults u₀ h₀ e₀ (O.lives s) q = let z : _≡_ {A = ℕ} 0 1 = cc in absurd (omega arith)
 alone-faults u₀ h₀ e₀ (O.dies code) q = (code, refl, cc, cc, cc)
@@ -453,17 +450,17 @@ FateBy lost m = Unit {0}
 -- the second of its type is refused as the definition refuses it where those types came before
 pub data Heard (v : View streams) : Type 0 where
   by-its-bytes : Hears [] (v .shown) → FateBy (v .fate) (W.oneWay [] (v .shown .bytes)) → Heard v
-  second : (seen : List ℕ) → v .fate ≡ refused (of-connection creation) → Hears seen (v .shown) → faultBy (W.oneWay seen (v .shown .bytes)) ≡ some (of-connection creation) → Heard v
+  second : (seen : List ℕ) → v .fate ≡ refused (of-connection stream-creation-error) → Hears seen (v .shown) → faultBy (W.oneWay seen (v .shown .bytes)) ≡ some (of-connection stream-creation-error) → Heard v
 
 -- a feed that met a fault
 fault-of : (seen : List ℕ) (s : Shown streams) (w : O.OneState) (allow u h : ℕ) (piece : List ℕ) (k : Code) → Been seen s (O.lives w) → let f = O.feed seen allow w piece in
-    (code : ℕ) → f .after ≡ O.dies code → f .used ≡ u → f .heads ≡ h → of-connection (connCode code) ≡ k
+    (code : Code) → f .after ≡ O.dies code → f .used ≡ u → f .heads ≡ h → code ≡ k
     → let s′ = plusBytes u h piece s in Hears seen s′ × (faultBy (W.oneWay seen (s′ .bytes)) ≡ some k)
 fault-of seen s w allow u h piece k b code e x y c =
     let v = been-dead seen s w allow u h code piece b e x y in
     let s′ = plusBytes u h piece s in
     let d = dead-by seen s′ code v (came-of seen s′ (O.dies code) v) in
-    (hears seen s′ (O.dies code) v, unfold faultBy in (ap named d ∙ unfold named in (ap some c)))
+    (hears seen s′ (O.dies code) v, unfold faultBy in (d ∙ ap some c))
 
 fault-story : (s : Shown streams) (w : O.OneState) (allow u h : ℕ) (piece : List ℕ) (k : Code) → Been [] s (O.lives w) → aloneOf w allow piece ≡ faults k u h
     → Heard (record { fate = refused k; shown = plusBytes u h piece s })
@@ -560,42 +557,42 @@ been-untyped seen (by-feed {s = s} {w = w} {w′ = w′} {allow = allow} {u = u}
     untyped-goes seen s w allow u h piece ev g (λ g₀ z. been-untyped seen t g₀ z) (rw e at q)
 
 heard-faults : (k : Keeps) (u₀ h₀ : ℕ) (e₀ : O.OneEvent) (o : O.OneOutcome) {u h : ℕ} {c : Code} → heardBy k u₀ h₀ e₀ o ≡ faults c u h
-    → (code : ℕ) × (o ≡ O.dies code) × (u₀ ≡ u) × (h₀ ≡ h) × (of-connection (connCode code) ≡ c)
+    → (code : Code) × (o ≡ O.dies code) × (u₀ ≡ u) × (h₀ ≡ h) × (code ≡ c)
 unfolding heardBy
 heard-faults k u₀ h₀ e₀ (O.lives s) q = let z : _≡_ {A = ℕ} 0 1 = cc in absurd (omega arith)
 heard-faults k u₀ h₀ e₀ (O.dies code) q = (code, refl, cc, cc, cc)
 
-typed-both : (s : Shown streams) (w : O.OneState) (k : Keeps) (allow u h : ℕ) (piece : List ℕ) → Typed (O.lives w) → Reached₁ alone s w → streams .feed₁ k w allow piece ≡ faults (of-connection creation) u h
-    → let s′ = plusBytes u h piece s in Hears [] s′ × (faultBy (W.oneWay [] (s′ .bytes)) ≡ some (of-connection creation))
+typed-both : (s : Shown streams) (w : O.OneState) (k : Keeps) (allow u h : ℕ) (piece : List ℕ) → Typed (O.lives w) → Reached₁ alone s w → streams .feed₁ k w allow piece ≡ faults (of-connection stream-creation-error) u h
+    → let s′ = plusBytes u h piece s in Hears [] s′ × (faultBy (W.oneWay [] (s′ .bytes)) ≡ some (of-connection stream-creation-error))
 typed-both s w k allow u h piece y t q =
     let f = O.feed [] allow w piece in
-    let z : heardBy k (f .used) (f .heads) (f .event) (f .after) ≡ faults (of-connection creation) u h = rw (typed-same (typesIn k) allow w piece y) at q in
+    let z : heardBy k (f .used) (f .heads) (f .event) (f .after) ≡ faults (of-connection stream-creation-error) u h = rw (typed-same (typesIn k) allow w piece y) at q in
     let r = heard-faults k (f .used) (f .heads) (f .event) (f .after) z in
-    fault-of [] s w allow u h piece (of-connection creation) (been t) (r .0) (r .1) (r .2) (r .3) (r .4)
+    fault-of [] s w allow u h piece (of-connection stream-creation-error) (been t) (r .0) (r .1) (r .2) (r .3) (r .4)
 
-typed-story : (s : Shown streams) (w : O.OneState) (k : Keeps) (allow u h : ℕ) (piece : List ℕ) → Typed (O.lives w) → Reached₁ alone s w → streams .feed₁ k w allow piece ≡ faults (of-connection creation) u h
-    → Heard (record { fate = refused (of-connection creation); shown = plusBytes u h piece s })
+typed-story : (s : Shown streams) (w : O.OneState) (k : Keeps) (allow u h : ℕ) (piece : List ℕ) → Typed (O.lives w) → Reached₁ alone s w → streams .feed₁ k w allow piece ≡ faults (of-connection stream-creation-error) u h
+    → Heard (record { fate = refused (of-connection stream-creation-error); shown = plusBytes u h piece s })
 typed-story s w k allow u h piece y t q = let x = typed-both s w k allow u h piece y t q in by-its-bytes (x .0) (x .1)
 
-second-story : (s : Shown streams) (w : O.OneState) (k : Keeps) (allow u h : ℕ) (piece : List ℕ) → Reached₁ alone s w → streams .feed₁ k w allow piece ≡ faults (of-connection creation) u h
-    → Heard (record { fate = refused (of-connection creation); shown = plusBytes u h piece s })
+second-story : (s : Shown streams) (w : O.OneState) (k : Keeps) (allow u h : ℕ) (piece : List ℕ) → Reached₁ alone s w → streams .feed₁ k w allow piece ≡ faults (of-connection stream-creation-error) u h
+    → Heard (record { fate = refused (of-connection stream-creation-error); shown = plusBytes u h piece s })
 second-story s (O.in-stream-type g) k allow u h piece t q =
     let f = O.feed (typesIn k) allow (O.in-stream-type g) piece in
     let r = heard-faults k (f .used) (f .heads) (f .event) (f .after) q in
-    let z = fault-of (typesIn k) s (O.in-stream-type g) allow u h piece (of-connection creation) (been-untyped (typesIn k) t g refl) (r .0) (r .1) (r .2) (r .3) (r .4) in
+    let z = fault-of (typesIn k) s (O.in-stream-type g) allow u h piece (of-connection stream-creation-error) (been-untyped (typesIn k) t g refl) (r .0) (r .1) (r .2) (r .3) (r .4) in
     second (typesIn k) refl (z .0) (z .1)
 second-story s (O.in-control c) k allow u h piece t q = typed-story s (O.in-control c) k allow u h piece tt t q
 second-story s (O.in-qpack c) k allow u h piece t q = typed-story s (O.in-qpack c) k allow u h piece tt t q
 second-story s O.in-skipped k allow u h piece t q = typed-story s O.in-skipped k allow u h piece tt t q
 
 -- a stream refused with 0x0103: by its own bytes, or, its type not yet shown, as they are where the types that are kept came before
-pub creation-by : (s : Shown streams) (w : O.OneState) (k : Keeps) (allow u h : ℕ) (piece : List ℕ) → Reached₁ alone s w → streams .feed₁ k w allow piece ≡ faults (of-connection creation) u h
-    → let b = s .bytes ++ take u piece in (faultBy (W.oneWay [] b) ≡ some (of-connection creation)) ⊎ ((isFor w ≡ none) × (faultBy (W.oneWay (typesIn k) b) ≡ some (of-connection creation)))
+pub creation-by : (s : Shown streams) (w : O.OneState) (k : Keeps) (allow u h : ℕ) (piece : List ℕ) → Reached₁ alone s w → streams .feed₁ k w allow piece ≡ faults (of-connection stream-creation-error) u h
+    → let b = s .bytes ++ take u piece in (faultBy (W.oneWay [] b) ≡ some (of-connection stream-creation-error)) ⊎ ((isFor w ≡ none) × (faultBy (W.oneWay (typesIn k) b) ≡ some (of-connection stream-creation-error)))
 unfolding plusBytes isFor
 creation-by s (O.in-stream-type g) k allow u h piece t q =
     let f = O.feed (typesIn k) allow (O.in-stream-type g) piece in
     let r = heard-faults k (f .used) (f .heads) (f .event) (f .after) q in
-    inr (refl, fault-of (typesIn k) s (O.in-stream-type g) allow u h piece (of-connection creation) (been-untyped (typesIn k) t g refl) (r .0) (r .1) (r .2) (r .3) (r .4) .1)
+    inr (refl, fault-of (typesIn k) s (O.in-stream-type g) allow u h piece (of-connection stream-creation-error) (been-untyped (typesIn k) t g refl) (r .0) (r .1) (r .2) (r .3) (r .4) .1)
 creation-by s (O.in-control c) k allow u h piece t q = inl (typed-both s (O.in-control c) k allow u h piece tt t q .1)
 creation-by s (O.in-qpack c) k allow u h piece t q = inl (typed-both s (O.in-qpack c) k allow u h piece tt t q .1)
 creation-by s O.in-skipped k allow u h piece t q = inl (typed-both s O.in-skipped k allow u h piece tt t q .1)
@@ -627,7 +624,7 @@ unfoldable pub closeAnswer : Option Code → Answer
 closeAnswer none = is-left freed
 closeAnswer (some k) = is-code k 0 0
 
-close-settled : (id : ℕ) (p : Pair streams) (c : Option ConnCode)
+close-settled : (id : ℕ) (p : Pair streams) (c : Option ConnectionFault)
     → settle id p (mapOut (λ (x : Both streams). record { stream = telling (x .state); kept = x .kept }) (ofClosed c)) .answer ≡ closeAnswer (codeFor c)
 unfolding settle mapOut ofClosed with faulted closeAnswer codeFor
 close-settled id p none = refl

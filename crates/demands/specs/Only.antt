@@ -8,10 +8,11 @@ use mathlib.Core.List.{List}
 use mathlib.Core.Bool.{Bool, true, false}
 use mathlib.Core.Option.{Option, none, some, Option·none-ne-some}
 use mathlib.Core.Logic.{_↔_}
+use Rattle.rules.specs.Numbers.{House, not-open, section-due, none-due, unreadable, ConnectionFault, of-stream, of-connection}
 use Rattle.rules.specs.Frames.{framesFrom}
 use Rattle.rules.specs.Request.{document}
 use Rattle.rules.specs.Legal.{Legal}
-use Rattle.traces.specs.Stream.{House, not-open, section-due, none-due, unreadable, ConnCode, of-stream, of-connection, Fed, goes, faults, Given, sound, unsound, Ended, is-whole, broken, whole, freed, Own, feed, section, end, reset, Out, refuse, ofFed, ofGiven, ofEnded, ofClosed, mapOut, Machine, act, act₁, either}
+use Rattle.traces.specs.Stream.{Fed, goes, faults, Given, sound, unsound, Ended, is-whole, broken, whole, freed, Own, feed, section, end, reset, Out, refuse, ofFed, ofGiven, ofEnded, ofClosed, mapOut, Machine, act, act₁, either}
 use Rattle.traces.specs.Board.{Kind, request, one-way, kindOf, Stream, asking, telling, Pair, Held, Call, on, Answer, gave, left, house, code, same, with, alive, faulted, actOn, settle, acting, find, fresh, call, run, trace}
 use Rattle.traces.specs.View.{Shown, Fate, running, View, view}
 use Rattle.traces.specs.Went.{Alive, Went, restarted, still-dead, by-house, barring, faulting, dying, opening, stepping, leaving, sending, went}
@@ -42,12 +43,12 @@ NotShut (gave g) = Unit {0}
 NotShut (left l) = Unit {0}
 NotShut (house House.not-open) = ⊥
 NotShut (house House.not-next) = Unit {0}
-NotShut (house House.no-room) = Unit {0}
+NotShut (house House.no-record) = Unit {0}
 NotShut (house House.section-due) = Unit {0}
 NotShut (house House.none-due) = Unit {0}
 NotShut (house House.unreadable) = Unit {0}
-NotShut (house House.short-buffer) = Unit {0}
-NotShut (house House.bad-goaway) = Unit {0}
+NotShut (house House.short-room) = Unit {0}
+NotShut (house House.bad-value) = Unit {0}
 NotShut (house House.not-24) = Unit {0}
 NotShut (code k u h) = Unit {0}
 
@@ -107,7 +108,7 @@ module _ {M : Machine} where
     of-ended (broken (of-stream k)) = tt
     of-ended (broken (of-connection k)) = tt
 
-    of-closed : (x : Option ConnCode) → Comes Other (ofClosed x)
+    of-closed : (x : Option ConnectionFault) → Comes Other (ofClosed x)
     unfolding settle mapOut ofClosed same with faulted
     of-closed none = (tt, tt)
     of-closed (some k) = (tt, tt)

@@ -11,12 +11,13 @@ use lib.Dec.{eqb, leb}
 use lib.ListN.{length, getD, set}
 use lib.Seq.{set-getD}
 use borrow.Author.Tests.{eqb-true, eqb-false, le-leb, lt-leb}
+use Rattle.rules.specs.Numbers.{houseNumber, not-next, no-record, of-stream, request-rejected, codeNumber, REQUEST-REJECTED}
 use Rattle.varint.specs.ByByte.{prog, partOf}
 use Rattle.record.specs.declared.Record.{Record}
 use Rattle.record.specs.Row.{numbersOf, placeIn, oneWayRecord, free-record}
 use Rattle.oneway.specs.Stands.{oneStateAt}
 use Rattle.requests.specs.Opens.{begins-fresh}
-use Rattle.traces.specs.Stream.{houseNumber, not-next, no-room, of-stream, rejected, codeNumber, either}
+use Rattle.traces.specs.Stream.{either}
 use Rattle.traces.specs.Board.{pick, Kind, request, one-way, kindOf, over, asking, held, Result, open′, house, code, nextOf, spend, barred, seat, same, with, first, seated, opening, call}
 use Rattle.traces.specs.Row.{pick-yes, pick-no}
 use Rattle.traces.specs.Refine.{IsFree, FreeAt, free-seat, full-seat}
@@ -91,15 +92,15 @@ module _ (c : Connection) (rows : List Record) (paired : Paired c rows) (id : �
   as-before = ap (rowOf (sideIn c)) (ap (set rows (f .at)) (found .row) ∙ set-getD rows (f .at) free-record)
 
   not-next-so : Opened (refusal 2 (doorsIn c)) (same (house not-next) (pairOf c rows))
-  unfolding same takenBy reportOf houseNumber
+  unfolding same takenBy reportOf
   not-next-so = record { after = pair-as refl as-before; answer = refl }
 
-  no-room-so : Opened (refusal 3 (doorsIn c)) (same (house no-room) (pairOf c rows))
-  unfolding same takenBy reportOf houseNumber
+  no-room-so : Opened (refusal 3 (doorsIn c)) (same (house no-record) (pairOf c rows))
+  unfolding same takenBy reportOf
   no-room-so = record { after = pair-as refl as-before; answer = refl }
 
-  barred-so : Opened (refusal 0x010b (nextRequest (doorsIn c))) (with (code (of-stream rejected) 0 0) (spend request (connOf c)) (rowOf (sideIn c) rows))
-  unfolding with takenBy reportOf codeNumber spend
+  barred-so : Opened (refusal REQUEST-REJECTED (nextRequest (doorsIn c))) (with (code (of-stream request-rejected) 0 0) (spend request (connOf c)) (rowOf (sideIn c) rows))
+  unfolding with takenBy reportOf spend
   barred-so = record { after = pair-as refl as-before; answer = refl }
 
   -- the doors of a kind
@@ -130,7 +131,7 @@ module _ (c : Connection) (rows : List Record) (paired : Paired c rows) (id : �
   -- by the trace's tests
   module _ (below : id < 2 ^ 62) where
     next-yes : (k : Kind) → id ≡ nextOf k (connOf c) → opening id (some k) (pairOf c rows)
-        ≡ either (barred k (connOf c) id) (with (code (of-stream rejected) 0 0) (spend k (connOf c)) (rowOf (sideIn c) rows)) (seated k (pairOf c rows) (seat (held id (first k)) (rowOf (sideIn c) rows)))
+        ≡ either (barred k (connOf c) id) (with (code (of-stream request-rejected) 0 0) (spend k (connOf c)) (rowOf (sideIn c) rows)) (seated k (pairOf c rows) (seat (held id (first k)) (rowOf (sideIn c) rows)))
     unfolding opening
     next-yes k e = pick-yes (ℕ-discrete id (nextOf k (connOf c))) _ _ e ∙ pick-yes (decLt id (2 ^ 62)) _ _ below
 
@@ -151,19 +152,19 @@ module _ (c : Connection) (rows : List Record) (paired : Paired c rows) (id : �
   unfolding requestOf nextOf barred either
   request-so l m = by (eqb id (c .doors .requests)) refl
     where
-      bars : (b : Bool) → barredAt (c .doors .goaways) (c .doors .goaway .0) id ≡ b → id ≡ c .doors .requests → Opened (elim b [ true ↦ refusal 0x010b (nextRequest (doorsIn c)) | false ↦ admittedAs (freeAt (f .at)) (nextRequest (doorsIn c)) (doorsIn c) ])
-          (either b (with (code (of-stream rejected) 0 0) (spend request (connOf c)) (rowOf (sideIn c) rows)) (seated request (pairOf c rows) (seat (held id (first request)) (rowOf (sideIn c) rows))))
+      bars : (b : Bool) → barredAt (c .doors .goaways) (c .doors .goaway .0) id ≡ b → id ≡ c .doors .requests → Opened (elim b [ true ↦ refusal REQUEST-REJECTED (nextRequest (doorsIn c)) | false ↦ admittedAs (freeAt (f .at)) (nextRequest (doorsIn c)) (doorsIn c) ])
+          (either b (with (code (of-stream request-rejected) 0 0) (spend request (connOf c)) (rowOf (sideIn c) rows)) (seated request (pairOf c rows) (seat (held id (first request)) (rowOf (sideIn c) rows))))
       bars true e q = barred-so
       bars false e q = admitted request (first-request (sideIn c) id (f .row) m)
 
       by : (b : Bool) → eqb id (c .doors .requests) ≡ b → Opened (elim b [
         | false ↦ refusal 2 (doorsIn c)
-        | true ↦ elim (barredAt (c .doors .goaways) (c .doors .goaway .0) id) [ true ↦ refusal 0x010b (nextRequest (doorsIn c)) | false ↦ admittedAs (freeAt (f .at)) (nextRequest (doorsIn c)) (doorsIn c) ]
+        | true ↦ elim (barredAt (c .doors .goaways) (c .doors .goaway .0) id) [ true ↦ refusal REQUEST-REJECTED (nextRequest (doorsIn c)) | false ↦ admittedAs (freeAt (f .at)) (nextRequest (doorsIn c)) (doorsIn c) ]
       ]) (opening id (some request) (pairOf c rows))
       by false e = let y = next-no request (eqb-false id (c .doors .requests) e) in rw y not-next-so
       by true e =
           let q = eqb-true id (c .doors .requests) e in
-          let y = next-yes l request q ∙ ap (λ b. either b (with (code (of-stream rejected) 0 0) (spend request (connOf c)) (rowOf (sideIn c) rows)) (seated request (pairOf c rows) (seat (held id (first request)) (rowOf (sideIn c) rows)))) (sym (barred-same (c .doors .goaways) (c .doors .goaway .0) id)) in
+          let y = next-yes l request q ∙ ap (λ b. either b (with (code (of-stream request-rejected) 0 0) (spend request (connOf c)) (rowOf (sideIn c) rows)) (seated request (pairOf c rows) (seat (held id (first request)) (rowOf (sideIn c) rows)))) (sym (barred-same (c .doors .goaways) (c .doors .goaway .0) id)) in
           rw y (bars (barredAt (c .doors .goaways) (c .doors .goaway .0) id) refl q)
 
   one-way-so : id < 2 ^ 62 → id % 4 ≡ 2 → Opened (oneWayOf (doorsIn c) id (freeAt (f .at))) (opening id (some one-way) (pairOf c rows))

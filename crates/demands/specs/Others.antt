@@ -8,9 +8,10 @@ use native.Mathlib.Omega.{arith}
 use mathlib.Core.List.{List, [], _∷_, _++_}
 use mathlib.Core.Bool.{Bool, true, false, true≢false}
 use mathlib.Core.Option.{Option, none, some, Option·none-ne-some, Option·some-injective}
+use Rattle.rules.specs.Numbers.{not-open, not-next, no-record, section-due, none-due, unreadable, short-room, bad-value, request-rejected, ConnectionFault, of-stream, of-connection, Code}
 use Rattle.rules.specs.Block.{lines}
 use Rattle.rules.specs.OneWay.{oneWay}
-use Rattle.traces.specs.Stream.{not-open, not-next, no-room, section-due, none-due, unreadable, short-buffer, bad-goaway, rejected, ConnCode, of-stream, of-connection, Fed, goes, faults, Given, sound, unsound, done, freed, Own, feed, section, end, reset, Out, refuse, ofFed, ofGiven, mapOut, Machine, act, either, Code, ofClosed, act₁}
+use Rattle.traces.specs.Stream.{Fed, goes, faults, Given, sound, unsound, done, freed, Own, feed, section, end, reset, Out, refuse, ofFed, ofGiven, mapOut, Machine, act, either, ofClosed, act₁}
 use Rattle.traces.specs.Board.{pick, Kind, request, kindOf, higher, goawaySize, goodGoaway, asking, held, Row, Pair, Held, Call, open′, on, goaway, Answer, gave, left, house, code, Result, nextOf, spend, limited, barred, find, seat, same, with, alive, first, seated, faulted, settle, fresh, call, run, trace, one-way, telling, actOn}
 use Rattle.traces.specs.Board as board
 use Rattle.traces.specs.View.{Shown, running, View, view}
@@ -49,7 +50,7 @@ pub independence : (id : ℕ) (before cs : Calls) → kindOf id ≡ some request
 independence id before cs q e n d = A.independence id before cs q e n (sym (tallies (before ++ (open′ id ∷ cs)) .dead) ∙ d)
 
 -- DEAD STAYS DEAD: once a trace shows a connection fault, each call but start gives its code and leaves all as it was
-pub dead-stays : (cs : Calls) (c : Call streams) (k : ConnCode) → Later c → ledger (trace fresh cs) .dead ≡ some k
+pub dead-stays : (cs : Calls) (c : Call streams) (k : ConnectionFault) → Later c → ledger (trace fresh cs) .dead ≡ some k
     → call c (run fresh cs) ≡ record { answer = code (of-connection k) 0 0; after = run fresh cs }
 dead-stays cs c k l d = A.dead-stays c (run fresh cs) k l (sym (tallies cs .dead) ∙ d)
 
@@ -63,10 +64,10 @@ pub record IsNext (l : Ledger) (id : ℕ) (k : Kind) : Type 0 where
 
 -- the code of a dead connection; 2; 0x010b; 3; accepted
 pub data Opens (l : Ledger) (id : ℕ) : Answer → Type 0 where
-  is-dead : {k : ConnCode} → l .dead ≡ some k → Opens l id (code (of-connection k) 0 0)
+  is-dead : {k : ConnectionFault} → l .dead ≡ some k → Opens l id (code (of-connection k) 0 0)
   another-id : l .dead ≡ none → ((k : Kind) → IsNext l id k → ⊥) → Opens l id (house not-next)
-  is-barred : l .dead ≡ none → {k : Kind} → IsNext l id k → barredIn k l id ≡ true → Opens l id (code (of-stream rejected) 0 0)
-  is-full : l .dead ≡ none → {k : Kind} → IsNext l id k → barredIn k l id ≡ false → 24 ≤ l .busy → Opens l id (house no-room)
+  is-barred : l .dead ≡ none → {k : Kind} → IsNext l id k → barredIn k l id ≡ true → Opens l id (code (of-stream request-rejected) 0 0)
+  is-full : l .dead ≡ none → {k : Kind} → IsNext l id k → barredIn k l id ≡ false → 24 ≤ l .busy → Opens l id (house no-record)
   is-opened : l .dead ≡ none → {k : Kind} → IsNext l id k → barredIn k l id ≡ false → l .busy < 24 → Opens l id (gave done)
 
 module _ {M : Machine} (p : Pair M) (l : Ledger) (i : Sound p) (t : Tallies p l) (id : ℕ) where
@@ -80,7 +81,7 @@ module _ {M : Machine} (p : Pair M) (l : Ledger) (i : Sound p) (t : Tallies p l)
   seats k d n b (some row) q = is-opened d n b (omega (arith, t .busy, i .size, room-before (seat-is (held id (first k)) (p .row) row q)))
 
   abbrev barred-or : Kind → Bool → Result M
-  barred-or k b = either b (with (code (of-stream rejected) 0 0) (spend k (p .conn)) (p .row)) (seated k p (seat (held id (first k)) (p .row)))
+  barred-or k b = either b (with (code (of-stream request-rejected) 0 0) (spend k (p .conn)) (p .row)) (seated k p (seat (held id (first k)) (p .row)))
 
   bars : (k : Kind) → l .dead ≡ none → IsNext l id k → (b : Bool) → barredIn k l id ≡ b → Opens l id (barred-or k b .answer)
   unfolding either with
@@ -107,7 +108,7 @@ module _ {M : Machine} (p : Pair M) (l : Ledger) (i : Sound p) (t : Tallies p l)
   unfolding call alive same
   at-opening = by (p .conn .dead) refl
     where
-      by : (d : Option ConnCode) → p .conn .dead ≡ d → Opens l id (alive d p (board.opening id (kindOf id) p) .answer)
+      by : (d : Option ConnectionFault) → p .conn .dead ≡ d → Opens l id (alive d p (board.opening id (kindOf id) p) .answer)
       by none e = at-kind (kindOf id) refl (t .dead ∙ e)
       by (some k) e = is-dead (t .dead ∙ e)
 
@@ -122,10 +123,10 @@ one-kind {j = j} {k = k} v w = Option·some-injective j k (sym (v .is) ∙ w .is
 never-both : {l : Ledger} {id : ℕ} {j k : Kind} → IsNext l id j → IsNext l id k → barredIn j l id ≡ true → barredIn k l id ≡ false → ⊥
 never-both {l = l} {id = id} v w b c = true≢false (sym b ∙ ap (λ k. barredIn k l id) (one-kind v w) ∙ c)
 
-not-dead : {x : Option ConnCode} {k : ConnCode} → x ≡ none → x ≡ some k → ⊥
+not-dead : {x : Option ConnectionFault} {k : ConnectionFault} → x ≡ none → x ≡ some k → ⊥
 not-dead {k = k} d e = Option·none-ne-some k (sym d ∙ e)
 
-one-code : {x : Option ConnCode} {j k : ConnCode} → x ≡ some j → x ≡ some k → code (of-connection j) 0 0 ≡ code (of-connection k) 0 0
+one-code : {x : Option ConnectionFault} {j k : ConnectionFault} → x ≡ some j → x ≡ some k → code (of-connection j) 0 0 ≡ code (of-connection k) 0 0
 one-code {j = j} {k = k} d e = ap (λ x. code (of-connection x) 0 0) (Option·some-injective j k (sym d ∙ e))
 
 pub one-opening : {l : Ledger} {id : ℕ} {a b : Answer} → Opens l id a → Opens l id b → a ≡ b
@@ -165,9 +166,9 @@ pub record MaySend (l : Ledger) (id : ℕ) : Type 0 where
 
 -- the code of a dead connection; 8; 7; accepted
 pub data Sends (l : Ledger) (id room : ℕ) : Answer → Type 0 where
-  is-dead : {k : ConnCode} → l .dead ≡ some k → Sends l id room (code (of-connection k) 0 0)
-  wrong-id : l .dead ≡ none → (MaySend l id → ⊥) → Sends l id room (house bad-goaway)
-  too-long : l .dead ≡ none → MaySend l id → room < goawaySize id → Sends l id room (house short-buffer)
+  is-dead : {k : ConnectionFault} → l .dead ≡ some k → Sends l id room (code (of-connection k) 0 0)
+  wrong-id : l .dead ≡ none → (MaySend l id → ⊥) → Sends l id room (house bad-value)
+  too-long : l .dead ≡ none → MaySend l id → room < goawaySize id → Sends l id room (house short-room)
   is-sent : l .dead ≡ none → MaySend l id → goawaySize id ≤ room → Sends l id room (gave done)
 
 not-higher : (o : Option ℕ) (id : ℕ) → higher o id ≡ false → (m : ℕ) → o ≡ some m → id ≤ m
@@ -202,7 +203,7 @@ may-send l id = may l id (ℕ-discrete (id % 4) 0) (decLt id (2 ^ 62)) (higher (
 
 module _ {M : Machine} (p : Pair M) (l : Ledger) (t : Tallies p l) (id room : ℕ) where
   sends : l .dead ≡ none → (g : Bool) → goodGoaway (l .limit) id ≡ g → (s : Dec (goawaySize id ≤ room))
-      → Sends l id room (either g (pick s (with (gave done) (limited id (p .conn)) (p .row)) (same (house short-buffer) p)) (same (house bad-goaway) p) .answer)
+      → Sends l id room (either g (pick s (with (gave done) (limited id (p .conn)) (p .row)) (same (house short-room) p)) (same (house bad-value) p) .answer)
   unfolding either pick same with
   sends d true g (yes s) = is-sent d (may-send l id .0 g) s
   sends d true g (no s) = too-long d (may-send l id .0 g) (omega arith)
@@ -212,7 +213,7 @@ module _ {M : Machine} (p : Pair M) (l : Ledger) (t : Tallies p l) (id room : �
   unfolding call alive same board.sending
   at-sending = by (p .conn .dead) refl
     where
-      by : (d : Option ConnCode) → p .conn .dead ≡ d → Sends l id room (alive d p (board.sending id room p) .answer)
+      by : (d : Option ConnectionFault) → p .conn .dead ≡ d → Sends l id room (alive d p (board.sending id room p) .answer)
       by none e = sends (t .dead ∙ e) (goodGoaway (p .conn .limit) id) (ap (λ x. goodGoaway x id) (t .limit)) (decLe (goawaySize id) room)
       by (some k) e = is-dead (t .dead ∙ e)
 
@@ -258,7 +259,7 @@ pub record Runs (l : Ledger) (v : View streams) : Type 0 where
 -- the code of a dead connection; 1; then, with a section due (the verdict on the bytes and sections so far is that they wait) or not: feed, 4;
 -- section, 5, then 6; end, by the verdict; a reset is always accepted
 pub data Answers (l : Ledger) (v : View streams) : Own streams → Answer → Type 0 where
-  is-dead : {o : Own streams} {k : ConnCode} → l .dead ≡ some k → Answers l v o (code (of-connection k) 0 0)
+  is-dead : {o : Own streams} {k : ConnectionFault} → l .dead ≡ some k → Answers l v o (code (of-connection k) 0 0)
   is-shut : {o : Own streams} → l .dead ≡ none → (v .fate ≡ running → ⊥) → Answers l v o (house not-open)
   feed-waits : {allow : ℕ} {piece : List ℕ} → Runs l v → verdictIn v ≡ waits → Answers l v (feed allow piece) (house section-due)
   feed-reads : {allow : ℕ} {piece : List ℕ} {a : Answer} → Runs l v → (verdictIn v ≡ waits → ⊥) → NotHouse a → Answers l v (feed allow piece) a
@@ -317,7 +318,7 @@ pub answers-exactly : (id : ℕ) → kindOf id ≡ some request → (cs : Calls)
     → Answers (ledger (trace fresh cs)) (view id (trace fresh cs)) o (call (on id o) (run fresh cs) .answer)
 answers-exactly id q cs o = by (ledger (trace fresh cs) .dead) refl
   where
-    by : (x : Option ConnCode) → ledger (trace fresh cs) .dead ≡ x → Answers (ledger (trace fresh cs)) (view id (trace fresh cs)) o (call (on id o) (run fresh cs) .answer)
+    by : (x : Option ConnectionFault) → ledger (trace fresh cs) .dead ≡ x → Answers (ledger (trace fresh cs)) (view id (trace fresh cs)) o (call (on id o) (run fresh cs) .answer)
     by none e = at-stream (ledger (trace fresh cs)) e id (run fresh cs) (view id (trace fresh cs)) o (λ n. ap (λ r. r .answer) (shut cs id o e n)) (λ r. end-exactly id q cs r) (agrees story id cs q)
     by (some k) e = let z = dead-stays cs (on id o) k tt e in rw z (is-dead e)
 
@@ -330,7 +331,7 @@ closeAnswer (some k) = code k 0 0
 
 -- the code of a dead connection; 1; a feed is never turned away; section, 5; end and reset, as the bytes say
 pub data Answers₁ (l : Ledger) (v : View streams) : Own streams → Answer → Type 0 where
-  is-dead : {o : Own streams} {k : ConnCode} → l .dead ≡ some k → Answers₁ l v o (code (of-connection k) 0 0)
+  is-dead : {o : Own streams} {k : ConnectionFault} → l .dead ≡ some k → Answers₁ l v o (code (of-connection k) 0 0)
   is-shut : {o : Own streams} → l .dead ≡ none → (v .fate ≡ running → ⊥) → Answers₁ l v o (house not-open)
   feed-reads : {allow : ℕ} {piece : List ℕ} {a : Answer} → Runs l v → NotHouse a → Answers₁ l v (feed allow piece) a
   section-undue : {b : List ℕ} → Runs l v → Answers₁ l v (section b) (house none-due)
@@ -357,7 +358,7 @@ module _ (l : Ledger) (d : l .dead ≡ none) (id : ℕ) (p : Pair streams) where
     abbrev Closing : Option Code → Type 0
     Closing x = Answers₁ l now₁ end (closeAnswer x) × Answers₁ l now₁ reset (closeAnswer x)
 
-    closed₁ : (x : Option ConnCode) → streams .close w ≡ x → Then₁ end (ofClosed x) × Then₁ reset (ofClosed x)
+    closed₁ : (x : Option ConnectionFault) → streams .close w ≡ x → Then₁ end (ofClosed x) × Then₁ reset (ofClosed x)
     unfolding settle mapOut ofClosed with faulted closeAnswer codeFor
     closed₁ none e = subst Closing (closes-reached t ∙ ap codeFor e) (end-judged here₁, reset-judged here₁)
     closed₁ (some k) e = subst Closing (closes-reached t ∙ ap codeFor e) (end-judged here₁, reset-judged here₁)
@@ -380,6 +381,6 @@ pub one-way-answers : (id : ℕ) → kindOf id ≡ some one-way → (cs : Calls)
     → Answers₁ (ledger (trace fresh cs)) (view id (trace fresh cs)) o (call (on id o) (run fresh cs) .answer)
 one-way-answers id q cs o = by (ledger (trace fresh cs) .dead) refl
   where
-    by : (x : Option ConnCode) → ledger (trace fresh cs) .dead ≡ x → Answers₁ (ledger (trace fresh cs)) (view id (trace fresh cs)) o (call (on id o) (run fresh cs) .answer)
+    by : (x : Option ConnectionFault) → ledger (trace fresh cs) .dead ≡ x → Answers₁ (ledger (trace fresh cs)) (view id (trace fresh cs)) o (call (on id o) (run fresh cs) .answer)
     by none e = at-stream₁ (ledger (trace fresh cs)) e id (run fresh cs) (view id (trace fresh cs)) o (λ n. ap (λ r. r .answer) (shut cs id o e n)) (agrees (story₁ alone) id cs q)
     by (some k) e = let z = dead-stays cs (on id o) k tt e in rw z (is-dead e)

@@ -7,10 +7,11 @@ use mathlib.Core.List.{List, map}
 use mathlib.Core.Option.{some}
 use mathlib.Core.Logic.{_↔_}
 use lib.ListN.{length}
+use Rattle.rules.specs.Numbers.{House, section-due, houseNumber, Code}
 use Rattle.rules.specs.Frames.{framesFrom}
 use Rattle.rules.specs.Request.{document}
 use Rattle.rules.specs.Legal.{Legal}
-use Rattle.traces.specs.Stream.{House, section-due, houseNumber, Code, whole, end}
+use Rattle.traces.specs.Stream.{whole, end}
 use Rattle.traces.specs.Board.{request, kindOf, Call, on, Answer, left, house, code, call, run, fresh, trace}
 use Rattle.traces.specs.View.{View, running, view}
 use Rattle.traces.specs.Demands.{Verdict, is-legal, bad, waits, Tells, endAnswer}
@@ -52,7 +53,7 @@ module _ {c₀ : Connection} {rows₀ : List Record} {c : Connection} {rows : Li
           report-one (d .seen) ∙ ap (λ p. reportOf (call (on id end) p .answer)) (s .0) ∙ ap reportOf (end-exactly id is ks runs)
 
       event-of : (v : Verdict) → r ≡ reportOf (endAnswer v) → r .event ≡ 11 → v ≡ is-legal
-      unfolding endAnswer reportOf houseNumber
+      unfolding endAnswer reportOf
       event-of is-legal e w = refl
       event-of (bad k) e w = let z : r .event ≡ 0 = ap (λ x. x .event) e in absurd (omega arith)
       event-of waits e w = let z : r .event ≡ 0 = ap (λ x. x .event) e in absurd (omega arith)

@@ -8,6 +8,7 @@ use mathlib.Core.Bool.{Bool, true, false}
 use mathlib.Core.Logic.{_⊎_, inl, inr}
 use mathlib.Core.Option.{Option, none, some}
 use lib.ListN.{getD}
+use Rattle.rules.specs.Numbers.{houseNumber, none-due, ConnectionFault, closed-critical-stream, of-connection, codeNumber, Code, of-stream, id-error}
 use Rattle.rules.specs.Integers.{integer}
 use Rattle.rules.specs.Reading.{Kept as Payload, settings, goaway, max-push-id, cancel-push, kept, Next, stop, go}
 use Rattle.rules.specs.Control.{Settings, settings-of, Control, unset, set, control, only, above, below, after-goaway, after-max-push, after-integer, after-settings, judged, told-goaway, told-max-push-id, settings-in, id-in, tells}
@@ -17,7 +18,7 @@ use Rattle.meaning.specs.Machine.{State, Outcome}
 use Rattle.meaning.specs.Feed as F
 use Rattle.meaning.specs.OneWayFeed as O
 use Rattle.meaning.specs.OneWayFeed.{OneState, OneOutcome, OneEvent, OneFeeding}
-use Rattle.traces.specs.Stream.{houseNumber, none-due, ConnCode, critical, of-connection, codeNumber, Own, fed, Out, step, fault, ofFed, ofClosed, mapOut, act₁}
+use Rattle.traces.specs.Stream.{Own, fed, Out, step, fault, ofFed, ofClosed, mapOut, act₁}
 use Rattle.traces.specs.Board.{telling, held, Held, keeping, actOn}
 use Rattle.streams.specs.declared.Cells.{Cells}
 use Rattle.record.specs.declared.Record.{Record}
@@ -41,7 +42,8 @@ use Rattle.connection.specs.Leavings.{Standing, controls, others, standing, con
 use Rattle.connection.specs.Pair.{Paired}
 use Rattle.demands.specs.Streams as streams
 use Rattle.demands.specs.Streams.{connCode, Keeps, typesIn, keptBy, typeOf, noticeOf, framesEvent, oneEvent, heardBy, closeOf}
-use Rattle.demands.specs.Codes.{OfConnection, connection-named, one-way-listed}
+use Rattle.meaning.specs.NumberLaws.{OfConnection}
+use Rattle.demands.specs.Codes.{one-way-listed}
 use Rattle.demands.specs.Means.{slotAt, slotOf, isThere, keepsOf, connOf, ownOf, noticed, reported, reportOf}
 use Rattle.demands.specs.Suits.{OutcomeSuits, Judged, EventSuits, ControlFits, ControlSuits, control-suits}
 use Rattle.demands.specs.Settles.{Comes, refuses, steps, leaves, kills}
@@ -137,7 +139,7 @@ module _ (u h : ℕ) (s : Settings) (g m : Option ℕ) (next : Control) where
   goaway-told none e = let z : _≡_ {A = ℕ} 0 1 = cc in absurd (omega arith)
   goaway-told (some id) e = ap (told 0 9 0 0 u h) (by (above id g) e)
     where
-      by : (x : Bool) → _≡_ {A = Next Control} (elim x [ true ↦ stop 0x0108 | false ↦ go (set s (some id) m) ]) (go next) → keptNumbers next .goaway .0 ≡ id
+      by : (x : Bool) → _≡_ {A = Next Control} (elim x [ true ↦ stop (of-connection id-error) | false ↦ go (set s (some id) m) ]) (go next) → keptNumbers next .goaway .0 ≡ id
       by true e = let z : _≡_ {A = ℕ} 0 1 = cc in absurd (omega arith)
       by false e = let q : set s (some id) m ≡ next = cc in rw (← q) refl
 
@@ -146,7 +148,7 @@ module _ (u h : ℕ) (s : Settings) (g m : Option ℕ) (next : Control) where
   push-told none e = let z : _≡_ {A = ℕ} 0 1 = cc in absurd (omega arith)
   push-told (some id) e = ap (told 0 10 0 0 u h) (by (below id m) e)
     where
-      by : (x : Bool) → _≡_ {A = Next Control} (elim x [ true ↦ stop 0x0108 | false ↦ go (set s g (some id)) ]) (go next) → keptNumbers next .push .0 ≡ id
+      by : (x : Bool) → _≡_ {A = Next Control} (elim x [ true ↦ stop (of-connection id-error) | false ↦ go (set s g (some id)) ]) (go next) → keptNumbers next .push .0 ≡ id
       by true e = let z : _≡_ {A = ℕ} 0 1 = cc in absurd (omega arith)
       by false e = let q : set s g (some id) ≡ next = cc in rw (← q) refl
 
@@ -285,12 +287,13 @@ module _ (c : Connection) (rows : List Record) (p : Paired c rows) (at : ℕ) (r
   abbrev Told : Heard → Out Both → Type 0
   Told a o = Comes c rows at (r .id) r (overheard c a) (mapOut heeds o)
 
-  kill-comes : (k : ConnCode) (u h : ℕ) → Told (side.heard (codeNumber (of-connection k)) 0 0 0 u h 0 r here) (fault (of-connection k) u h)
+  kill-comes : (k : ConnectionFault) (u h : ℕ) → Told (side.heard (codeNumber (of-connection k)) 0 0 0 u h 0 r here) (fault (of-connection k) u h)
   unfolding mapOut reportOf
   kill-comes k u h = kills (code-kept c r (told (codeNumber (of-connection k)) 0 0 0 u h 0) k)
 
-  dies-comes : (n u h : ℕ) → OfConnection n → Told (side.heard n 0 0 0 u h 0 r here) (fault (of-connection (connCode n)) u h)
-  dies-comes n u h (k, e) = rw e (subst (λ x. Told (side.heard (codeNumber (of-connection k)) 0 0 0 u h 0 r here) (fault (of-connection x) u h)) (sym (connection-named k)) (kill-comes k u h))
+  dies-comes : (n : Code) (u h : ℕ) → OfConnection n → Told (side.heard (codeNumber n) 0 0 0 u h 0 r here) (fault n u h)
+  dies-comes (of-stream k) u h o = absurd o
+  dies-comes (of-connection k) u h o = kill-comes k u h
 
   module _ (x : OneState) (f : feeding here allow piece state .after ≡ O.lives x) (stays : Heeds (oneWayRecord (r .id) x) × (stateHere (oneWayRecord (r .id) x) (sideAfter here x) ≡ x)) where
     slot-after : slotOf (sideAfter here x) (oneWayRecord (r .id) x) ≡ held (r .id) (telling x)
@@ -308,7 +311,7 @@ module _ (c : Connection) (rows : List Record) (p : Paired c rows) (at : ℕ) (r
         steps w row (code-none w row (told 0 ev from len u h val) 0 refl ∙ ap (turn w row) q) slot-after conn-after (others-stand p at r was allow piece x f)
 
   said-comes : (u h : ℕ) (e : OneEvent) (o : OneOutcome) → feeding here allow piece state .after ≡ o → OneTells e o → ((x : OneState) → o ≡ O.lives x → Heeds (side.saidBy r here u h e o .row) × (stateHere (side.saidBy r here u h e o .row) (side.saidBy r here u h e o .side) ≡ x))
-      → ((n : ℕ) → o ≡ O.dies n → OfConnection n) → Told (side.saidBy r here u h e o) (ofFed (heardBy (keepsOf here) u h e o))
+      → ((n : Code) → o ≡ O.dies n → OfConnection n) → Told (side.saidBy r here u h e o) (ofFed (heardBy (keepsOf here) u h e o))
   unfolding side.saidBy ofFed heardBy oneEvent reported noticed
   said-comes u h (O.of-frames e) (O.dies n) f w s l = dies-comes n u h (l n refl)
   said-comes u h (O.qpack-bytes q len) (O.dies n) f w s l = dies-comes n u h (l n refl)
@@ -316,10 +319,10 @@ module _ (c : Connection) (rows : List Record) (p : Paired c rows) (at : ℕ) (r
   said-comes u h (O.qpack-bytes q len) (O.lives x) f w s l = step-comes x f (s x refl) u h (O.qpack-bytes q len) 7 (u - len) len (typeNumber q) (ap (λ y. told 0 7 (u - len) len u h y) (type-number q))
 
   close-comes : (s : OneState) → Told (closedBy r here (closes s)) (ofClosed (closeOf s))
-  unfolding closes closeOf closedBy ofClosed mapOut reportOf codeNumber
+  unfolding closes closeOf closedBy ofClosed mapOut reportOf
   close-comes (O.in-stream-type g) = leaves (code-none c free-record (told 0 12 0 0 0 0 0) 0 refl)
-  close-comes (O.in-control s) = kill-comes critical 0 0
-  close-comes (O.in-qpack q) = kill-comes critical 0 0
+  close-comes (O.in-control s) = kill-comes closed-critical-stream 0 0
+  close-comes (O.in-qpack q) = kill-comes closed-critical-stream 0 0
   close-comes O.in-skipped = leaves (code-none c free-record (told 0 12 0 0 0 0 0) 0 refl)
 
   fed-comes : OneSuits state → StaysOn 1 allow piece r here (fedHere r here allow piece state) → Told (fedHere r here allow piece state) (ofFed (streams.heardOf (keepsOf here) (O.feed (typesIn (keepsOf here)) allow state piece)))
@@ -332,7 +335,7 @@ module _ (c : Connection) (rows : List Record) (p : Paired c rows) (at : ℕ) (r
 
   pub one-way-comes : OneSuits state → (call : ℕ) → StaysOn call allow piece r here (oneWayAs call allow piece r here state)
       → Comes c rows at (r .id) r (overheard c (oneWayAs call allow piece r here state)) (actOn (connOf c .kept) (telling state) (ownOf call allow piece))
-  unfolding actOn act₁ houseNumber byCall
+  unfolding actOn act₁ byCall
   one-way-comes fits call stays =
       by-each (λ (a : Heard) (x : Own streams.streams). Comes c rows at (r .id) r (overheard c a) (actOn (connOf c .kept) (telling state) x)) call
       (λ z. fed-comes fits (rw z at stays))

@@ -10,6 +10,7 @@ use mathlib.Core.Option.{Option, none, some}
 use mathlib.Core.Logic.{_↔_}
 use lib.Dec.{eqb·suc-zero}
 use lib.ListN.{length, take}
+use Rattle.rules.specs.Numbers.{frame-error, section-due, of-stream, of-connection, ConnectionFault, Code}
 use Rattle.rules.specs.Reading.{Part, Kept, Use, content, skipped, section, kept, Ruling, refuse, accept, Next, stop, go, Grammar, ended}
 use Rattle.rules.specs.Integers.{integer}
 use Rattle.rules.specs.Message as message
@@ -28,7 +29,7 @@ use Rattle.meaning.specs.EveryFeed as E
 use Rattle.meaning.specs.EveryFeed.{feed-stops, feed-allows}
 use Rattle.meaning.specs.OneWayFeed as O
 use Rattle.meaning.specs.OneWays.{one-allows, OneStops, one-stops}
-use Rattle.traces.specs.Stream.{frame-error, section-due, of-stream, of-connection, qpack-bytes, settings, client-goaway, max-push-id, Event, quiet, section-bytes, content-bytes, notice, Fed, goes, faults, Ended, is-whole, broken, done, fed, feed, ofFed, mapOut, Machine, act, act₁, either}
+use Rattle.traces.specs.Stream.{qpack-bytes, settings, client-goaway, max-push-id, Event, quiet, section-bytes, content-bytes, notice, Fed, goes, faults, Ended, is-whole, broken, done, fed, feed, ofFed, mapOut, Machine, act, act₁, either}
 use Rattle.traces.specs.Stream as stream
 use Rattle.traces.specs.Board.{request, kindOf, Stream, asking, telling, Pair, Held, Call, on, Answer, gave, left, house, code, same, with, alive, faulted, actOn, settle, acting, find, fresh, call, run, trace, one-way}
 use Rattle.traces.specs.View.{Shown, running, View, plusFeed, view}
@@ -37,7 +38,7 @@ use Rattle.traces.specs.Follow.{Agrees, open-still, over, agrees, not-running}
 use Rattle.traces.specs.Oneways.{Both, Story₁, Says, says, story₁}
 use Rattle.traces.specs.Story.{Reached, by-feed, Asks, asks, Story, story, shut}
 use Rattle.traces.specs.Demands.{waits, verdictOf, endAnswer}
-use Rattle.demands.specs.Streams.{pick as choose, streamCode, connCode, codeOf, endedBy, isDue, eventOf, fedBy, Keeps, typesIn, noticeOf, framesEvent, oneEvent, heardBy, streams}
+use Rattle.demands.specs.Streams.{streamCode, connCode, endedBy, isDue, eventOf, fedBy, Keeps, typesIn, noticeOf, framesEvent, oneEvent, heardBy, streams}
 use Rattle.demands.specs.Reading.{reading}
 use Rattle.demands.specs.Reads.{fed-goes, reads}
 use Rattle.demands.specs.Moves.{alone}
@@ -104,7 +105,7 @@ module _ {M : Machine} where
     unfolding call alive same
     at-call id p allow piece = by (p .conn .dead)
       where
-        by : (d : Option stream.ConnCode) → KeepsTo allow piece (alive d p (acting id (feed allow piece) p (find id (p .row))) .answer)
+        by : (d : Option ConnectionFault) → KeepsTo allow piece (alive d p (acting id (feed allow piece) p (find id (p .row))) .answer)
         by none = at-slot id p (find id (p .row)) allow piece
         by (some k) = record { fits = zero-le; allowed = zero-le }
 
@@ -465,7 +466,7 @@ module _ (r r′ : State Message) (allow u h : ℕ) (piece : List ℕ) (e : Even
   stops-by (E.Stops.at-allowance q) = at-allowance (sym (was .2) ∙ q)
   stops-by (E.Stops.at-fault {code = n} q) = absurd (alive-still r′ n (sym (was .0) ∙ q))
     where
-      alive-still : (s : State Message) (n : ℕ) → lives s ≡ dies n → ⊥
+      alive-still : (s : State Message) (n : Code) → lives s ≡ dies n → ⊥
       alive-still s n e = let z : _≡_ {A = ℕ} 0 1 = cc in omega arith
   stops-by (E.Stops.while-due q) = named-loud (this .event) (mark-loud (this .used) (this .event) (sym (feed-marks asks-so allow r reading-on piece) ∙ ap dueIn q)) refl
 
@@ -496,7 +497,7 @@ never-waits (broken k) e = let z : _≡_ {A = ℕ} 0 1 = cc in omega arith
 
 -- a request stream ended between two frames may be incomplete or malformed, but is not cut
 not-cut : (x : message.Ended) → endedBy (ended (end-of x) 0) ≡ broken (of-connection frame-error) → ⊥
-unfolding endedBy ended end-of ask.codeOf codeOf connCode streamCode choose
+unfolding endedBy ended end-of ask.codeOf connCode streamCode
 not-cut message.all-come e = let z : _≡_ {A = ℕ} 0 1 = cc in omega arith
 not-cut (message.lacks message.out-of-place) e = let z : _≡_ {A = ℕ} 0 1 = cc in omega arith
 not-cut (message.lacks message.past-stated) e = let z : _≡_ {A = ℕ} 0 1 = cc in omega arith
@@ -603,7 +604,7 @@ one-stopped allow piece u h (O.of-frames F.quiet) o s w a l (OneStops.at-end x) 
 one-stopped allow piece u h (O.of-frames F.quiet) o s w a l (OneStops.at-allowance x) = at-allowance x
 one-stopped allow piece u h (O.of-frames F.quiet) o s w a l (OneStops.at-fault {code = n} x) = absurd (lives-on s n (sym l ∙ x))
   where
-    lives-on : (s : O.OneState) (n : ℕ) → O.lives s ≡ O.dies n → ⊥
+    lives-on : (s : O.OneState) (n : Code) → O.lives s ≡ O.dies n → ⊥
     lives-on s n e = let z : _≡_ {A = ℕ} 0 1 = cc in omega arith
 one-stopped allow piece u h (O.of-frames F.quiet) o s w a l (OneStops.while-due x) = absurd (subst OneAfter x a)
 one-stopped allow piece u h (O.of-frames (F.section-bytes len last)) o s w a l x = absurd w

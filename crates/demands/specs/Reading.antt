@@ -8,7 +8,7 @@ use Rattle.rules.specs.Request.{document, request}
 use Rattle.meaning.specs.Feeds.{headersIn}
 use Rattle.meaning.specs.First.{placeOf}
 use Rattle.traces.specs.Demands.{Verdict, is-legal, bad, waits, Meaning}
-use Rattle.demands.specs.Streams.{codeOf, sectionOf, streams}
+use Rattle.demands.specs.Streams.{sectionOf, streams}
 
 -- blocks stand for the sections that they read as
 unfoldable pub sectionsOf : (blocks : List (List ℕ)) → List Section
@@ -19,7 +19,7 @@ readingOf bytes blocks = R.read (request document) (sectionsOf blocks) bytes
 
 unfoldable pub verdictBy : R.Verdict → Verdict
 verdictBy R.whole = is-legal
-verdictBy (R.fault code place) = bad (codeOf code)
+verdictBy (R.fault code place) = bad code
 verdictBy (R.waits place) = waits
 
 -- THE MEANING of a request stream: its verdict once it is ended, and the place of it; its content; its section bytes; its frame headers, the refused one among them

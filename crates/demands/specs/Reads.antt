@@ -8,6 +8,7 @@ use mathlib.Core.List.{List, [], _∷_, _++_, map, append-assoc, append-nil, map
 use mathlib.Core.Bool.{Bool, true, false}
 use lib.ListN.{length, length-append, take, drop}
 use lib.Seq.{take-nil, take-append-seam}
+use Rattle.rules.specs.Numbers.{StreamFault, Code, of-stream, of-connection}
 use Rattle.rules.specs.Block.{Section, lines}
 use Rattle.rules.specs.Reading as R
 use Rattle.rules.specs.Reading.{End, complete, lacking, Grammar, Saying, header, refused, section-byte, content-byte, frame-kept, contents, sectionBytes}
@@ -18,11 +19,11 @@ use Rattle.meaning.specs.Feed as F
 use Rattle.meaning.specs.Feeds.{unheaded, headersIn, Within, feed-runs, Call, feed-call, give-call, takes, Done, calls, Came, calls-come, verdict-of, CallsRead, calls-read}
 use Rattle.meaning.specs.EveryFeed.{feed-silent}
 use Rattle.meaning.specs.First.{Inside, placeOf, last-word, first-fault, end-rule, early-inside}
-use Rattle.traces.specs.Stream.{StreamCode, Code, of-stream, of-connection, Event, part, contentIn, sectionIn, noticesIn, qpackIn, Fed, goes, faults, Given, sound, unsound, is-whole, broken}
+use Rattle.traces.specs.Stream.{Event, part, contentIn, sectionIn, noticesIn, qpackIn, Fed, goes, faults, Given, sound, unsound, is-whole, broken}
 use Rattle.traces.specs.View.{Shown, nothing, plusFeed, plusBytes, plusSection}
 use Rattle.traces.specs.Story.{Reached, at-first, by-feed, by-section}
 use Rattle.traces.specs.Demands.{is-legal, bad, waits, Shows, verdictOf, Struck, NoFault, Reads}
-use Rattle.demands.specs.Streams.{streamCode, codeOf, isDue, eventOf, fedBy, isReadable, sectionOf, givenBy, endedBy, streams}
+use Rattle.demands.specs.Streams.{streamCode, isDue, eventOf, fedBy, isReadable, sectionOf, givenBy, endedBy, streams}
 use Rattle.demands.specs.Codes.{is-of-stream}
 use Rattle.demands.specs.InPlace.{Placed, feed-placed, given-placed, given-of-stream}
 use Rattle.demands.specs.Reading.{sectionsOf, readingOf, verdictBy, reading}
@@ -219,18 +220,18 @@ been-runs s o b bl =
     let c : Came G 0 first (doneOf s (b .says) o) = subst (Came G 0 first) (b .came) (calls-come G 0 first (b .made)) in
     rw (zero-add (length (s .bytes))) at (c .state bl)
 
-dead-inside : (s : Shown streams) (code : ℕ) → Been s (M.dies code) → (bl : List Section) → Inside G (sectionsOf (s .sections) ++ bl) (s .bytes) (R.fault code (length (s .bytes)))
+dead-inside : (s : Shown streams) (code : Code) → Been s (M.dies code) → (bl : List Section) → Inside G (sectionsOf (s .sections) ++ bl) (s .bytes) (R.fault code (length (s .bytes)))
 unfolding Inside M.settled
 dead-inside s code b bl = sym (been-runs s (M.dies code) b bl)
 
-dead-verdict : (s : Shown streams) (code : ℕ) → Been s (M.dies code) → (others : List (List ℕ)) (more : List ℕ)
+dead-verdict : (s : Shown streams) (code : Code) → Been s (M.dies code) → (others : List (List ℕ)) (more : List ℕ)
     → readingOf (s .bytes ++ more) (s .sections ++ others) .verdict ≡ R.fault code (length (s .bytes))
 unfolding sectionsOf
 dead-verdict s code b others more =
     let bl = sectionsOf others in
     rw (map-append (λ b. sectionOf (lines b)) (s .sections) others) (last-word G (sectionsOf (s .sections) ++ bl) (s .bytes) more (R.fault code (length (s .bytes))) (dead-inside s code b bl) .0)
 
-dead-struck : (s : Shown streams) (code : ℕ) → Been s (M.dies code) → Struck reading (codeOf code) (s .bytes) (s .sections)
+dead-struck : (s : Shown streams) (code : Code) → Been s (M.dies code) → Struck reading code (s .bytes) (s .sections)
 unfolding verdictBy placeOf
 dead-struck s code b = λ others more. (let e = dead-verdict s code b others more in (ap verdictBy e, ap placeOf e))
 
@@ -263,7 +264,7 @@ end-at s r k b d q =
     let e = end-rule G (sectionsOf (s .sections)) (s .bytes) (been-reads s r b d) in
     ap placeOf e ∙ finish-place (length (s .bytes)) k r (sym (ap verdictBy e) ∙ q)
 
-fault-of : (k : Code) (v : R.Verdict) → verdictBy v ≡ bad k → (code : ℕ) × (v ≡ R.fault code (placeOf v))
+fault-of : (k : Code) (v : R.Verdict) → verdictBy v ≡ bad k → (code : Code) × (v ≡ R.fault code (placeOf v))
 unfolding verdictBy placeOf
 fault-of k R.whole q = let z : _≡_ {A = ℕ} 0 1 = cc in absurd (omega arith)
 fault-of k (R.fault code place) q = (code, refl)
@@ -304,7 +305,7 @@ fed-goes u₀ h₀ e₀ (M.lives s) q = (cc, cc, cc, cc)
 fed-goes u₀ h₀ e₀ (M.dies code) q = let z : _≡_ {A = ℕ} 0 1 = cc in absurd (omega arith)
 
 fed-faults : (u₀ h₀ : ℕ) (e₀ : F.Event) (o : M.Outcome Message) {u h : ℕ} {k : Code} → fedBy u₀ h₀ e₀ o ≡ faults k u h
-    → (code : ℕ) × (o ≡ M.dies code) × (u₀ ≡ u) × (h₀ ≡ h) × (codeOf code ≡ k)
+    → (code : Code) × (o ≡ M.dies code) × (u₀ ≡ u) × (h₀ ≡ h) × (code ≡ k)
 unfolding fedBy
 fed-faults u₀ h₀ e₀ (M.lives s) q = let z : _≡_ {A = ℕ} 0 1 = cc in absurd (omega arith)
 fed-faults u₀ h₀ e₀ (M.dies code) q = (code, refl, cc, cc, cc)
@@ -314,7 +315,7 @@ unfolding givenBy
 given-sound (M.lives s) q = cc
 given-sound (M.dies code) q = let z : _≡_ {A = ℕ} 0 1 = cc in absurd (omega arith)
 
-given-unsound : (o : M.Outcome Message) {k : StreamCode} → givenBy o ≡ unsound k → (code : ℕ) × (o ≡ M.dies code) × (streamCode code ≡ k)
+given-unsound : (o : M.Outcome Message) {k : StreamFault} → givenBy o ≡ unsound k → (code : Code) × (o ≡ M.dies code) × (streamCode code ≡ k)
 unfolding givenBy
 given-unsound (M.lives s) q = let z : _≡_ {A = ℕ} 0 1 = cc in absurd (omega arith)
 given-unsound (M.dies code) q = (code, refl, cc)
@@ -344,7 +345,7 @@ been (by-feed {s = s} {r = r} {r′ = r′} {allow = allow} {u = u} {h = h} {pie
 been (by-section {s = s} {r = r} {r′ = r′} {b = b} t d y q) = been-sound s r r′ b d (been t) q
 
 -- a fault is silent, so the bytes up to it are all that it adds
-been-dead : (s : Shown streams) (r : M.State Message) (allow u h code : ℕ) (piece : List ℕ) → Been s (M.lives r) → let f = F.feed G allow r piece in
+been-dead : (s : Shown streams) (r : M.State Message) (allow u h : ℕ) (code : Code) (piece : List ℕ) → Been s (M.lives r) → let f = F.feed G allow r piece in
     f .after ≡ M.dies code → f .used ≡ u → f .heads ≡ h → Been (plusBytes u h piece s) (M.dies code)
 unfolding plusBytes
 been-dead s r allow u h code piece b e x y =
@@ -374,7 +375,7 @@ reads = record {
         let s′ = plusBytes u h piece s in
         (shows-of s′ (M.dies (g .0)) v, rw (← g .4) (dead-struck s′ (g .0) v))
 
-    at-section : (s : Shown streams) (r : M.State Message) (b : List ℕ) (k : StreamCode) → Been s (M.lives r) → Placed r → isDue r ≡ true → streams .give r b ≡ unsound k
+    at-section : (s : Shown streams) (r : M.State Message) (b : List ℕ) (k : StreamFault) → Been s (M.lives r) → Placed r → isDue r ≡ true → streams .give r b ≡ unsound k
         → Shows reading (plusSection b s) × Struck reading (of-stream k) (s .bytes) (s .sections ++ (b ∷ []))
     at-section s r b k w p d q =
         let x = sectionOf (lines b) in

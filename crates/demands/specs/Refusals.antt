@@ -12,10 +12,11 @@ use Rattle.rules.specs.Reading.{waits, ended}
 use Rattle.rules.specs.Message.{Message, Ended, all-come, lacks, ends}
 use Rattle.rules.specs.Request.{document, request, end-of}
 use Rattle.rules.specs.Numbers as table
-use Rattle.rules.specs.Numbers.{numbers, rowIn, rowOf}
+use Rattle.rules.specs.Numbers.{House, houseNumber, StreamFault, request-rejected, ConnectionFault, Code, of-stream, of-connection, codeNumber}
+use Rattle.meaning.specs.NumberLaws.{refusal-named, fault-named}
 use Rattle.meaning.specs.Machine.{need, State, in-type, in-length, in-payload, due, finish}
 use Rattle.meaning.specs.Machine as machine
-use Rattle.traces.specs.Stream.{House, not-open, not-next, no-room, section-due, none-due, unreadable, short-buffer, bad-goaway, not-24, houseNumber, StreamCode, rejected, cancelled, incomplete, malformed, ConnCode, creation, critical, unexpected, frame-error, excessive, id-error, settings-error, missing, Code, of-stream, of-connection, codeNumber, Event, quiet, Own, Gave, done, fed, Left}
+use Rattle.traces.specs.Stream.{Event, quiet, Own, Gave, done, fed, Left}
 use Rattle.traces.specs.Board.{Kind, kindOf, free, Row, Pair, Call, open′, on, Answer, gave, left, house, code, spend, killed, fresh, call, lent, run, trace}
 use Rattle.traces.specs.Row.{Replaced}
 use Rattle.traces.specs.Went.{pair}
@@ -46,59 +47,22 @@ severityOf (house h) = some table.house
 severityOf (code (of-stream k) u h) = some table.stream
 severityOf (code (of-connection k) u h) = some table.connection
 
-unfoldable pub severityIn : Option table.Row → Option table.Severity
-severityIn none = none
-severityIn (some r) = some (r .severity)
-
 -- the table's last column
-unfoldable pub leavesIn : Option table.Row → Option table.Leaves
-leavesIn none = none
-leavesIn (some r) = some (r .leaves)
-
-unfoldable pub houseLeaves : House → table.Leaves
-houseLeaves not-open = table.nothing-altered
-houseLeaves not-next = table.nothing-altered
-houseLeaves no-room = table.id-unspent
-houseLeaves section-due = table.nothing-altered
-houseLeaves none-due = table.nothing-altered
-houseLeaves unreadable = table.nothing-altered
-houseLeaves short-buffer = table.untouched
-houseLeaves bad-goaway = table.nothing-altered
-houseLeaves not-24 = table.nothing-altered
-
 unfoldable pub leavesOf : Answer → Option table.Leaves
 leavesOf (gave g) = none
 leavesOf (left l) = none
-leavesOf (house h) = some (houseLeaves h)
+leavesOf (house h) = some (table.houseLeaves h)
 leavesOf (code (of-stream k) u h) = some table.record-freed
 leavesOf (code (of-connection k) u h) = some table.code-kept
 
 -- EACH REFUSAL HAS A NUMBER OF THE TABLE, is as grave as its row says, and has that row's last column; 0 is no row's
-pub in-table : (a : Answer) → (severityIn (rowOf (numberOf a)) ≡ severityOf a) × (leavesIn (rowOf (numberOf a)) ≡ leavesOf a)
-unfolding severityIn leavesIn severityOf leavesOf houseLeaves numberOf houseNumber codeNumber rowOf rowIn numbers
-in-table (gave g) = (refl, refl)
-in-table (left l) = (refl, refl)
-in-table (house not-open) = (refl, refl)
-in-table (house not-next) = (refl, refl)
-in-table (house no-room) = (refl, refl)
-in-table (house section-due) = (refl, refl)
-in-table (house none-due) = (refl, refl)
-in-table (house unreadable) = (refl, refl)
-in-table (house short-buffer) = (refl, refl)
-in-table (house bad-goaway) = (refl, refl)
-in-table (house not-24) = (refl, refl)
-in-table (code (of-stream rejected) u h) = (refl, refl)
-in-table (code (of-stream cancelled) u h) = (refl, refl)
-in-table (code (of-stream incomplete) u h) = (refl, refl)
-in-table (code (of-stream malformed) u h) = (refl, refl)
-in-table (code (of-connection creation) u h) = (refl, refl)
-in-table (code (of-connection critical) u h) = (refl, refl)
-in-table (code (of-connection unexpected) u h) = (refl, refl)
-in-table (code (of-connection frame-error) u h) = (refl, refl)
-in-table (code (of-connection excessive) u h) = (refl, refl)
-in-table (code (of-connection id-error) u h) = (refl, refl)
-in-table (code (of-connection settings-error) u h) = (refl, refl)
-in-table (code (of-connection missing) u h) = (refl, refl)
+pub in-table : (a : Answer) → (table.severity (table.named (numberOf a)) ≡ severityOf a) × (table.leaves (table.named (numberOf a)) ≡ leavesOf a)
+unfolding severityOf leavesOf numberOf table.severity table.leaves
+in-table (gave g) = (unfold table.named table.namedIn table.rows table.numberOf in (refl, refl))
+in-table (left l) = (unfold table.named table.namedIn table.rows table.numberOf in (refl, refl))
+in-table (house h) = let e = refusal-named h in rw e (refl, refl)
+in-table (code (of-stream k) u h) = let e = fault-named (of-stream k) in rw e (refl, refl)
+in-table (code (of-connection k) u h) = let e = fault-named (of-connection k) in rw e (refl, refl)
 
 -- THE VERDICT WAITS ONLY WHILE A SECTION IS DUE, and then an end is answered before it is asked for: Streams, endedBy, never answers a wait
 pub waits-while-due : (at : ℕ) (s : State Message) {place : ℕ} → finish (request document) at s ≡ waits place → isDue s ≡ true
@@ -145,19 +109,19 @@ pub data LeavesBy (p : Pair streams) : table.Leaves → Call streams → Answer 
   untouched : {c : Call streams} {a : Answer} → LeavesBy p table.untouched c a p
   freed : {id : ℕ} {o : Own streams} {a : Answer} {row : Row streams} → Replaced id free (p .row) row → LeavesBy p table.record-freed (on id o) a (pair (p .conn) row)
   spent : {id : ℕ} {k : Kind} {a : Answer} → kindOf id ≡ some k → LeavesBy p table.record-freed (open′ id) a (pair (spend k (p .conn)) (p .row))
-  code-kept : {c : Call streams} {k : ConnCode} {u h : ℕ} {p′ : Pair streams} → p′ ≡ pair (killed k (p .conn)) (p .row) → LeavesBy p table.code-kept c (code (of-connection k) u h) p′
+  code-kept : {c : Call streams} {k : ConnectionFault} {u h : ℕ} {p′ : Pair streams} → p′ ≡ pair (killed k (p .conn)) (p .row) → LeavesBy p table.code-kept c (code (of-connection k) u h) p′
 
-house-leaves : (p : Pair streams) (c : Call streams) (h : House) → LeavesBy p (houseLeaves h) c (house h) p
-unfolding houseLeaves
-house-leaves p c not-open = as-it-was
-house-leaves p c not-next = as-it-was
-house-leaves p c no-room = id-unspent
-house-leaves p c section-due = as-it-was
-house-leaves p c none-due = as-it-was
-house-leaves p c unreadable = as-it-was
-house-leaves p c short-buffer = untouched
-house-leaves p c bad-goaway = as-it-was
-house-leaves p c not-24 = as-it-was
+house-leaves : (p : Pair streams) (c : Call streams) (h : House) → LeavesBy p (table.houseLeaves h) c (house h) p
+unfolding table.houseLeaves
+house-leaves p c table.not-open = as-it-was
+house-leaves p c table.not-next = as-it-was
+house-leaves p c table.no-record = id-unspent
+house-leaves p c table.section-due = as-it-was
+house-leaves p c table.none-due = as-it-was
+house-leaves p c table.unreadable = as-it-was
+house-leaves p c table.short-room = untouched
+house-leaves p c table.bad-value = as-it-was
+house-leaves p c table.not-24 = as-it-was
 
 module _ {p p′ : Pair streams} {c : Call streams} {a : Answer} (l : table.Leaves) where
   one-word : (x : table.Leaves) → some x ≡ some l → LeavesBy p x c a p′ → LeavesBy p l c a p′
@@ -165,7 +129,7 @@ module _ {p p′ : Pair streams} {c : Call streams} {a : Answer} (l : table.Leav
 
 by-column : {p p′ : Pair streams} {c : Call streams} {a : Answer} (l : table.Leaves) → leavesOf a ≡ some l → Leaves p c a p′ → LeavesBy p l c a p′
 unfolding leavesOf
-by-column {p} {c = c} l e (L.nothing-altered {h = h}) = one-word l (houseLeaves h) e (house-leaves p c h)
+by-column {p} {c = c} l e (L.nothing-altered {h = h}) = one-word l (table.houseLeaves h) e (house-leaves p c h)
 by-column l e (L.record-freed q) = one-word l table.record-freed e (freed q)
 by-column l e (L.only-spent q) = one-word l table.record-freed e (spent q)
 by-column l e (L.code-kept q) = one-word l table.code-kept e (code-kept q)
@@ -173,15 +137,15 @@ by-column l e L.accepted = let z : _≡_ {A = ℕ} 0 1 = cc in absurd (omega ari
 by-column l e L.accepted-last = let z : _≡_ {A = ℕ} 0 1 = cc in absurd (omega arith)
 
 -- AS THE TABLE SAYS: a call answered with a number of the table leaves what that row's last column says
-pub as-the-table-says : (cs : List (Call streams)) (c : Call streams) (l : table.Leaves) → leavesIn (rowOf (numberOf (call c (run fresh cs) .answer))) ≡ some l
+pub as-the-table-says : (cs : List (Call streams)) (c : Call streams) (l : table.Leaves) → table.leaves (table.named (numberOf (call c (run fresh cs) .answer))) ≡ some l
     → LeavesBy (run fresh cs) l c (call c (run fresh cs) .answer) (call c (run fresh cs) .after)
 as-the-table-says cs c l e = by-column l (sym (in-table (call c (run fresh cs) .answer) .1) ∙ e) (demand-1 cs c)
 
-pub lent-as-the-table-says : (c : Call streams) (p : Pair streams) (l : table.Leaves) → leavesIn (rowOf (numberOf (lent c p .answer))) ≡ some l → LeavesBy p l c (lent c p .answer) (lent c p .after)
+pub lent-as-the-table-says : (c : Call streams) (p : Pair streams) (l : table.Leaves) → table.leaves (table.named (numberOf (lent c p .answer))) ≡ some l → LeavesBy p l c (lent c p .answer) (lent c p .after)
 lent-as-the-table-says c p l e = by-column l (sym (in-table (lent c p .answer) .1) ∙ e) (demand-1-lent c p)
 
 -- DEAD STAYS DEAD: each later call but start gives the code, and leaves all as it was
-pub dead-stays : (c : Call streams) (p : Pair streams) (k : ConnCode) → Later c → p .conn .dead ≡ some k → call c p ≡ record { answer = code (of-connection k) 0 0; after = p }
+pub dead-stays : (c : Call streams) (p : Pair streams) (k : ConnectionFault) → Later c → p .conn .dead ≡ some k → call c p ≡ record { answer = code (of-connection k) 0 0; after = p }
 dead-stays c p k l e = A.dead-stays c p k l e
 
 -- ---- openings

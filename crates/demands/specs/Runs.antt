@@ -5,9 +5,12 @@ use Prim.Native.Nat.{ℕ, zero, suc, _≤_}
 use native.Mathlib.Omega.{arith}
 use mathlib.Core.List.{List, [], _∷_, map}
 use mathlib.Core.Bool.{Bool, true, false}
+use mathlib.Core.Logic.{_⊎_, inl, inr}
 use mathlib.Core.Option.{Option, none, some}
 use lib.ListN.{length, set}
 use lib.Seq.{set-getD}
+use Rattle.rules.specs.Numbers as numbers
+use Rattle.rules.specs.Numbers.{section-due, none-due, not-24, houseNumber, ConnectionFault, Code, of-connection, codeNumber}
 use Rattle.rules.specs.Block.{Lines, readable, unreadable, lines}
 use Rattle.rules.specs.Integers.{integer}
 use Rattle.rules.specs.Reading as reading
@@ -18,13 +21,14 @@ use Rattle.rules.specs.Request as asked
 use Rattle.rules.specs.Control as say
 use Rattle.rules.specs.Control.{Settings, Control}
 use Rattle.rules.specs.Writer.{Write, refused, wrote}
+use Rattle.meaning.specs.NumberLaws.{code-high}
 use Rattle.meaning.specs.Machine as M
 use Rattle.meaning.specs.Machine.{State, Outcome}
 use Rattle.meaning.specs.Feed as F
 use Rattle.meaning.specs.OneWayFeed as O
 use Rattle.meaning.specs.OneWayFeed.{OneState, OneOutcome, OneEvent}
 use Rattle.traces.specs.Stream as trace
-use Rattle.traces.specs.Stream.{section-due, none-due, not-24, houseNumber, ConnCode, qpack-bytes, settings, client-goaway, max-push-id, Event, quiet, section-bytes, content-bytes, notice, Own, feed, section, end, reset, Gave, done, fed, Out, refuse, step, leave, ofFed, ofGiven, ofEnded, ofClosed, mapOut, either, act, act₁}
+use Rattle.traces.specs.Stream.{qpack-bytes, settings, client-goaway, max-push-id, Event, quiet, section-bytes, content-bytes, notice, Own, feed, section, end, reset, Gave, done, fed, Out, refuse, step, leave, ofFed, ofGiven, ofEnded, ofClosed, mapOut, either, act, act₁}
 use Rattle.traces.specs.Board.{Stream, asking, telling, Pair, Held, Call, start, open′, on, goaway, Answer, gave, left, house, code, keeping, call, same, actOn, run, Entry, trace, fresh}
 use Rattle.traces.specs.Went as went
 use Rattle.traces.specs.Went.{Went}
@@ -35,7 +39,7 @@ use Rattle.record.specs.Row.{free-record}
 use Rattle.requests.specs.declared.Reply.{Reply}
 use Rattle.requests.specs.Reply as reply
 use Rattle.requests.specs.Reply.{leftBy, stateIn}
-use Rattle.requests.specs.Severity.{left-alone}
+use Rattle.requests.specs.Severity.{connection-leaves}
 use Rattle.doors.specs.declared.Goaway.{Goaway}
 use Rattle.doors.specs.Goaway.{sendingOf, writeOf}
 use Rattle.oneway.specs.Closed.{closes}
@@ -50,7 +54,7 @@ use Rattle.connection.specs.declared.Found.{Found}
 use Rattle.connection.specs.declared.Turn.{Turn}
 use Rattle.connection.specs.declared.Written.{Written}
 use Rattle.connection.specs.Halves.{stream-id, doorsIn, withDoors, sideIn, withSide}
-use Rattle.connection.specs.Faults.{withCode, Fault, kept-fault, kept-none}
+use Rattle.connection.specs.Faults.{withCode, Fault, kept-fault, kept-small}
 use Rattle.connection.specs.Turned.{byCall, unaltered, openedAt, requestAs, oneWayAs, Turned, other-row, dead, opens, not-open, request, one-way, sweptOf}
 use Rattle.connection.specs.Ways.{begun-fresh, begun-other, swept-other, opening-refused}
 use Rattle.board.specs.Promises.{Started, Stepped, Opened, Fed, Given, Ended, Reset, SaidGoaway}
@@ -169,7 +173,7 @@ module _ {c : Connection} {rows : List Record} {n id allow : ℕ} {piece : List 
 
 module _ {c : Connection} {rows : List Record} {n id allow : ℕ} {piece : List ℕ} {c′ : Connection} {rows′ : List Record} {r : Report} (other : ¬ (length rows ≡ 24)) (m : Stepped c rows n id allow piece c′ rows′ r) where
   pub nine : (c′ ≡ c) × (rows′ ≡ rows) × (r ≡ reportOf (house not-24))
-  unfolding reportOf houseNumber
+  unfolding reportOf
   nine = let q = by (m .turned) in let u = stored m (unaltered-so 9 q) in (u .0, u .1, m .answered ∙ ap (λ t. t .report) q)
     where
       short : m .found .len ≡ 24 → ⊥
@@ -186,7 +190,7 @@ module _ {c : Connection} {rows : List Record} {n id allow : ℕ} {piece : List 
 -- and so a start
 module _ {c : Connection} {rows : List Record} {c′ : Connection} {rows′ : List Record} {n : ℕ} (other : ¬ (length rows ≡ 24)) (m : Started c rows c′ rows′ n) where
   pub start-nine : (c′ ≡ c) × (rows′ ≡ rows) × (n ≡ reportOf (house not-24) .number)
-  unfolding reportOf houseNumber
+  unfolding reportOf
   start-nine = let q = sym (begun-other c (length rows) other) in (m .conn-left ∙ ap (λ b. b .conn) q, m .rows-left ∙ swept rows, m .answered ∙ ap (λ b. b .number) q)
     where
       swept : (rs : List Record) → map (sweptOf (length rows)) rs ≡ rs
@@ -200,7 +204,11 @@ OfHouse n = (1 ≤ n) × (n ≤ 9)
 
 -- a number that frees no record
 abbrev FreesNone : ℕ → Type 0
-FreesNone n = (1 ≤ n) × (n ≤ 0x010a)
+FreesNone n = OfHouse n ⊎ Fault n
+
+not-zero : FreesNone 0 → ⊥
+not-zero (inl h) = omega arith
+not-zero (inr (f, e)) = let h = code-high (of-connection f) in omega arith
 
 -- what holds of each call's answer holds of any
 module _ {A : Type 0} (P : A → Type 0) {f g e r : A} where
@@ -220,11 +228,15 @@ module _ (r : Record) where
   same-as-is : (n e s l u h : ℕ) → AsIs r (reply.reply n e s l u h r)
   same-as-is n e s l u h = record { row = λ z. refl }
 
-  code-as-is : (n u h : ℕ) → AsIs r (reply.reply n 0 0 0 u h (leftBy n r))
-  code-as-is n u h = record { row = λ z. sym (left-alone r n ((λ e. omega arith), (λ e. omega arith), (λ e. omega arith), (λ e. omega arith))) }
+  code-as-is : (k : Code) (u h : ℕ) → let n = codeNumber k in AsIs r (reply.reply n 0 0 0 u h (leftBy n r))
+  code-as-is k u h = record { row = by }
+    where
+      by : FreesNone (codeNumber k) → leftBy (codeNumber k) r ≡ r
+      by (inl x) = let l = code-high k in absurd (omega arith)
+      by (inr (f, e)) = ap (λ n. leftBy n r) e ∙ connection-leaves f r
 
   zero-as-is : (q : Record) (e s l u h : ℕ) → AsIs r (reply.reply 0 e s l u h q)
-  zero-as-is q e s l u h = record { row = λ z. absurd (omega arith) }
+  zero-as-is q e s l u h = record { row = λ z. absurd (not-zero z) }
 
   said-as-is : (u h : ℕ) (e : F.Event) (o : Outcome Message) → AsIs r (reply.saidBy r u h e o)
   unfolding reply.saidBy
@@ -281,12 +293,12 @@ module _ (r : Record) (d : Side) where
   same-as-is₁ n u h = record { row = λ z. refl; side = λ z. refl }
 
   zero-as-is₁ : (q : Record) (x : Side) (e s l u h v : ℕ) → AsIs₁ r d (side.heard 0 e s l u h v q x)
-  zero-as-is₁ q x e s l u h v = record { row = λ z. absurd (omega arith); side = λ z. absurd (omega arith) }
+  zero-as-is₁ q x e s l u h v = record { row = λ z. absurd (not-zero z); side = λ z. absurd (not-zero z) }
 
   said-as-is₁ : (u h : ℕ) (e : OneEvent) (o : OneOutcome) → AsIs₁ r d (side.saidBy r d u h e o)
   unfolding side.saidBy
-  said-as-is₁ u h (O.of-frames e) (O.dies n) = same-as-is₁ n u h
-  said-as-is₁ u h (O.qpack-bytes q len) (O.dies n) = same-as-is₁ n u h
+  said-as-is₁ u h (O.of-frames e) (O.dies n) = same-as-is₁ (codeNumber n) u h
+  said-as-is₁ u h (O.qpack-bytes q len) (O.dies n) = same-as-is₁ (codeNumber n) u h
   said-as-is₁ u h (O.of-frames e) (O.lives x) = zero-as-is₁ _ _ _ _ _ _ _ _
   said-as-is₁ u h (O.qpack-bytes q len) (O.lives x) = zero-as-is₁ _ _ _ _ _ _ _ _
 
@@ -313,33 +325,33 @@ module _ {c : Connection} {f : Found} {n id allow : ℕ} {piece : List ℕ} {t :
       let a = requestAs n allow piece (f .row) (stateIn (f .row)) in
       let k : t .report .number ≡ a .number = ap (λ y. y .report .number) q in
       let i = request-as-is (f .row) n allow piece (stateIn (f .row)) in
-      record { conn = ap (λ y. y .conn) q ∙ sym (kept-none c (a .number) (λ x. omega arith)); row = ap (λ y. y .row) q ∙ i .row (omega arith, omega arith) }
+      record { conn = ap (λ y. y .conn) q ∙ sym (kept-small c (a .number) (omega arith)); row = ap (λ y. y .row) q ∙ i .row (inl (omega arith, omega arith)) }
   house-turned (one-way v x l h q s) z =
       let a = oneWayAs n allow piece (f .row) (sideIn c) (stateHere (f .row) (sideIn c)) in
       let k : t .report .number ≡ a .number = ap (λ y. y .report .number) q in
       let i = one-way-as-is (f .row) (sideIn c) n allow piece (stateHere (f .row) (sideIn c)) in
       record {
-        conn = ap (λ y. y .conn) q ∙ sym (kept-none (withSide c (a .side)) (a .number) (λ x. omega arith)) ∙ ap (withSide c) (i .side (omega arith, omega arith));
-        row = ap (λ y. y .row) q ∙ i .row (omega arith, omega arith);
+        conn = ap (λ y. y .conn) q ∙ sym (kept-small (withSide c (a .side)) (a .number) (omega arith)) ∙ ap (withSide c) (i .side (inl (omega arith, omega arith)));
+        row = ap (λ y. y .row) q ∙ i .row (inl (omega arith, omega arith));
       }
 
   -- and a connection fault of a call on a stream: the code, and all else byte for byte
   fault-turned : ¬ (n ≡ 0) → Turned c f n id allow piece t → Fault (t .report .number) → (t .conn ≡ withCode (t .report .number) c) × (t .row ≡ f .row)
-  fault-turned b (other-row x q) z = let k : t .report .number ≡ 9 = ap (λ y. y .report .number) q in absurd (omega arith)
+  fault-turned b (other-row x q) z = let k : t .report .number ≡ 9 = ap (λ y. y .report .number) q in let h = code-high (of-connection (z .0)) in let e = z .1 in absurd (omega arith)
   fault-turned b (dead l x q) z = let k : t .report .number ≡ c .doors .code = ap (λ y. y .report .number) q in (ap (λ y. y .conn) q ∙ ap (λ y. withCode y c) (sym k), ap (λ y. y .row) q)
   fault-turned b (opens v e q) z = absurd (b e)
-  fault-turned b (not-open v x s q) z = let k : t .report .number ≡ 1 = ap (λ y. y .report .number) q in absurd (omega arith)
+  fault-turned b (not-open v x s q) z = let k : t .report .number ≡ 1 = ap (λ y. y .report .number) q in let h = code-high (of-connection (z .0)) in let e = z .1 in absurd (omega arith)
   fault-turned b (request v x l o q s) z =
       let a = requestAs n allow piece (f .row) (stateIn (f .row)) in
       let k : t .report .number ≡ a .number = ap (λ y. y .report .number) q in
       let i = request-as-is (f .row) n allow piece (stateIn (f .row)) in
-      (ap (λ y. y .conn) q ∙ sym (kept-fault c (a .number) (omega arith, omega arith)) ∙ ap (λ y. withCode y c) (sym k), ap (λ y. y .row) q ∙ i .row (omega arith, omega arith))
+      (ap (λ y. y .conn) q ∙ sym (kept-fault c (a .number) (z .0, sym k ∙ z .1)) ∙ ap (λ y. withCode y c) (sym k), ap (λ y. y .row) q ∙ i .row (inr (z .0, sym k ∙ z .1)))
   fault-turned b (one-way v x l h q s) z =
       let a = oneWayAs n allow piece (f .row) (sideIn c) (stateHere (f .row) (sideIn c)) in
       let k : t .report .number ≡ a .number = ap (λ y. y .report .number) q in
       let i = one-way-as-is (f .row) (sideIn c) n allow piece (stateHere (f .row) (sideIn c)) in (
-        ap (λ y. y .conn) q ∙ sym (kept-fault (withSide c (a .side)) (a .number) (omega arith, omega arith)) ∙ ap (λ y. withCode (a .number) (withSide c y)) (i .side (omega arith, omega arith)) ∙ ap (λ y. withCode y c) (sym k),
-        ap (λ y. y .row) q ∙ i .row (omega arith, omega arith),
+        ap (λ y. y .conn) q ∙ sym (kept-fault (withSide c (a .side)) (a .number) (z .0, sym k ∙ z .1)) ∙ ap (λ y. withCode (a .number) (withSide c y)) (i .side (inr (z .0, sym k ∙ z .1))) ∙ ap (λ y. withCode y c) (sym k),
+        ap (λ y. y .row) q ∙ i .row (inr (z .0, sym k ∙ z .1)),
       )
 
   dead-turned : Turned c f n id allow piece t → ¬ (c .doors .code ≡ 0) → Untouched c f t
@@ -426,7 +438,7 @@ pub fault-alters : {c : Connection} {rows : List Record} {n id allow : ℕ} {pie
     → (c′ ≡ withCode (r .number) c) × (rows′ ≡ rows)
 fault-alters {c} {rows} b m z =
     let e = ap (λ y. y .number) (m .answered) in
-    let u = fault-turned b (m .turned) (omega (arith, z .0), omega (arith, z .1)) in
+    let u = fault-turned b (m .turned) (z .0, sym e ∙ z .1) in
     (m .conn-left ∙ u .0 ∙ ap (λ k. withCode k c) (sym e), m .rows-left ∙ ap (set rows (m .found .at)) (u .1 ∙ m .is-found .row) ∙ set-getD rows (m .found .at) free-record)
 
 -- ---- settings that are told are those that are kept (the report has no room for them: the host reads them in the connection's record)
@@ -501,7 +513,7 @@ module _ (k : Keeps) where
   unfolding actOn act mapOut
   ask-says s (feed allow piece) = let g = F.feed (asked.request document) allow s piece in either-says (isDue s) (refuse section-due) (ofFed (fedBy (g .used) (g .heads) (g .event) (g .after))) tt (fed-says (g .used) (g .heads) (g .event) (g .after))
   ask-says s (section b) = let o = M.given (asked.request document) (sectionOf (lines b)) s in
-      either-says (isDue s) (either (isReadable (lines b)) (ofGiven (givenBy o)) (refuse trace.unreadable)) (refuse none-due) (either-says (isReadable (lines b)) (ofGiven (givenBy o)) (refuse trace.unreadable) (given-says o) tt) tt
+      either-says (isDue s) (either (isReadable (lines b)) (ofGiven (givenBy o)) (refuse numbers.unreadable)) (refuse none-due) (either-says (isReadable (lines b)) (ofGiven (givenBy o)) (refuse numbers.unreadable) (given-says o) tt) tt
   ask-says s end = either-says (isDue s) (refuse section-due) (ofEnded (endedBy (M.finish (asked.request document) 0 s))) tt (ended-says (M.finish (asked.request document) 0 s))
   ask-says s reset = tt
 
@@ -519,7 +531,7 @@ module _ (k : Keeps) where
   heard-says u h (O.qpack-bytes q len) (O.lives s) w = tt
   heard-says u h e (O.dies n) w = tt
 
-  closed-says : (c : Option ConnCode) → TellSays (ofClosed c)
+  closed-says : (c : Option ConnectionFault) → TellSays (ofClosed c)
   unfolding ofClosed mapOut
   closed-says none = tt
   closed-says (some c) = tt

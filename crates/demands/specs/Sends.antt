@@ -10,10 +10,11 @@ use mathlib.Core.Option.{Option, none, some}
 use lib.Dec.{ltb}
 use lib.ListN.{length, length-append}
 use borrow.Author.Tests.{eq-eqb, ne-eqb, lt-ltb, le-ltb, le-leb, lt-leb}
+use Rattle.rules.specs.Numbers.{houseNumber, short-room, bad-value, ConnectionFault, of-connection, codeNumber, coded}
 use Rattle.rules.specs.Integers.{row, rows, inRow, inFirst, written, largest}
 use Rattle.rules.specs.Writer.{Write, refused, wrote, into, both, header-bytes, integer-frame, write-integer-frame, isHigher, badGoaway, write-goaway}
 use Rattle.meaning.specs.IntegerLaws.{length-row}
-use Rattle.traces.specs.Stream.{houseNumber, short-buffer, bad-goaway, ConnCode, of-connection, codeNumber, done, either}
+use Rattle.traces.specs.Stream.{done, either}
 use Rattle.traces.specs.Board.{pick, higher, goawaySize, goodGoaway, Pair, Result, goaway, gave, house, code, limited, same, with, alive, sending, call}
 use Rattle.traces.specs.Row.{pick-yes, pick-no}
 use Rattle.record.specs.declared.Record.{Record}
@@ -26,7 +27,7 @@ use Rattle.connection.specs.Turned.{goneBy}
 use Rattle.connection.specs.Pair.{goaway-pair}
 use Rattle.board.specs.Promises.{SaidGoaway}
 use Rattle.demands.specs.Streams.{streams}
-use Rattle.demands.specs.Codes.{connection-range}
+use Rattle.meaning.specs.NumberLaws.{code-high}
 use Rattle.demands.specs.Means.{rowOf, deadBy, connOf, pairOf, writtenOf}
 use Rattle.demands.specs.Settles.{dead-by, alive-call}
 use Rattle.demands.specs.Suited.{RowSuits, suits-call}
@@ -139,23 +140,23 @@ module _ (c : Connection) (rows : List Record) (id room : ℕ) where
     after : pairOf (withDoors c (sendingOf (doorsIn c) (stream-id id) w .doors)) rows ≡ y .after
     answer : record { number = sendingOf (doorsIn c) (stream-id id) w .number; count = sendingOf (doorsIn c) (stream-id id) w .count } ≡ writtenOf id (y .answer)
 
-  bad-so : Writes (refused 8) (same (house bad-goaway) p)
-  unfolding sendingOf same writtenOf houseNumber
+  bad-so : Writes (refused 8) (same (house bad-value) p)
+  unfolding sendingOf same writtenOf
   bad-so = record { after = refl; answer = refl }
 
-  short-so : Writes (refused 7) (same (house short-buffer) p)
-  unfolding sendingOf same writtenOf houseNumber
+  short-so : Writes (refused 7) (same (house short-room) p)
+  unfolding sendingOf same writtenOf
   short-so = record { after = refl; answer = refl }
 
   wrote-so : (bytes : List ℕ) → length bytes ≡ goawaySize id → Writes (wrote bytes) (with (gave done) (limited id (connOf c)) (rowOf (sideIn c) rows))
   unfolding sendingOf with writtenOf limited sentAs
   wrote-so bytes l = record { after = refl; answer = ap (λ n. record { number = 0; count = n }) l }
 
-  dead-so : (k : ConnCode) → Writes (refused (codeNumber (of-connection k))) (same (code (of-connection k) 0 0) p)
+  dead-so : (k : ConnectionFault) → Writes (refused (codeNumber (of-connection k))) (same (code (of-connection k) 0 0) p)
   unfolding sendingOf same writtenOf
   dead-so k = record { after = refl; answer = refl }
 
-  room-so : {o : Option (List ℕ)} → Long o (goawaySize id) → (d : Dec (goawaySize id ≤ room)) → Writes (into room o) (pick d (with (gave done) (limited id (connOf c)) (rowOf (sideIn c) rows)) (same (house short-buffer) p))
+  room-so : {o : Option (List ℕ)} → Long o (goawaySize id) → (d : Dec (goawaySize id ≤ room)) → Writes (into room o) (pick d (with (gave done) (limited id (connOf c)) (rowOf (sideIn c) rows)) (same (house short-room) p))
   unfolding into pick
   room-so w (yes h) = let i = w .is in let l = w .long in let x = le-ltb room (length (w .bytes)) (omega arith) in rw (i, into) (rw x (wrote-so (w .bytes) l))
   room-so w (no h) = let i = w .is in let l = w .long in let x = lt-ltb room (length (w .bytes)) (omega arith) in rw (i, into) (rw x short-so)
@@ -173,9 +174,9 @@ module _ (c : Connection) (rows : List Record) (id room : ℕ) where
   writes-so (inl e) = let q = alive-call c e p (sending id room p) in rw q (subst (λ n. Writes (writeOf n (doorsIn c) id room) (sending id room p)) (sym e) live-so)
   writes-so (inr (k, e)) =
       let q : alive (deadBy (c .doors .code)) p (sending id room p) ≡ same (code (of-connection k) 0 0) p = ap (λ x. alive x p (sending id room p)) (ap deadBy e ∙ dead-by k) ∙ (unfold alive in refl) in
-      rw q (subst (λ w. Writes w (same (code (of-connection k) 0 0) p)) (by (codeNumber (of-connection k)) (connection-range k .0) ∙ ap (λ n. writeOf n (doorsIn c) id room) (sym e)) (dead-so k))
+      rw q (subst (λ w. Writes w (same (code (of-connection k) 0 0) p)) (by (codeNumber (of-connection k)) (code-high (of-connection k)) ∙ ap (λ n. writeOf n (doorsIn c) id room) (sym e)) (dead-so k))
     where
-      by : (n : ℕ) → 0x0103 ≤ n → refused n ≡ writeOf n (doorsIn c) id room
+      by : (n : ℕ) → 9 < n → refused n ≡ writeOf n (doorsIn c) id room
       by zero h = absurd (omega arith)
       by (suc n) h = refl
 

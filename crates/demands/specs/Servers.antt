@@ -8,7 +8,8 @@ use mathlib.Core.Bool.{Bool, true, false}
 use mathlib.Core.Option.{Option, none, some}
 use mathlib.Core.Logic.{_↔_}
 use lib.ListN.{length}
-use Rattle.traces.specs.Stream.{House, not-open, section-due, StreamCode, incomplete, ConnCode, unexpected, Code, of-stream, of-connection, Event, quiet, contentIn, sectionIn, Gave, done, fed, Left, whole, Own, feed, section, end, reset}
+use Rattle.rules.specs.Numbers.{House, not-open, section-due, StreamFault, request-incomplete, ConnectionFault, frame-unexpected, Code, of-stream, of-connection}
+use Rattle.traces.specs.Stream.{Event, quiet, contentIn, sectionIn, Gave, done, fed, Left, whole, Own, feed, section, end, reset}
 use native.Mathlib.Decide.{ℕ-discrete}
 use Rattle.traces.specs.Board.{pick, over, Kind, request, kindOf, Call, start, open′, on, goaway, Answer, gave, left, house, code, Entry, Pair, fresh, call, run, trace}
 use Rattle.traces.specs.View.{Shown, View, running, ended, refused, nothing, fedly, plusFeed, mine, ifRunning, unseen, view, viewFrom, seen, opened}
@@ -18,7 +19,7 @@ use Rattle.traces.specs.Progress.{Moves, awaits, faulty, moved, Takes}
 use Rattle.rules.specs.Worked.{answer}
 use Rattle.meaning.specs.Feeds.{headersIn}
 use Rattle.meaning.specs.First.{placeOf}
-use Rattle.demands.specs.Streams.{pick as choose, streamCode, connCode, codeOf, streams}
+use Rattle.demands.specs.Streams.{streamCode, connCode, streams}
 use Rattle.demands.specs.Reading.{sectionsOf, verdictBy, reading}
 use Rattle.demands.specs.Demands.{demand-2, end-exactly, progress, section-exactly}
 use Rattle.demands.specs.Refusals.{opening-exactly}
@@ -127,13 +128,13 @@ not-legal : (k : Code) → bad k ≡ is-legal → ⊥
 not-legal k e = let z : _≡_ {A = ℕ} 0 1 = cc in omega arith
 
 -- of no bytes
-empty-means : reading .verdict [] [] ≡ bad (of-stream incomplete)
-unfolding answer verdictBy sectionsOf codeOf streamCode choose
+empty-means : reading .verdict [] [] ≡ bad (of-stream request-incomplete)
+unfolding answer verdictBy sectionsOf streamCode
 empty-means = refl
 
 pub whole-breaks : Promised calls-whole → ⊥
 unfolding kindOf pick ℕ-discrete view viewFrom tracedFrom seen opened unseen nothing ifRunning mine
-whole-breaks p = not-legal (of-stream incomplete) (sym empty-means ∙ p .tells (open′ 0 ∷ on 0 end ∷ []) 0 refl .if-whole refl)
+whole-breaks p = not-legal (of-stream request-incomplete) (sym empty-means ∙ p .tells (open′ 0 ∷ on 0 end ∷ []) 0 refl .if-whole refl)
 
 -- ---- 3. IT CONSUMES NOTHING
 
@@ -153,22 +154,22 @@ nothing-breaks p = no-move _ (p .moves one-open 0 refl refl 1 (0 ∷ []))
 -- ---- 4. IT SETTLES THE VERDICT IN ITS FIRST FEED and idles later: no header section came with it
 
 abbrev pub settles-early : Server
-settles-early = simple (gave done) takes-all (code (of-stream incomplete) 0 0)
+settles-early = simple (gave done) takes-all (code (of-stream request-incomplete) 0 0)
 
 abbrev later-data : List (Call streams)
 later-data = open′ 0 ∷ on 0 (feed 1 []) ∷ on 0 (feed 1 (0x00 ∷ 0x00 ∷ [])) ∷ on 0 end ∷ []
 
-other-code : bad (of-connection unexpected) ≡ bad (of-stream incomplete) → ⊥
+other-code : bad (of-connection frame-unexpected) ≡ bad (of-stream request-incomplete) → ⊥
 other-code e = let z : _≡_ {A = ℕ} 0 1 = cc in omega arith
 
 -- of an empty DATA frame
-data-means : reading .verdict (0x00 ∷ 0x00 ∷ []) [] ≡ bad (of-connection unexpected)
-unfolding answer verdictBy sectionsOf codeOf connCode choose
+data-means : reading .verdict (0x00 ∷ 0x00 ∷ []) [] ≡ bad (of-connection frame-unexpected)
+unfolding answer verdictBy sectionsOf connCode
 data-means = refl
 
 pub early-breaks : Promised settles-early → ⊥
 unfolding kindOf pick ℕ-discrete view viewFrom tracedFrom seen opened unseen nothing ifRunning mine fedly plusFeed contentIn sectionIn
-early-breaks p = other-code (sym data-means ∙ p .tells later-data 0 refl .if-refused (of-stream incomplete) refl)
+early-breaks p = other-code (sym data-means ∙ p .tells later-data 0 refl .if-refused (of-stream request-incomplete) refl)
 
 -- ---- 5. IT INVENTS A HEADER COUNT
 
@@ -190,9 +191,9 @@ headers-breaks p = let e : 2 ≡ reading .heads (0x21 ∷ 0x00 ∷ []) [] = p .t
 -- ---- 6. IT ANSWERS 4 TO EVERY FEED
 
 abbrev pub always-four : Server
-always-four = simple (gave done) (λ piece. house section-due) (code (of-stream incomplete) 0 0)
+always-four = simple (gave done) (λ piece. house section-due) (code (of-stream request-incomplete) 0 0)
 
-never-due : bad (of-stream incomplete) ≡ waits → ⊥
+never-due : bad (of-stream request-incomplete) ≡ waits → ⊥
 never-due e = let z : _≡_ {A = ℕ} 0 1 = cc in omega arith
 
 no-four : Moves reading nothing 1 (0 ∷ []) (house section-due) → ⊥
@@ -206,10 +207,10 @@ four-breaks p = no-four (p .moves one-open 0 refl refl 1 (0 ∷ []))
 -- ---- 7. IT JUDGES AT ONCE, as if the stream had ended with its first feed
 
 abbrev pub judges-at-once : Server
-judges-at-once = simple (gave done) (λ piece. code (of-stream incomplete) 0 0) (code (of-stream incomplete) 0 0)
+judges-at-once = simple (gave done) (λ piece. code (of-stream request-incomplete) 0 0) (code (of-stream request-incomplete) 0 0)
 
 -- an empty DATA frame would have another fault
-not-at-once : Moves reading nothing 1 (0 ∷ []) (code (of-stream incomplete) 0 0) → ⊥
+not-at-once : Moves reading nothing 1 (0 ∷ []) (code (of-stream request-incomplete) 0 0) → ⊥
 unfolding nothing
 not-at-once (faulty w x) = other-code (sym data-means ∙ x [] (0x00 ∷ 0x00 ∷ []) .0)
 
@@ -220,7 +221,7 @@ once-breaks p = not-at-once (p .moves one-open 0 refl refl 1 (0 ∷ []))
 -- ---- 8. IT TELLS A FAULT LATE, at the end
 
 abbrev pub tells-late : Server
-tells-late = simple (gave done) takes-all (code (of-connection unexpected) 0 0)
+tells-late = simple (gave done) takes-all (code (of-connection frame-unexpected) 0 0)
 
 abbrev data-and-more : List (Call streams)
 data-and-more = open′ 0 ∷ on 0 (feed 2 (0x00 ∷ 0x00 ∷ 0x21 ∷ [])) ∷ on 0 end ∷ []
@@ -232,4 +233,4 @@ data-place = refl
 
 pub late-breaks : Promised tells-late → ⊥
 unfolding kindOf pick ℕ-discrete view viewFrom tracedFrom seen opened unseen nothing ifRunning mine fedly plusFeed contentIn sectionIn
-late-breaks p = let e : reading .place (0x00 ∷ 0x00 ∷ 0x21 ∷ []) [] ≡ 3 = p .tells data-and-more 0 refl .at-its-place (of-connection unexpected) refl in let f = data-place in omega arith
+late-breaks p = let e : reading .place (0x00 ∷ 0x00 ∷ 0x21 ∷ []) [] ≡ 3 = p .tells data-and-more 0 refl .at-its-place (of-connection frame-unexpected) refl in let f = data-place in omega arith

@@ -1,11 +1,13 @@
 -- What the core makes of the record that was found is what the trace makes of the stream: answer by answer. Assumes nothing.
 use mathlib.Core.Path.{_≡_, refl, sym, ap, _∙_}
-use Prim.Native.Nat.{ℕ}
+use Prim.Native.Nat.{ℕ, zero, suc, _<_}
+use native.Mathlib.Omega.{arith}
 use mathlib.Core.List.{List}
 use mathlib.Core.Option.{some}
 use lib.ListN.{getD, set}
 use lib.Seq.{set-getD}
-use Rattle.traces.specs.Stream.{House, houseNumber, StreamCode, ConnCode, creation, critical, unexpected, frame-error, excessive, id-error, settings-error, missing, of-stream, of-connection, codeNumber, Own, Gave, Left, Out, refuse, step, leave, fault}
+use Rattle.rules.specs.Numbers.{House, houseNumber, StreamFault, ConnectionFault, stream-creation-error, closed-critical-stream, frame-unexpected, frame-error, excessive-load, id-error, settings-error, missing-settings, of-stream, of-connection, codeNumber, coded}
+use Rattle.traces.specs.Stream.{Own, Gave, Left, Out, refuse, step, leave, fault}
 use Rattle.traces.specs.Board.{Stream, free, held, Row, Conn, Pair, Held, Call, on, gave, left, code, Result, killed, keeping, find, put, same, with, alive, faulted, actOn, settle, acting, call}
 use Rattle.traces.specs.Went.{pair}
 use Rattle.traces.specs.Refine.{FoundAt, found-find, found-put-as, found-put}
@@ -17,7 +19,9 @@ use Rattle.connection.specs.declared.Turn.{Turn}
 use Rattle.connection.specs.Halves.{sideIn}
 use Rattle.connection.specs.Faults.{withCode}
 use Rattle.connection.specs.Turned.{numbered, turn}
-use Rattle.demands.specs.Streams.{connCode, pick, streams}
+use Rattle.demands.specs.Streams.{connCode, streams}
+use Rattle.meaning.specs.NumberLaws.{code-high}
+use Rattle.demands.specs.Codes.{connection-back}
 use Rattle.demands.specs.Means.{slotAt, slotOf, rowOf, deadBy, connOf, pairOf, reportOf}
 
 -- A CALL IS THE TRACE'S: what is left means what the trace leaves, and the report is its answer
@@ -39,18 +43,15 @@ unfolding alive deadBy
 alive-call c e p r = rw e refl
 
 -- a code that is kept
-pub dead-by : (k : ConnCode) → deadBy (codeNumber (of-connection k)) ≡ some k
-unfolding deadBy connCode codeNumber pick
-dead-by creation = refl
-dead-by critical = refl
-dead-by unexpected = refl
-dead-by frame-error = refl
-dead-by excessive = refl
-dead-by id-error = refl
-dead-by settings-error = refl
-dead-by missing = refl
+pub dead-by : (k : ConnectionFault) → deadBy (codeNumber (of-connection k)) ≡ some k
+unfolding deadBy
+dead-by k = by (codeNumber (of-connection k)) (code-high (of-connection k)) ∙ ap some (connection-back k)
+  where
+    by : (n : ℕ) → 9 < n → deadBy n ≡ some (connCode (coded n))
+    by zero h = absurd (omega arith)
+    by (suc n) h = refl
 
-pub killed-by : (c : Connection) (k : ConnCode) → connOf (withCode (codeNumber (of-connection k)) c) ≡ killed k (connOf c)
+pub killed-by : (c : Connection) (k : ConnectionFault) → connOf (withCode (codeNumber (of-connection k)) c) ≡ killed k (connOf c)
 unfolding killed
 killed-by c k = ap (λ x. record { dead = x; nextRequest = connOf c .nextRequest; nextOneway = connOf c .nextOneway; limit = connOf c .limit; kept = connOf c .kept }) (dead-by k)
 
@@ -61,8 +62,8 @@ module _ (c : Connection) (rows : List Record) (at id : ℕ) (r : Record) where
     steps : {g : Gave} {x : Held streams} (d : Connection) (q : Record) → t ≡ turn d q (reportOf (gave g)) → slotOf (sideIn d) q ≡ held id (x .stream) → connOf d ≡ keeping (x .kept) (connOf c)
         → ((j : ℕ) → ¬ (j ≡ at) → slotOf (sideIn d) (getD rows j free-record) ≡ slotOf (sideIn c) (getD rows j free-record)) → Comes t (step g x)
     leaves : {l : Left} → t ≡ turn c free-record (reportOf (left l)) → Comes t (leave l)
-    fails : {k : StreamCode} {u h : ℕ} → t ≡ turn c free-record (reportOf (code (of-stream k) u h)) → Comes t (fault (of-stream k) u h)
-    kills : {k : ConnCode} {u h : ℕ} → t ≡ turn (withCode (codeNumber (of-connection k)) c) r (reportOf (code (of-connection k) u h)) → Comes t (fault (of-connection k) u h)
+    fails : {k : StreamFault} {u h : ℕ} → t ≡ turn c free-record (reportOf (code (of-stream k) u h)) → Comes t (fault (of-stream k) u h)
+    kills : {k : ConnectionFault} {u h : ℕ} → t ≡ turn (withCode (codeNumber (of-connection k)) c) r (reportOf (code (of-connection k) u h)) → Comes t (fault (of-connection k) u h)
 
   module _ (was : r ≡ getD rows at free-record) (s : Stream streams) (found : FoundAt Record (slotOf (sideIn c)) free-record rows id at s) where
     freed-row : rowOf (sideIn c) (set rows at free-record) ≡ put id free (rowOf (sideIn c) rows)

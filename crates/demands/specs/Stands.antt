@@ -4,7 +4,7 @@ use mathlib.Core.Path.{_≡_, refl, sym, subst}
 use Prim.Native.Nat.{ℕ, _≤_}
 use native.Mathlib.Decide.{decLe}
 use mathlib.Core.List.{List}
-use mathlib.Core.Logic.{_⊎_, inr}
+use mathlib.Core.Logic.{_⊎_, inl, inr}
 use lib.ListN.{length}
 use Rattle.rules.specs.Writer.{Write, refused, wrote}
 use Rattle.doors.specs.declared.Doors.{Doors}
@@ -20,16 +20,15 @@ use Rattle.connection.specs.declared.Found.{Found}
 use Rattle.connection.specs.declared.Turn.{Turn}
 use Rattle.connection.specs.declared.Gone.{Gone}
 use Rattle.connection.specs.Halves.{stream-id, doorsIn, sideIn, withSide}
-use Rattle.connection.specs.Faults.{codeKept, kept-fault, kept-none}
+use Rattle.connection.specs.Faults.{withCode, codeKept, Fault, faulty, kept-fault, kept-none}
 use Rattle.connection.specs.Turned.{freeAt, requestAs, oneWayAs, Turned, other-row, dead, opens, not-open, request, one-way, GoesAway}
 use Rattle.connection.specs.Pair.{Paired}
-use Rattle.demands.specs.Codes.{OfConnection, connection-within}
 use Rattle.demands.specs.Means.{pairOf}
 use Rattle.demands.specs.Suited.{RowSuits}
 
 -- alive, or dead of a connection fault
 abbrev pub Coded : ℕ → Type 0
-Coded n = (n ≡ 0) ⊎ OfConnection n
+Coded n = (n ≡ 0) ⊎ Fault n
 
 pub record Stands (c : Connection) (rows : List Record) : Type 0 where
   pub paired : Paired c rows
@@ -39,12 +38,19 @@ pub record Stands (c : Connection) (rows : List Record) : Type 0 where
 -- ---- the code
 
 kept-coded : (c : Connection) (n : ℕ) → Coded (c .doors .code) → Coded (codeKept c n .doors .code)
-kept-coded c n h = by (decLe 0x0103 n) (decLe n 0x010a)
+kept-coded c n h = subst (λ x. Coded (x .doors .code)) (kept-by (faulty n)) (by (faulty n))
   where
-    by : Dec (0x0103 ≤ n) → Dec (n ≤ 0x010a) → Coded (codeKept c n .doors .code)
-    by (yes a) (yes b) = subst (λ x. Coded (x .doors .code)) (kept-fault c n (a, b)) (inr (connection-within n a b))
-    by (no a) b = subst (λ x. Coded (x .doors .code)) (kept-none c n (λ f. a (f .0))) h
-    by (yes a) (no b) = subst (λ x. Coded (x .doors .code)) (kept-none c n (λ f. b (f .1))) h
+    after : (Fault n ⊎ (Fault n → ⊥)) → Connection
+    after (inl f) = withCode n c
+    after (inr other) = c
+
+    kept-by : (x : Fault n ⊎ (Fault n → ⊥)) → after x ≡ codeKept c n
+    kept-by (inl f) = kept-fault c n f
+    kept-by (inr other) = kept-none c n other
+
+    by : (x : Fault n ⊎ (Fault n → ⊥)) → Coded (after x .doors .code)
+    by (inl f) = inr f
+    by (inr other) = h
 
 opened-code : {d : Doors} {id free : ℕ} {o : Opening} → Went d id free o → o .doors .code ≡ d .code
 opened-code (doors.refused n z) = refl

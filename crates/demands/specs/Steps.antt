@@ -8,7 +8,7 @@ use mathlib.Core.Logic.{inl, inr}
 use mathlib.Core.Option.{some}
 use lib.ListN.{length, getD, set, replicate}
 use lib.Seq.{set-getD}
-use Rattle.traces.specs.Stream.{not-open, houseNumber, ConnCode, of-connection}
+use Rattle.rules.specs.Numbers.{not-open, houseNumber, ConnectionFault, of-connection, coded}
 use Rattle.traces.specs.Board as Board
 use Rattle.traces.specs.Board.{Stream, asking, telling, free, held, Pair, open′, on, house, code, find, same, alive, acting, fresh, call}
 use Rattle.traces.specs.Refine.{Whose, FoundAt, found-find, absent-find}
@@ -61,7 +61,7 @@ call-open call id allow piece e = rw e refl
 
 -- ---- a dead connection
 
-call-dead : (call id allow : ℕ) (piece : List ℕ) (p : Pair streams) (k : ConnCode) → p .conn .dead ≡ some k → Board.call (callOf call id allow piece) p ≡ same (code (of-connection k) 0 0) p
+call-dead : (call id allow : ℕ) (piece : List ℕ) (p : Pair streams) (k : ConnectionFault) → p .conn .dead ≡ some k → Board.call (callOf call id allow piece) p ≡ same (code (of-connection k) 0 0) p
 unfolding callOf Board.call alive
 call-dead zero id allow piece p k e = rw e refl
 call-dead (suc call) id allow piece p k e = rw e refl
@@ -93,7 +93,7 @@ module _ (c : Connection) (rows : List Record) (s : Stands c rows) (call id allo
   module _ (live : c .doors .code ≡ 0) (n : ¬ (call ≡ 0)) where
     -- no record is its own
     absent-turns : 24 ≤ f .at → Turns (unaltered 1 c f)
-    unfolding Board.call acting same reportOf houseNumber
+    unfolding Board.call acting same reportOf
     absent-turns l =
         let none-there = absent-find Record as-slot free-record rows id (λ j m w. found .before j (let q = s .paired .long in omega arith) (belongs-wanted id (getD rows j free-record) call n (whose-belongs (sideIn c) id (getD rows j free-record) w))) in
         let q : Board.call (on id (ownOf call allow piece)) p ≡ same (house not-open) p = alive-call c live p (acting id (ownOf call allow piece) p (find id (p .row))) ∙ ap (acting id (ownOf call allow piece) p) none-there in

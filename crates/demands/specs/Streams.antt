@@ -4,6 +4,7 @@ use mathlib.Core.List.{List, [], _∷_, _++_}
 use mathlib.Core.Bool.{Bool, true, false}
 use mathlib.Core.Option.{Option, none, some}
 use lib.Dec.{eqb, ltb}
+use Rattle.rules.specs.Numbers.{StreamFault, request-rejected, request-cancelled, request-incomplete, message-error, ConnectionFault, stream-creation-error, closed-critical-stream, frame-unexpected, frame-error, excessive-load, id-error, settings-error, missing-settings, Code, of-stream, of-connection}
 use Rattle.rules.specs.Block.{Section, Lines, readable, unreadable, lines}
 use Rattle.rules.specs.Reading.{Verdict, whole, fault, waits}
 use Rattle.rules.specs.Message.{Message, opening}
@@ -13,26 +14,18 @@ use Rattle.rules.specs.OneWay.{Qpack, encoder, decoder}
 use Rattle.meaning.specs.Machine as M
 use Rattle.meaning.specs.Feed as F
 use Rattle.meaning.specs.OneWayFeed as O
-use Rattle.traces.specs.Stream.{StreamCode, rejected, cancelled, incomplete, malformed, ConnCode, creation, critical, unexpected, frame-error, excessive, id-error, settings-error, missing, Code, of-stream, of-connection, Notice, qpack-bytes, settings, client-goaway, max-push-id, Event, quiet, section-bytes, content-bytes, notice, Fed, goes, faults, Given, sound, unsound, Ended, is-whole, broken, Machine}
+use Rattle.traces.specs.Stream.{Notice, qpack-bytes, settings, client-goaway, max-push-id, Event, quiet, section-bytes, content-bytes, notice, Fed, goes, faults, Given, sound, unsound, Ended, is-whole, broken, Machine}
 
 -- ---- codes
 
--- (the last name of each is any other number's, and none comes: Codes, feed-listed, finish-listed, one-way-listed; InPlace, given-of-stream)
-unfoldable pub pick : {A : Type 0} → Bool → (yes no : A) → A
-pick true y n = y
-pick false y n = n
+-- the fault of a code that reaches as far (a section's code is a stream's, and a dead connection's a connection's: Codes)
+unfoldable pub streamCode : Code → StreamFault
+streamCode (of-stream f) = f
+streamCode (of-connection f) = message-error
 
-unfoldable pub streamCode : ℕ → StreamCode
-streamCode n = pick (eqb n 0x010b) rejected (pick (eqb n 0x010c) cancelled (pick (eqb n 0x010d) incomplete malformed))
-
-unfoldable pub connCode : ℕ → ConnCode
-connCode n =
-    pick (eqb n 0x0103) creation (pick (eqb n 0x0104) critical (pick (eqb n 0x0105) unexpected (pick (eqb n 0x0106) frame-error
-    (pick (eqb n 0x0107) excessive (pick (eqb n 0x0108) id-error (pick (eqb n 0x0109) settings-error missing))))))
-
--- document 01's last table: stream faults from 0x010b on
-unfoldable pub codeOf : ℕ → Code
-codeOf n = pick (ltb n 0x010b) (of-connection (connCode n)) (of-stream (streamCode n))
+unfoldable pub connCode : Code → ConnectionFault
+connCode (of-stream f) = missing-settings
+connCode (of-connection f) = f
 
 -- ---- a request stream
 
@@ -51,7 +44,7 @@ eventOf u (F.taken k payload) = quiet
 
 unfoldable pub fedBy : (used heads : ℕ) → F.Event → M.Outcome Message → Fed (M.State Message)
 fedBy u h e (M.lives s) = goes u h (eventOf u e) s
-fedBy u h e (M.dies code) = faults (codeOf code) u h
+fedBy u h e (M.dies code) = faults code u h
 
 abbrev pub fedOf : F.Feeding Message → Fed (M.State Message)
 fedOf f = fedBy (f .used) (f .heads) (f .event) (f .after)
@@ -72,7 +65,7 @@ givenBy (M.dies code) = unsound (streamCode code)
 -- (a wait is answered before: a section is due: Refusals, waits-while-due)
 unfoldable pub endedBy : Verdict → Ended
 endedBy whole = is-whole
-endedBy (fault code place) = broken (codeOf code)
+endedBy (fault code place) = broken code
 endedBy (waits place) = is-whole
 
 -- ---- a one-way stream
@@ -127,15 +120,15 @@ oneEvent u (O.qpack-bytes q len) = notice (qpack-bytes (typeOf q) (u - len) len)
 
 unfoldable pub heardBy : Keeps → (used heads : ℕ) → O.OneEvent → O.OneOutcome → Fed (record { state : O.OneState; kept : Keeps })
 heardBy k u h e (O.lives s) = goes u h (oneEvent u e) (record { state = s; kept = keptBy k s })
-heardBy k u h e (O.dies code) = faults (of-connection (connCode code)) u h
+heardBy k u h e (O.dies code) = faults code u h
 
 abbrev pub heardOf : Keeps → O.OneFeeding → Fed (record { state : O.OneState; kept : Keeps })
 heardOf k f = heardBy k (f .used) (f .heads) (f .event) (f .after)
 
-unfoldable pub closeOf : O.OneState → Option ConnCode
+unfoldable pub closeOf : O.OneState → Option ConnectionFault
 closeOf (O.in-stream-type g) = none
-closeOf (O.in-control s) = some critical
-closeOf (O.in-qpack q) = some critical
+closeOf (O.in-control s) = some closed-critical-stream
+closeOf (O.in-qpack q) = some closed-critical-stream
 closeOf O.in-skipped = none
 
 -- ---- THE MACHINE

@@ -7,6 +7,7 @@ use mathlib.Core.List.{[], _∷_}
 use mathlib.Core.Bool.{Bool, true, false}
 use mathlib.Core.Option.{Option, none, some}
 use lib.ListN.{replicate}
+use Rattle.rules.specs.Numbers.{ConnectionFault, section-due, unreadable}
 use Rattle.rules.specs.Block.{lines}
 use Rattle.rules.specs.Reading.{Verdict, whole, fault, waits, Next, stop, go}
 use Rattle.rules.specs.Message.{Message}
@@ -16,7 +17,7 @@ use Rattle.meaning.specs.Machine.{State, Outcome}
 use Rattle.meaning.specs.Feed as F
 use Rattle.meaning.specs.OneWayFeed as O
 use Rattle.traces.specs.Stream as trace
-use Rattle.traces.specs.Stream.{ConnCode, Own, feed, section, end, reset, Out, refuse, step, leave, section-due, unreadable, ofFed, ofGiven, ofEnded, ofClosed, mapOut, either, act, act₁}
+use Rattle.traces.specs.Stream.{Own, feed, section, end, reset, Out, refuse, step, leave, ofFed, ofGiven, ofEnded, ofClosed, mapOut, either, act, act₁}
 use Rattle.traces.specs.Board.{pick, Kind, one-way, Stream, asking, telling, Slot, free, held, Row, Pair, Held, Call, Answer, find, put, fresh, first, actOn, call}
 use Rattle.traces.specs.Board as board
 use Rattle.traces.specs.Row.{Seated, lowest, behind-one}
@@ -121,7 +122,7 @@ module _ (k : Keeps) where
   heard-suits u h e (O.lives s) f = f
   heard-suits u h e (O.dies n) f = tt
 
-  closed-suits : (c : Option ConnCode) → TellSuits (ofClosed c)
+  closed-suits : (c : Option ConnectionFault) → TellSuits (ofClosed c)
   unfolding ofClosed mapOut
   closed-suits none = tt
   closed-suits (some c) = tt

@@ -7,6 +7,7 @@ use mathlib.Core.Bool.{Bool, true, false, _||_}
 use mathlib.Core.Option.{Option}
 use lib.Dec.{eqb, ltb}
 use lib.ListN.{length}
+use Rattle.rules.specs.Numbers.{of-connection, frame-error, excessive-load, missing-settings}
 use Rattle.rules.specs.Text.{lookup}
 use Rattle.rules.specs.Block.{Section}
 use Rattle.rules.specs.Reading.{Part, header-section, trailers, Kept, settings, goaway, max-push-id, cancel-push, Use, content, skipped, section, kept, Ruling, refuse, accept, Next, stop, go, Grammar}
@@ -20,7 +21,8 @@ use Rattle.rules.specs.Control.{Settings, Control, unset, set, control, setting
 use Rattle.meaning.specs.TextLaws.{lookup-view}
 use Rattle.meaning.specs.Machine.{Fed, going, value, fed, State, in-type, in-length, in-payload, due, Outcome, lives, dies, between, answered, typed, over, with-left, given}
 use Rattle.meaning.specs.Feed.{Event, quiet, section-bytes, content-bytes, taken, Feeding, halt, also, onward, judged-event, over-event, left-event, behind-header, named, taking, feed}
-use Rattle.demands.specs.Codes.{OfStream, section-of-stream}
+use Rattle.meaning.specs.NumberLaws.{OfStream}
+use Rattle.demands.specs.Codes.{section-of-stream}
 
 -- ---- any grammar
 
@@ -142,7 +144,7 @@ RequestFits (kept k) m = ⊥
 abbrev pub RequestSuits : State Message → Type 0
 RequestSuits s = Suits (request document) RequestFits s
 
-limit-rule : (x : Bool) (u : Use) (m : Message) → RequestFits u m → RuleSuits (request document) RequestFits (elim x [ true ↦ refuse 0x0107 | false ↦ accept u m ])
+limit-rule : (x : Bool) (u : Use) (m : Message) → RequestFits u m → RuleSuits (request document) RequestFits (elim x [ true ↦ refuse (of-connection excessive-load) | false ↦ accept u m ])
 limit-rule true u m f = tt
 limit-rule false u m f = f
 
@@ -225,7 +227,7 @@ module _ (s : Settings) (g m : Option ℕ) (t len : ℕ) where
 
   integer-rule : (k : Kept) → ControlFits (kept k) (set s g m) → Behind (say.one-integer k)
   unfolding say.ruleFor
-  integer-rule k f = rule-if (eqb len 0 || ltb 8 len) (refuse 0x0106) (accept (kept k) (set s g m)) tt f
+  integer-rule k f = rule-if (eqb len 0 || ltb 8 len) (refuse (of-connection frame-error)) (accept (kept k) (set s g m)) tt f
 
   unknown-rule : Behind say.unknown
   unfolding say.ruleFor
@@ -242,9 +244,9 @@ control-rule : (c : Control) (t len : ℕ) → ControlRule (say.rule c t len)
 unfolding say.rule say.first-rule
 control-rule unset t len = first (eqb t 4)
   where
-    first : (x : Bool) → ControlRule (elim x [ false ↦ refuse 0x010a | true ↦ elim (ltb settings-limit len) [ true ↦ refuse 0x0107 | false ↦ accept (kept settings) unset ] ])
+    first : (x : Bool) → ControlRule (elim x [ false ↦ refuse (of-connection missing-settings) | true ↦ elim (ltb settings-limit len) [ true ↦ refuse (of-connection excessive-load) | false ↦ accept (kept settings) unset ] ])
     first false = tt
-    first true = rule-if (ltb settings-limit len) (refuse 0x0107) (accept (kept settings) unset) tt refl
+    first true = rule-if (ltb settings-limit len) (refuse (of-connection excessive-load)) (accept (kept settings) unset) tt refl
 control-rule (set s g m) t len = column-rule s g m t len
 
 -- A CONTROL STREAM'S FEED

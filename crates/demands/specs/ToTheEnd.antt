@@ -7,6 +7,7 @@ use mathlib.Core.List.{List, [], _∷_}
 use mathlib.Core.Bool.{Bool, true, false, true≢false}
 use mathlib.Core.Option.{Option, none, some}
 use lib.ListN.{length, drop}
+use Rattle.rules.specs.Numbers.{House, none-due, unreadable, section-due, ConnectionFault, Code, of-stream, of-connection}
 use Rattle.rules.specs.Block.{lines, linesFrom}
 use Rattle.rules.specs.Reading.{Next, stop, go}
 use Rattle.rules.specs.Message.{Message}
@@ -14,7 +15,7 @@ use Rattle.rules.specs.Request.{document, request}
 use Rattle.meaning.specs.Machine as M
 use Rattle.meaning.specs.OneWayFeed as O
 use Rattle.meaning.specs.OneWays.{ReadsOnOne, one-moves}
-use Rattle.traces.specs.Stream.{House, none-due, unreadable, section-due, ConnCode, Code, of-stream, of-connection, Event, Fed, goes, faults, Given, sound, unsound, Own, feed, section, Gave, done, fed, Left, Out, refuse, step, leave, fault, ofFed, ofGiven, mapOut, Machine, act, act₁, either}
+use Rattle.traces.specs.Stream.{Event, Fed, goes, faults, Given, sound, unsound, Own, feed, section, Gave, done, fed, Left, Out, refuse, step, leave, fault, ofFed, ofGiven, mapOut, Machine, act, act₁, either}
 use Rattle.traces.specs.Board.{request as a-request, one-way, kindOf, Stream, asking, telling, Pair, Held, Call, start, open′, on, goaway, Answer, gave, left, house, code, keeping, find, same, with, faulted, settle, actOn, fresh, call, run, trace}
 use Rattle.traces.specs.View.{Shown, View, running, plusFeed, view}
 use Rattle.traces.specs.Row.{find-put-same}
@@ -208,7 +209,7 @@ module _ (M : Machine) (id : ℕ) where
     -- the stream runs, or the connection is dead
     pub data Stands (p : Pair M) : Type 0 where
       runs : (x : Stream M) → Ok x → Alive p → find id (p .row) ≡ some x → Stands p
-      is-dead : (k : ConnCode) → p .conn .dead ≡ some k → Stands p
+      is-dead : (k : ConnectionFault) → p .conn .dead ≡ some k → Stands p
 
     later : (c : Call M) → Aside id c → Later c
     later start n = absurd n
@@ -216,7 +217,7 @@ module _ (M : Machine) (id : ℕ) where
     later (on i o) n = tt
     later (goaway i room) n = tt
 
-    stands-by : (p : Pair M) (x : Stream M) → Ok x → (d : Option ConnCode) → p .conn .dead ≡ d → find id (p .row) ≡ some x → Stands p
+    stands-by : (p : Pair M) (x : Stream M) → Ok x → (d : Option ConnectionFault) → p .conn .dead ≡ d → find id (p .row) ≡ some x → Stands p
     stands-by p x w none e f = runs x w e f
     stands-by p x w (some k) e f = is-dead k e
 

@@ -9,6 +9,7 @@ use mathlib.Core.Bool.{Bool, true, false, true≢false}
 use mathlib.Core.Option.{Option, none, some, Option·none-ne-some, Option·some-injective}
 use mathlib.Core.Logic.{_↔_, _⊎_, inl, inr}
 use lib.ListN.{take}
+use Rattle.rules.specs.Numbers.{ConnectionFault, stream-creation-error, of-stream, of-connection, Code}
 use Rattle.rules.specs.Text.{isOneOf}
 use Rattle.rules.specs.Control.{Control, control}
 use Rattle.rules.specs.OneWay as W
@@ -16,7 +17,7 @@ use Rattle.rules.specs.OneWay.{encoder, decoder}
 use Rattle.meaning.specs.Machine as M
 use Rattle.meaning.specs.Feed as F
 use Rattle.meaning.specs.OneWayFeed as O
-use Rattle.traces.specs.Stream.{ConnCode, creation, of-stream, of-connection, Fed, goes, faults, Own, feed, section, end, reset, Out, refuse, step, leave, fault, ofFed, ofClosed, mapOut, act, act₁}
+use Rattle.traces.specs.Stream.{Fed, goes, faults, Own, feed, section, end, reset, Out, refuse, step, leave, fault, ofFed, ofClosed, mapOut, act, act₁}
 use Rattle.traces.specs.Board.{Kind, request, one-way, kindOf, Stream, asking, telling, free, held, Pair, Held, Call, start, open′, on, goaway, Answer, code, spend, keeping, killed, limited, find, put, same, with, faulted, settle, actOn, fresh, first, call, run, trace}
 use Rattle.traces.specs.View.{running, View, view}
 use Rattle.traces.specs.Row.{find-put-same, find-put-other, find-free-other, find-free-same, find-seat-same, find-seat-other, find-empty}
@@ -26,6 +27,8 @@ use Rattle.traces.specs.Alone.{call-on, dead-stays}
 use Rattle.traces.specs.Story.{Asks, asks, Story, story}
 use Rattle.traces.specs.Follow.{Agrees, open-still, over, agrees, not-running}
 use Rattle.traces.specs.Oneways.{Both, Says, says, Story₁, story₁, follows₁}
+use Rattle.meaning.specs.NumberLaws.{OfConnection}
+use Rattle.demands.specs.Codes.{one-way-listed}
 use Rattle.demands.specs.Streams.{Keeps, keptBy, came, typesIn, heardBy, closeOf, streams}
 use Rattle.demands.specs.Becomes.{Once, as-control, as-encoder, as-decoder, isFor, typeNumber, Unseen, type-unseen}
 use Rattle.demands.specs.Moves.{alone}
@@ -170,10 +173,11 @@ turns seen allow O.in-skipped s piece e c q = let z : O.in-skipped ≡ s = cc in
 module _ (k : Keeps) (w : O.OneState) where
   fed-next : (u h : ℕ) (e : O.OneEvent) (o : O.OneOutcome) → ((s : O.OneState) → o ≡ O.lives s → (c : Once) → isFor w ≡ some c → isFor s ≡ some c)
       → ((s : O.OneState) → o ≡ O.lives s → (c : Once) → isFor s ≡ some c → (isFor w ≡ some c) ⊎ (has c k ≡ false))
-      → Next k (telling w) (mapOut (λ (x : Both streams). record { stream = telling (x .state); kept = x .kept }) (ofFed (heardBy k u h e o)))
+      → ((n : Code) → o ≡ O.dies n → OfConnection n) → Next k (telling w) (mapOut (λ (x : Both streams). record { stream = telling (x .state); kept = x .kept }) (ofFed (heardBy k u h e o)))
   unfolding heardBy mapOut ofFed streamIs
-  fed-next u h e (O.lives s) l m = record { new = λ c z. kept-new k s c z; keeps = λ c z. l s refl c z; grows = λ c z. kept-grows k s c z; becomes = λ c z. kept-so k s c c z refl; only = λ c z. m s refl c z }
-  fed-next u h e (O.dies n) l m = tt
+  fed-next u h e (O.lives s) l m d = record { new = λ c z. kept-new k s c z; keeps = λ c z. l s refl c z; grows = λ c z. kept-grows k s c z; becomes = λ c z. kept-so k s c c z refl; only = λ c z. m s refl c z }
+  fed-next u h e (O.dies (of-stream n)) l m d = absurd (d (of-stream n) refl)
+  fed-next u h e (O.dies (of-connection n)) l m d = tt
 
 close-next : (k : Keeps) (w : O.OneState) → Next k (telling w) (mapOut (λ (x : Both streams). record { stream = telling (x .state); kept = x .kept }) (ofClosed (closeOf w)))
 unfolding mapOut ofClosed closeOf streamIs isFor
@@ -185,7 +189,7 @@ close-next k O.in-skipped = refl
 nexts : (k : Keeps) (s : Stream streams) (o : Own streams) → Next k s (actOn k s o)
 unfolding actOn act₁ mapOut
 nexts k (asking r) o = asks-next k r (act streams r o)
-nexts k (telling w) (feed allow piece) = let f = O.feed (typesIn k) allow w piece in fed-next k w (f .used) (f .heads) (f .event) (f .after) (λ s e. stays (typesIn k) allow w s piece e) (λ s e c z. unseen-has k c (isFor w ≡ some c) (turns (typesIn k) allow w s piece e c z))
+nexts k (telling w) (feed allow piece) = let f = O.feed (typesIn k) allow w piece in fed-next k w (f .used) (f .heads) (f .event) (f .after) (λ s e. stays (typesIn k) allow w s piece e) (λ s e c z. unseen-has k c (isFor w ≡ some c) (turns (typesIn k) allow w s piece e c z)) (λ n e. one-way-listed (typesIn k) allow w piece n e)
 nexts k (telling w) (section b) = tt
 nexts k (telling w) end = close-next k w
 nexts k (telling w) reset = close-next k w
@@ -321,7 +325,7 @@ typed-call (on id o) p d i = go (p .conn .dead) refl
     by none a e = rw (not-held p id o a e) i
     by (some s) a e = rw (call-on p id s o a e) (settling p id s d e i (actOn (p .conn .kept) s o) (nexts (p .conn .kept) s o))
 
-    go : (x : Option ConnCode) → p .conn .dead ≡ x → Typed (call (on id o) p .after)
+    go : (x : Option ConnectionFault) → p .conn .dead ≡ x → Typed (call (on id o) p .after)
     go none a = by (find id (p .row)) a refl
     go (some k) a = rw (dead-stays (on id o) p k tt a) i
 
@@ -385,7 +389,7 @@ kept-seen cs a c =
     (λ e. held-first cs c a (i .has-first c (sym o ∙ e)), λ f. o ∙ i .counts c (first-held cs c f))
 
 fed-fault : (id : ℕ) (p : Pair streams) (x : Fed (Both streams)) (u h : ℕ)
-    → settle id p (mapOut (λ (x : Both streams). record { stream = telling (x .state); kept = x .kept }) (ofFed x)) .answer ≡ code (of-connection creation) u h → x ≡ faults (of-connection creation) u h
+    → settle id p (mapOut (λ (x : Both streams). record { stream = telling (x .state); kept = x .kept }) (ofFed x)) .answer ≡ code (of-connection stream-creation-error) u h → x ≡ faults (of-connection stream-creation-error) u h
 unfolding settle mapOut ofFed same with faulted
 fed-fault id p (goes u′ h′ e y) u h q = let z : _≡_ {A = ℕ} 0 1 = cc in absurd (omega arith)
 fed-fault id p (faults (of-stream k) u′ h′) u h q = let z : _≡_ {A = ℕ} 0 1 = cc in absurd (omega arith)
@@ -394,15 +398,15 @@ fed-fault id p (faults (of-connection k) u′ h′) u h q = cc
 -- for its own bytes' sake, or, its type not yet shown by the bytes before, as it is where others came
 abbrev pub IsSecond : Calls → (before bytes : List ℕ) → Type 0
 IsSecond cs a b =
-    (faultBy (W.oneWay [] b) ≡ some (of-connection creation))
-    ⊎ ((typeShown (W.oneWay [] a) ≡ none) × ((seen : List ℕ) × (Seen cs seen × (faultBy (W.oneWay seen b) ≡ some (of-connection creation)))))
+    (faultBy (W.oneWay [] b) ≡ some (of-connection stream-creation-error))
+    ⊎ ((typeShown (W.oneWay [] a) ≡ none) × ((seen : List ℕ) × (Seen cs seen × (faultBy (W.oneWay seen b) ≡ some (of-connection stream-creation-error)))))
 
 second-out : (cs : Calls) (a b seen : List ℕ) (x : Option Once) → typeShown (W.oneWay [] a) ≡ x → Seen cs seen
-    → (faultBy (W.oneWay [] b) ≡ some (of-connection creation)) ⊎ ((x ≡ none) × (faultBy (W.oneWay seen b) ≡ some (of-connection creation))) → IsSecond cs a b
+    → (faultBy (W.oneWay [] b) ≡ some (of-connection stream-creation-error)) ⊎ ((x ≡ none) × (faultBy (W.oneWay seen b) ≡ some (of-connection stream-creation-error))) → IsSecond cs a b
 second-out cs a b seen x z k (inl e) = inl e
 second-out cs a b seen x z k (inr e) = inr (z ∙ e .0, (seen, (k, e .1)))
 
-second-by : (id : ℕ) (cs : Calls) (allow u h : ℕ) (piece : List ℕ) (p : Pair streams) (v : View streams) → v .fate ≡ running → call (on id (feed allow piece)) p .answer ≡ code (of-connection creation) u h
+second-by : (id : ℕ) (cs : Calls) (allow u h : ℕ) (piece : List ℕ) (p : Pair streams) (v : View streams) → v .fate ≡ running → call (on id (feed allow piece)) p .answer ≡ code (of-connection stream-creation-error) u h
     → (Alive p → Seen cs (typesIn (p .conn .kept))) → Agrees (Says alone) (Story₁ alone) id p v → IsSecond cs (v .shown .bytes) (v .shown .bytes ++ take u piece)
 unfolding actOn act₁
 second-by id cs allow u h piece p v e a k (over {f = f} t n) = absurd (not-running f (story₁ alone .shut t) e)
@@ -414,7 +418,7 @@ second-by id cs allow u h piece p v e a k (open-still {s = s} l (says {w = w} t)
 -- THE SECOND OF ITS TYPE: a feed of a one-way stream is refused with 0x0103 for its own bytes' sake, or, its type not yet shown, as they are where
 -- these types came before: exactly those that streams of the trace which run, others than this, have shown
 pub second-of-its-type : (id : ℕ) → kindOf id ≡ some one-way → (cs : Calls) (allow u h : ℕ) (piece : List ℕ) → let v = view id (trace fresh cs) in
-    v .fate ≡ running → call (on id (feed allow piece)) (run fresh cs) .answer ≡ code (of-connection creation) u h → IsSecond cs (v .shown .bytes) (v .shown .bytes ++ take u piece)
+    v .fate ≡ running → call (on id (feed allow piece)) (run fresh cs) .answer ≡ code (of-connection stream-creation-error) u h → IsSecond cs (v .shown .bytes) (v .shown .bytes ++ take u piece)
 second-of-its-type id q cs allow u h piece e a = second-by id cs allow u h piece (run fresh cs) (view id (trace fresh cs)) e a (λ l. kept-seen cs l) (follows₁ alone id q cs)
 
 -- ONE OF A TYPE: two streams of a trace that run and show the same type of these are one

@@ -11,6 +11,7 @@ use lib.Dec.{leb, ltb, ltb→lt, nltb→le, nleb→lt}
 use lib.ListN.{length, take, drop, length-append}
 use lib.Seq.{take-at}
 use borrow.Author.Tests.{lt-leb}
+use Rattle.rules.specs.Numbers.{Code, of-connection, closed-critical-stream}
 use Rattle.rules.specs.Text.{hex, hexFrom, nibble, between}
 use Rattle.rules.specs.Integers.{Row, integer, got, rows, low, inRow, inFirst, written, largest}
 use Rattle.rules.specs.Frames.{Header, Frames, Frames.none as no-more, in-header, in-payload, frame, framesUpTo, framesFrom}
@@ -376,7 +377,7 @@ twelve = hex "00 04 09 01 00 06 80 00 40 00 07 00"
 -- what these bytes say: a control stream by its type, and on it SETTINGS with 6: 16,384, 1: 0 and 7: 0; ended there, it is a critical stream closed
 pub record OpensControl (bytes : List ℕ) : Type 0 where
   pub payload : List ℕ
-  pub is-control : oneWay [] bytes ≡ of-control (record { said = header (head 1 3 4 9) (kept settings) ∷ frame-kept settings payload ∷ []; verdict = fault 0x0104 12 })
+  pub is-control : oneWay [] bytes ≡ of-control (record { said = header (head 1 3 4 9) (kept settings) ∷ frame-kept settings payload ∷ []; verdict = fault (of-connection closed-critical-stream) 12 })
   pub its-settings : tells settings payload ≡ told-settings (record { section-size = some 16_384; table-capacity = 0; blocked-streams = 0 })
   pub its-numbers : some bytes ≡ inTurn (0 ∷ 4 ∷ 9 ∷ 1 ∷ 0 ∷ 6 ∷ 16_384 ∷ 7 ∷ 0 ∷ [])
 

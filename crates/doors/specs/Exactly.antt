@@ -6,6 +6,7 @@ use mathlib.Core.Bool.{Bool, true, false}
 use mathlib.Core.Logic.{_⊎_, inl, inr}
 use lib.Dec.{eqb, leb}
 use borrow.Author.Tests.{leb-false, eqb-true}
+use Rattle.rules.specs.Numbers.{REQUEST-REJECTED}
 use Rattle.doors.specs.declared.Doors.{Doors}
 use Rattle.doors.specs.declared.Opening.{Opening}
 use Rattle.doors.specs.Openings.{refusal, barredAt, nextRequest, nextOneWay, admittedAs, requestOf, oneWayOf, kindOf, aliveOf, openedOf, some-free, request-admitted, one-way-admitted, open-request, open-one-way}
@@ -45,13 +46,13 @@ module _ (d : Doors) (id free : ℕ) where
   Requested = (id ≡ d .requests) × (barredAt (d .goaways) (d .goaway .0) id ≡ false) × (0 < free)
 
   not-barred : (b : Bool) → barredAt (d .goaways) (d .goaway .0) id ≡ b
-      → _≡_ {A = ℕ} (Opening.number (elim b [ true ↦ refusal 0x010b (nextRequest d) | false ↦ admittedAs free (nextRequest d) d ])) 0 → (barredAt (d .goaways) (d .goaway .0) id ≡ false) × (0 < free)
+      → _≡_ {A = ℕ} (Opening.number (elim b [ true ↦ refusal REQUEST-REJECTED (nextRequest d) | false ↦ admittedAs free (nextRequest d) d ])) 0 → (barredAt (d .goaways) (d .goaway .0) id ≡ false) × (0 < free)
   not-barred true e n = absurd (omega arith)
   not-barred false e n = (e, some-room (nextRequest d) d free n)
 
   as-request : (b : Bool) → eqb id (d .requests) ≡ b → _≡_ {A = ℕ} (Opening.number (elim b [
     | false ↦ refusal 2 d
-    | true ↦ elim (barredAt (d .goaways) (d .goaway .0) id) [ true ↦ refusal 0x010b (nextRequest d) | false ↦ admittedAs free (nextRequest d) d ]
+    | true ↦ elim (barredAt (d .goaways) (d .goaway .0) id) [ true ↦ refusal REQUEST-REJECTED (nextRequest d) | false ↦ admittedAs free (nextRequest d) d ]
   ])) 0 → Requested
   as-request false e n = absurd (omega arith)
   as-request true e n = let q = not-barred (barredAt (d .goaways) (d .goaway .0) id) refl n in (eqb-true id (d .requests) e, q .0, q .1)

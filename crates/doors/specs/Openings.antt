@@ -5,6 +5,7 @@ use native.Mathlib.Omega.{arith}
 use mathlib.Core.Bool.{Bool, true, false}
 use lib.Dec.{eqb, leb}
 use borrow.Author.Tests.{eq-eqb, ne-eqb, le-leb, lt-leb}
+use Rattle.rules.specs.Numbers.{REQUEST-REJECTED}
 use Rattle.doors.specs.declared.Doors.{Doors}
 use Rattle.doors.specs.declared.Opening.{Opening}
 
@@ -39,7 +40,7 @@ admittedAs (suc n) next d = refusal 0 next
 unfoldable pub requestOf : Doors → (id free : ℕ) → Opening
 requestOf d id free = elim (eqb id (d .requests)) [
   | false ↦ refusal 2 d
-  | true ↦ elim (barredAt (d .goaways) (d .goaway .0) id) [ true ↦ refusal 0x010b (nextRequest d) | false ↦ admittedAs free (nextRequest d) d ]
+  | true ↦ elim (barredAt (d .goaways) (d .goaway .0) id) [ true ↦ refusal REQUEST-REJECTED (nextRequest d) | false ↦ admittedAs free (nextRequest d) d ]
 ]
 
 unfoldable pub oneWayOf : Doors → (id free : ℕ) → Opening
@@ -87,9 +88,9 @@ module _ (d : Doors) (id free : ℕ) where
   request-other n q = let x = ne-eqb id (d .requests) n in q ∙ rw (x, requestOf) refl
 
   module _ (e : id ≡ d .requests) {b : Bool} (is : b ≡ barredAt (d .goaways) (d .goaway .0) id) {next : Doors} (spent : next ≡ nextRequest d) where
-    pub request-barred : b ≡ true → refusal 0x010b next ≡ requestOf d id free
+    pub request-barred : b ≡ true → refusal REQUEST-REJECTED next ≡ requestOf d id free
     unfolding requestOf
-    request-barred t = let x = eq-eqb id (d .requests) e in let y = sym is ∙ t in ap (refusal 0x010b) spent ∙ rw (x, y, requestOf) refl
+    request-barred t = let x = eq-eqb id (d .requests) e in let y = sym is ∙ t in ap (refusal REQUEST-REJECTED) spent ∙ rw (x, y, requestOf) refl
 
     pub request-admitted : {r : Opening} → b ≡ false → r ≡ admittedAs free next d → r ≡ requestOf d id free
     unfolding requestOf

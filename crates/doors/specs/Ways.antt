@@ -5,13 +5,14 @@ use native.Mathlib.Omega.{arith}
 use mathlib.Core.Bool.{Bool, true, false}
 use lib.Dec.{eqb, leb}
 use borrow.Author.Tests.{leb-false, eqb-true}
+use Rattle.rules.specs.Numbers.{REQUEST-REJECTED}
 use Rattle.doors.specs.declared.Doors.{Doors}
 use Rattle.doors.specs.declared.Opening.{Opening}
 use Rattle.doors.specs.Openings.{refusal, barredAt, nextRequest, nextOneWay, admittedAs, requestOf, oneWayOf, kindOf, aliveOf, openedOf}
 
 pub data Went (d : Doors) (id free : ℕ) : Opening → Type 0 where
   refused : (number : ℕ) → (number ≡ 0 → ⊥) → Went d id free (refusal number d)
-  barred : id % 4 ≡ 0 → id ≡ d .requests → Went d id free (refusal 0x010b (nextRequest d))
+  barred : id % 4 ≡ 0 → id ≡ d .requests → Went d id free (refusal REQUEST-REJECTED (nextRequest d))
   a-request : id % 4 ≡ 0 → id ≡ d .requests → id < 2 ^ 62 → 0 < free → Went d id free (refusal 0 (nextRequest d))
   a-one-way : id % 4 ≡ 2 → id ≡ d .oneways → id < 2 ^ 62 → 0 < free → Went d id free (refusal 0 (nextOneWay d))
 
@@ -22,13 +23,13 @@ module _ (d : Doors) (id free : ℕ) where
   by-room next w (suc n) e = w (omega arith)
 
   module _ (below : id < 2 ^ 62) where
-    by-bar : id % 4 ≡ 0 → id ≡ d .requests → (b : Bool) → Went d id free (elim b [ true ↦ refusal 0x010b (nextRequest d) | false ↦ admittedAs free (nextRequest d) d ])
+    by-bar : id % 4 ≡ 0 → id ≡ d .requests → (b : Bool) → Went d id free (elim b [ true ↦ refusal REQUEST-REJECTED (nextRequest d) | false ↦ admittedAs free (nextRequest d) d ])
     by-bar k e true = barred k e
     by-bar k e false = by-room (nextRequest d) (a-request k e below) free refl
 
     by-request : id % 4 ≡ 0 → (b : Bool) → eqb id (d .requests) ≡ b → Went d id free (elim b [
       | false ↦ refusal 2 d
-      | true ↦ elim (barredAt (d .goaways) (d .goaway .0) id) [ true ↦ refusal 0x010b (nextRequest d) | false ↦ admittedAs free (nextRequest d) d ]
+      | true ↦ elim (barredAt (d .goaways) (d .goaway .0) id) [ true ↦ refusal REQUEST-REJECTED (nextRequest d) | false ↦ admittedAs free (nextRequest d) d ]
     ])
     by-request k false e = refused 2 (λ x. omega arith)
     by-request k true e = by-bar k (eqb-true id (d .requests) e) (barredAt (d .goaways) (d .goaway .0) id)

@@ -7,6 +7,7 @@ use mathlib.Core.Bool.{Bool, true, false}
 use mathlib.Core.Option.{Option, none, some}
 use lib.Dec.{eqb, ltb}
 use borrow.Author.Tests.{lt-ltb, le-ltb, eq-eqb, ne-eqb}
+use Rattle.rules.specs.Numbers.{FRAME-UNEXPECTED, codeNumber}
 use Rattle.rules.specs.Block.{Section, Lines, unreadable, readable, lines}
 use Rattle.rules.specs.Reading.{header-section, trailers, Next, stop, go}
 use Rattle.rules.specs.Message.{Message, opening, body, trailed, heads, trails}
@@ -51,16 +52,16 @@ trailedCells c = cellsAt 2 (c .has) (c .stated) (c .sum)
 -- a section is taken in its place alone: the header section at phase 0, trailers at phase 1
 unfoldable pub inPlace : (here : Bool) → Cells → Cells → Given
 inPlace true c next = answer 0 next
-inPlace false c next = answer 0x0105 c
+inPlace false c next = answer FRAME-UNEXPECTED c
 
 unfoldable pub headedAs : Cells → Option Header → Given
 headedAs c none = answer 6 c
-headedAs c (some (request.Header.bad code)) = answer code c
+headedAs c (some (request.Header.bad code)) = answer (codeNumber code) c
 headedAs c (some (request.Header.good stated)) = inPlace (eqb (c .phase) 0) c (bodyCells stated)
 
 unfoldable pub trailedAs : Cells → Option Trailer → Given
 trailedAs c none = answer 6 c
-trailedAs c (some (request.Trailer.bad code)) = answer code c
+trailedAs c (some (request.Trailer.bad code)) = answer (codeNumber code) c
 trailedAs c (some request.Trailer.good) = inPlace (eqb (c .phase) 1) c (trailedCells c)
 
 unfoldable pub headerOf : Lines → Option Header
@@ -117,7 +118,7 @@ unfolding inPlace
 in-place c next true e = refl
 in-place c next false e = let z : _≡_ {A = ℕ} 0 1 = cc in absurd (omega arith)
 
-out-of-place : (c next : Cells) (here : Bool) → here ≡ false → answer 0x0105 c ≡ inPlace here c next
+out-of-place : (c next : Cells) (here : Bool) → here ≡ false → answer FRAME-UNEXPECTED c ≡ inPlace here c next
 unfolding inPlace
 out-of-place c next false e = refl
 out-of-place c next true e = let z : _≡_ {A = ℕ} 0 1 = cc in absurd (omega arith)
@@ -133,7 +134,7 @@ module _ (c : Cells) (block : List ℕ) (a : HeaderAnswer) (met : readHeader blo
   unfolding headedAs asHeader
   header-unread e = header-as e
 
-  pub header-refused : {r : Reason} {n : ℕ} → a ≡ header.Refused r → n ≡ section-code (reasonOf r) → Headed (answer n c)
+  pub header-refused : {r : Reason} {n : ℕ} → a ≡ header.Refused r → n ≡ codeNumber (section-code (reasonOf r)) → Headed (answer n c)
   unfolding headedAs asHeader
   header-refused e f = ap (λ n. answer n c) f ∙ header-as e
 
@@ -142,7 +143,7 @@ module _ (c : Cells) (block : List ℕ) (a : HeaderAnswer) (met : readHeader blo
     unfolding headedAs asHeader
     header-taken f g = ap (answer 0) g ∙ in-place c (bodyCells (readStated s)) (eqb (c .phase) 0) (eq-eqb (c .phase) 0 f) ∙ header-as e
 
-    pub header-late : (c .phase ≡ 0 → ⊥) → Headed (answer 0x0105 c)
+    pub header-late : (c .phase ≡ 0 → ⊥) → Headed (answer FRAME-UNEXPECTED c)
     unfolding headedAs asHeader
     header-late f = out-of-place c (bodyCells (readStated s)) (eqb (c .phase) 0) (ne-eqb (c .phase) 0 f) ∙ header-as e
 
@@ -157,7 +158,7 @@ module _ (c : Cells) (block : List ℕ) (a : TrailerAnswer) (met : readTrailers 
   unfolding trailedAs asTrailer
   trailer-unread e = trailer-as e
 
-  pub trailer-refused : {r : Reason} {n : ℕ} → a ≡ trailer.Refused r → n ≡ section-code (reasonOf r) → Trailed (answer n c)
+  pub trailer-refused : {r : Reason} {n : ℕ} → a ≡ trailer.Refused r → n ≡ codeNumber (section-code (reasonOf r)) → Trailed (answer n c)
   unfolding trailedAs asTrailer
   trailer-refused e f = ap (λ n. answer n c) f ∙ trailer-as e
 
@@ -166,7 +167,7 @@ module _ (c : Cells) (block : List ℕ) (a : TrailerAnswer) (met : readTrailers 
     unfolding trailedAs asTrailer
     trailer-taken f g = ap (answer 0) g ∙ in-place c (trailedCells c) (eqb (c .phase) 1) (eq-eqb (c .phase) 1 f) ∙ trailer-as e
 
-    pub trailer-late : (c .phase ≡ 1 → ⊥) → Trailed (answer 0x0105 c)
+    pub trailer-late : (c .phase ≡ 1 → ⊥) → Trailed (answer FRAME-UNEXPECTED c)
     unfolding trailedAs asTrailer
     trailer-late f = out-of-place c (trailedCells c) (eqb (c .phase) 1) (ne-eqb (c .phase) 1 f) ∙ trailer-as e
 
@@ -174,7 +175,7 @@ module _ (c : Cells) (block : List ℕ) (a : TrailerAnswer) (met : readTrailers 
 
 -- an answer says this of the rules' next message: the code, the stream as it was; or 0, and the stream stands between two frames at that message
 unfoldable pub Says : Cells → Given → Next Message → Type 0
-Says c r (stop code) = r ≡ answer code c
+Says c r (stop code) = r ≡ answer (codeNumber code) c
 Says c r (go m) = (r .number ≡ 0) × StandsIn (r .cells) (of-request m) × ((p : Place) (k : List ℕ) → stateOf (r .cells) p k ≡ between p) × Sane (r .cells)
 
 -- the messages that numbers stand for

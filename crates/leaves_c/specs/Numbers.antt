@@ -6,7 +6,7 @@ use mathlib.Core.Bool.{Bool, true, false}
 use mathlib.Core.Option.{Option, none, some}
 use lib.ListN.{set}
 use Rattle.rules.specs.Integers.{Int, cut, got}
-use Rattle.rules.specs.Reading.{Next, stop, go}
+use Rattle.meaning.specs.NumberLaws.{Numbered, stops, goes}
 use Rattle.rules.specs.Control.{Settings}
 use Rattle.rules.specs.Section.{refused, sound}
 use Rattle.rules.specs.Writer.{Write}
@@ -27,13 +27,13 @@ valueOr0 (some n) = n
 
 -- ---- SETTINGS
 
-unfoldable pub settingsNumber : Next Settings → ℕ
-settingsNumber (stop code) = code
-settingsNumber (go s) = 0
+unfoldable pub settingsNumber : Numbered Settings → ℕ
+settingsNumber (stops number) = number
+settingsNumber (goes s) = 0
 
-unfoldable pub settingsOut : Next Settings → List ℕ → List ℕ
-settingsOut (stop code) out = out
-settingsOut (go s) out =
+unfoldable pub settingsOut : Numbered Settings → List ℕ → List ℕ
+settingsOut (stops number) out = out
+settingsOut (goes s) out =
     set (set (set (set out 0 (stated (s .section-size))) 1 (valueOr0 (s .section-size))) 2 (s .table-capacity)) 3 (s .blocked-streams)
 
 -- ---- an integer

@@ -17,6 +17,7 @@ ghost use Rattle.settings.specs.Answers.{sizeIs};
 ghost use Rattle.rules.specs.Block.{lines};
 ghost use Rattle.section.specs.Answer.{readStated, tellHeader, tellTrailers, toldNumber};
 ghost use Rattle.wire.specs.Goaway.{sentOf};
+ghost use Rattle.meaning.specs.NumberLaws.{numbered};
 ghost use Rattle.leaves_c.specs.Numbers.{stated, valueOr0, settingsNumber, settingsOut, readNumber, readOut, headerOut, wroteNumber, wroteOut, given, Written};
 
 // ---- SETTINGS
@@ -44,8 +45,8 @@ fn limit(size: SectionSize) -> u64
 // 0, or the code of a SETTINGS payload. out, where it is 0: whether 6 is there, 6, 1, 7.
 #[no_mangle]
 pub extern "C" fn eist_settings(payload: &[u8], out: &mut [u64; 4]) -> u64
-    ensures { λ r. ⌜ r ≡ settingsNumber (settings-of (now (payload .entry))) ⌝ }
-    ensures { λ _. ⌜ now (out .exit) ≡ settingsOut (settings-of (now (payload .entry))) (now (out .entry)) ⌝ }
+    ensures { λ r. ⌜ r ≡ settingsNumber (numbered (settings-of (now (payload .entry)))) ⌝ }
+    ensures { λ _. ⌜ now (out .exit) ≡ settingsOut (numbered (settings-of (now (payload .entry)))) (now (out .entry)) ⌝ }
 {
     match settings::judge(payload) {
         Judged::Refused(code) => code,

@@ -7,6 +7,7 @@ use native.Mathlib.Omega.{arith}
 use lib.Dec.{ltb, ltb→lt, nltb→le}
 use lib.ListN.{length, drop, length-drop}
 use borrow.Author.Tests.{lt-ltb, le-ltb}
+use Rattle.rules.specs.Numbers.{FRAME-ERROR, REQUEST-INCOMPLETE}
 use Rattle.rules.specs.Integers.{cut, got, integer}
 use Rattle.rules.specs.Frames.{Frames.none as no-more, in-header, framesFrom}
 use Rattle.rules.specs.Message.{ends, tally}
@@ -68,7 +69,7 @@ module _ (s : List ℕ) (p : Place) where
       unfolding lineFrom
       inside h = let e = le-ltb (length s) (p .at) h in opened ∙ rw (e, lineFrom)
 
-      pub line-cut-payload : length s < p .at → Refused (length s) 0x0106 ≡ lineAt s p
+      pub line-cut-payload : length s < p .at → Refused (length s) FRAME-ERROR ≡ lineAt s p
       unfolding lineFrom
       line-cut-payload h = let e = lt-ltb (length s) (p .at) h in rw opened (rw (e, lineFrom))
 
@@ -79,11 +80,11 @@ module _ (s : List ℕ) (p : Place) where
           sym (inside (omega arith) ∙ ap (lineIn (length s) p) (frames-none (p .at) (drop (p .at) s) (omega arith)))
 
       -- the type is cut, or the payload before it was
-      pub line-cut-type : {n : ℕ} → (p .at ≡ length s → ⊥) → Ended s (p .at) n → n ≡ 0 → Refused (length s) 0x0106 ≡ lineAt s p
+      pub line-cut-type : {n : ℕ} → (p .at ≡ length s → ⊥) → Ended s (p .at) n → n ≡ 0 → Refused (length s) FRAME-ERROR ≡ lineAt s p
       unfolding lineIn
       line-cut-type {n} w e z = go (ltb (length s) (p .at)) refl
         where
-          go : (x : Bool) → ltb (length s) (p .at) ≡ x → Refused (length s) 0x0106 ≡ lineAt s p
+          go : (x : Bool) → ltb (length s) (p .at) ≡ x → Refused (length s) FRAME-ERROR ≡ lineAt s p
           go true x = line-cut-payload (ltb→lt (length s) (p .at) (rw x tt))
           go false x =
               let h = nltb→le (length s) (p .at) (rw x tt) in
@@ -98,7 +99,7 @@ module _ (s : List ℕ) (p : Place) where
         in-input = let b = e .past (omega arith) in let c = e .within in omega arith
 
         -- the length is cut
-        pub line-cut-length : {m : ℕ} → Ended s n m → m ≡ 0 → Refused (length s) 0x0106 ≡ lineAt s p
+        pub line-cut-length : {m : ℕ} → Ended s n m → m ≡ 0 → Refused (length s) FRAME-ERROR ≡ lineAt s p
         unfolding lineIn
         line-cut-length {m} f z =
             sym (inside in-input ∙ ap (lineIn (length s) p) (frames-length (p .at) (drop (p .at) s) type-there (ended-cut s n m f z)))
@@ -109,11 +110,11 @@ module _ (s : List ℕ) (p : Place) where
 
 -- the end, between two frames
 module _ (total : ℕ) (p : Place) where
-  at-opening : (phase sum : ℕ) → phase ≡ 0 → Refused total 0x010d ≡ endOf total (end-of (ends (messageOf phase sum)))
+  at-opening : (phase sum : ℕ) → phase ≡ 0 → Refused total REQUEST-INCOMPLETE ≡ endOf total (end-of (ends (messageOf phase sum)))
   unfolding endOf end-of ends messageOf codeOf
   at-opening phase sum e = rw e
 
-  pub end-opening : p .phase ≡ 0 → Refused total 0x010d ≡ endLine total p
+  pub end-opening : p .phase ≡ 0 → Refused total REQUEST-INCOMPLETE ≡ endLine total p
   unfolding endLine
   end-opening e = at-opening (p .phase) (p .sum) e
 

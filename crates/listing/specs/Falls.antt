@@ -47,7 +47,7 @@ module _ (total : ℕ) (p : Place) (in-input : p .at ≤ total) (listed : p .pha
 
   ruling-forward : (from t len : ℕ) {m : Message} {r : Ruling Message} {n : Place} → p .at < from → RuleView t len m r → Leads (lineOf p (head (p .at) from t len) r) n → Forward total p n
   unfolding lineOf after
-  ruling-forward from t len h (r-refused c) x = absurd x
+  ruling-forward from t len h r-refused x = absurd x
   ruling-forward from t len h (r-skipped u) x = forward x (omega arith) listed
   ruling-forward from t len h (r-content z e) x = forward x (omega arith) listed
   ruling-forward from t len h (r-header z l) x = forward x (omega arith) (omega arith)

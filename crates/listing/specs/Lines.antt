@@ -5,6 +5,7 @@ use mathlib.Core.Bool.{true, false}
 use mathlib.Core.Option.{none}
 use lib.Dec.{ltb}
 use lib.ListN.{length, drop}
+use Rattle.rules.specs.Numbers.{codeNumber}
 use Rattle.rules.specs.Frames.{Header, Frames, Frames.none as no-more, in-header, in-payload, frame, framesFrom}
 use Rattle.rules.specs.Reading.{Use, content, skipped, section, kept, header-section, trailers, Ruling, refuse, accept, End, complete, lacking}
 use Rattle.rules.specs.Message.{Message, opening, body, trailed}
@@ -50,7 +51,7 @@ usageOf (kept k) = Skipped
 -- ---- the line there
 
 unfoldable pub lineOf : Place → Header → Ruling Message → Line
-lineOf p h (refuse code) = Refused (h .from) code
+lineOf p h (refuse code) = Refused (h .from) (codeNumber code)
 lineOf p h (accept u q) = Frame (h .at) (h .type) (h .len) (usageOf u) (after u (h .from + h .len) (h .len) p)
 
 -- a header, by the rules' own ruling
@@ -59,7 +60,7 @@ ruledLine p h = lineOf p h (rule (messageOf (p .phase) (p .sum)) (h .type) (h .l
 
 unfoldable pub endOf : (total : ℕ) → End → Line
 endOf total complete = Whole total
-endOf total (lacking code) = Refused total code
+endOf total (lacking code) = Refused total (codeNumber code)
 
 unfoldable pub endLine : (total : ℕ) → Place → Line
 endLine total p = endOf total (stream .end (messageOf (p .phase) (p .sum)))
@@ -67,12 +68,12 @@ endLine total p = endOf total (stream .end (messageOf (p .phase) (p .sum)))
 -- the first of the frames from here on
 unfoldable pub lineIn : (total : ℕ) → Place → Frames → Line
 lineIn total p no-more = endLine total p
-lineIn total p in-header = Refused total (stream .cut)
+lineIn total p in-header = Refused total (codeNumber (stream .cut))
 lineIn total p (in-payload h part) = ruledLine p h
 lineIn total p (frame h payload fs) = ruledLine p h
 
 unfoldable pub lineFrom : List ℕ → Place → Line
-lineFrom s p = elim (ltb (length s) (p .at)) [ true ↦ Refused (length s) (stream .cut) | false ↦ lineIn (length s) p (framesFrom (p .at) (drop (p .at) s)) ]
+lineFrom s p = elim (ltb (length s) (p .at)) [ true ↦ Refused (length s) (codeNumber (stream .cut)) | false ↦ lineIn (length s) p (framesFrom (p .at) (drop (p .at) s)) ]
 
 -- THE LINE at a place of an input
 unfoldable pub lineAt : List ℕ → Place → Line

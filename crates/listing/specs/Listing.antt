@@ -5,6 +5,7 @@ use mathlib.Core.Bool.{true, false}
 use mathlib.Core.Option.{none}
 use lib.Dec.{ltb}
 use lib.ListN.{length}
+use Rattle.rules.specs.Numbers.{codeNumber}
 use Rattle.rules.specs.Block.{Section}
 use Rattle.rules.specs.Reading.{Use, Grammar, Verdict, fault, waits, Reading, read, Accepted, accepted}
 use Rattle.rules.specs.Reading as reading-of
@@ -34,7 +35,7 @@ frameOf a = frame (a .header .at) (a .header .type) (a .header .len) (a .purpose
 -- (a reading that waited for a section would have no last line; every listing has one: Falls, `listing-ends`)
 unfoldable pub lastOf : (total : ℕ) → Verdict → List Entry
 lastOf total reading-of.Verdict.whole = whole total ∷ []
-lastOf total (fault code place) = refused place code ∷ []
+lastOf total (fault code place) = refused place (codeNumber code) ∷ []
 lastOf total (waits place) = []
 
 unfoldable pub entriesOf : (total : ℕ) → Reading → List Entry

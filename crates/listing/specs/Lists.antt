@@ -8,6 +8,7 @@ use native.Mathlib.Omega.{arith}
 use lib.Dec.{ltb, ltb→lt, nltb→le}
 use lib.ListN.{length, take, drop, length-drop}
 use lib.Seq.{drop-drop}
+use Rattle.rules.specs.Numbers.{FRAME-ERROR, Code, of-connection, frame-error}
 use Rattle.rules.specs.Block.{Section}
 use Rattle.rules.specs.Integers.{got, integer}
 use Rattle.rules.specs.Frames.{Header, Frames, Frames.none as no-more, in-header, in-payload, frame, framesUpTo, framesFrom}
@@ -142,7 +143,7 @@ module _ (R : Rules) (a b : Section) (others : List Section) (head-sound : R .he
     line-in-header = refl
 
     module _ (at from t len : ℕ) where
-      refused-line : (code : ℕ) → withRest rest (lineOf p (head at from t len) (refuse code)) ≡ entriesOf total (put (rules.refused (head at from t len) ∷ []) (ending (fault code from)))
+      refused-line : (code : Code) → withRest rest (lineOf p (head at from t len) (refuse code)) ≡ entriesOf total (put (rules.refused (head at from t len) ∷ []) (ending (fault code from)))
       unfolding entryOf what-follows lineOf entriesOf put accepted lastOf
       refused-line code = refl
 
@@ -155,19 +156,19 @@ module _ (R : Rules) (a b : Section) (others : List Section) (head-sound : R .he
       abbrev m : Message
       m = messageOf (p .phase) (p .sum)
 
-      cut-line : (part : List ℕ) → ((next : Place) → next .at ≡ from + len → next .phase ≤ 2 → rest next ≡ refused total 0x0106 ∷ [])
+      cut-line : (part : List ℕ) → ((next : Place) → next .at ≡ from + len → next .phase ≤ 2 → rest next ≡ refused total FRAME-ERROR ∷ [])
           → (r : Ruling Message) → RuleView t len m r
           → withRest rest (lineOf p (head at from t len) r) ≡ entriesOf total (elim r [
             | refuse code ↦ put (rules.refused (head at from t len) ∷ []) (ending (fault code from))
-            | accept u q ↦ put (rules.header (head at from t len) u ∷ told u part) (ending (fault 0x0106 total))
+            | accept u q ↦ put (rules.header (head at from t len) u ∷ told u part) (ending (fault (of-connection frame-error) total))
           ])
       unfolding entriesOf accepted lastOf
       cut-line part ih (refuse code) v = refused-line code
       cut-line part ih (accept u q) v =
           let k = behind t len part (from + len) p listed refl v in
-          accepted-line u q part (ending (fault 0x0106 total)) (k .same-use) (ih (after u (from + len) len p) (k .at-end) (k .listed))
+          accepted-line u q part (ending (fault (of-connection frame-error) total)) (k .same-use) (ih (after u (from + len) len p) (k .at-end) (k .listed))
 
-      line-in-payload : (part : List ℕ) → ((next : Place) → next .at ≡ from + len → next .phase ≤ 2 → rest next ≡ refused total 0x0106 ∷ [])
+      line-in-payload : (part : List ℕ) → ((next : Place) → next .at ≡ from + len → next .phase ≤ 2 → rest next ≡ refused total FRAME-ERROR ∷ [])
           → withRest rest (lineIn total p (in-payload (head at from t len) part)) ≡ says total m (in-payload (head at from t len) part)
       unfolding lineIn ruledLine judge
       line-in-payload part ih = cut-line part ih (rule m t len) (rule-view m t len)
@@ -207,7 +208,7 @@ module _ (R : Rules) (a b : Section) (others : List Section) (head-sound : R .he
 
     record Read (most : ℕ) (p : Place) : Type 0 where
       within : p .at ≤ total → linesFrom most s p ≡ says total (messageOf (p .phase) (p .sum)) (framesFrom (p .at) (drop (p .at) s))
-      beyond : total < p .at → linesFrom most s p ≡ refused total 0x0106 ∷ []
+      beyond : total < p .at → linesFrom most s p ≡ refused total FRAME-ERROR ∷ []
 
     module _ (k : ℕ) (read-on : (p : Place) → p .phase ≤ 2 → 0 < k → total < k + p .at → Read k p) (p : Place) (listed : p .phase ≤ 2) where
       lines-view : (b : ℕ) (bs : List ℕ) → drop (p .at) s ≡ b ∷ bs → p .at + length (b ∷ bs) ≡ total → total ≤ k + p .at → {fs : Frames} → View (length bs) (p .at) (b ∷ bs) fs

@@ -6,12 +6,14 @@ use mathlib.Core.Option.{none}
 use native.Mathlib.Omega.{arith}
 use lib.Dec.{ltb, ltb→lt, nltb→le}
 use borrow.Author.Tests.{lt-ltb, le-ltb}
+use Rattle.rules.specs.Numbers.{of-connection, excessive-load, codeNumber}
 use Rattle.rules.specs.Frames.{Header}
 use Rattle.rules.specs.Reading.{section, trailers, Ruling, refuse, accept}
 use Rattle.rules.specs.Message.{Message, opening, body, trailed, past-limit, goes, refuses, carries, sum-to, content-limit}
 use Rattle.rules.specs.Request.{Kind, data·, headers, forbidden, unknown, kindOf, headers-limit, within-limit, data-rule, headers-rule, ruleFor, rule}
 use Rattle.meaning.specs.Hom.{map-ruling}
 use Rattle.meaning.specs.FrameLaws.{head}
+use Rattle.meaning.specs.NumberLaws.{code-high}
 use Rattle.meaning.specs.RequestLaws.{RuleView, r-refused, r-skipped, r-content, r-header, r-trailers, rule-view}
 use Rattle.streams.specs.Both.{of-request}
 use Rattle.streams.specs.Both as both
@@ -48,8 +50,8 @@ data-number a b false false e = refl
 data-number a b true false e = let z : _≡_ {A = ℕ} 0 1 = cc in absurd (omega arith)
 data-number a b false true e = let z : _≡_ {A = ℕ} 0 1 = cc in absurd (omega arith)
 
-trailers-number : (a b : ℕ) (x : Bool) → numberOf {P = Message} (elim x [ true ↦ refuse 0x0107 | false ↦ accept (section trailers) (body none a) ])
-    ≡ numberOf {P = Message} (elim x [ true ↦ refuse 0x0107 | false ↦ accept (section trailers) (body none b) ])
+trailers-number : (a b : ℕ) (x : Bool) → numberOf {P = Message} (elim x [ true ↦ refuse (of-connection excessive-load) | false ↦ accept (section trailers) (body none a) ])
+    ≡ numberOf {P = Message} (elim x [ true ↦ refuse (of-connection excessive-load) | false ↦ accept (section trailers) (body none b) ])
 unfolding numberOf
 trailers-number a b true = refl
 trailers-number a b false = refl
@@ -100,7 +102,7 @@ line-high p h (suc (suc (suc (suc k)))) l = refl
 
 line-view : (p : Place) (h : Header) {t len : ℕ} {m : Message} {r : Ruling Message} → RuleView t len m r → lineBy p h (numberOf r) ≡ lineOf p h r
 unfolding numberOf useNumber lineBy lineOf usageOf after
-line-view p h (r-refused {code = code} l) = line-high p h code (omega arith)
+line-view p h (r-refused {code = code}) = line-high p h (codeNumber code) (let l = code-high code in omega arith)
 line-view p h (r-skipped u) = refl
 line-view p h (r-content z e) = refl
 line-view p h (r-header z l) = refl

@@ -8,6 +8,7 @@ use mathlib.Core.Option.{Option, some}
 use lib.Dec.{ltb, eqb, nltb→le, lit≤}
 use borrow.Author.Tests.{ltb-false, lt-ltb, le-ltb, ne-eqb}
 use lib.ListN.{length}
+use Rattle.rules.specs.Numbers.{Code, of-connection, frame-unexpected, frame-error, excessive-load, id-error, settings-error, missing-settings, ConnectionFault}
 use Rattle.rules.specs.Text.{isOneOf, lookup}
 use Rattle.rules.specs.Integers.{Int, cut, got, integer}
 use Rattle.rules.specs.Reading.{Kept, settings, goaway, max-push-id, cancel-push, content, skipped, section, kept, Ruling, refuse, accept, Next, stop, go}
@@ -19,7 +20,7 @@ use Rattle.meaning.specs.IntegerLaws.{integer-length}
 -- ---- the rule answers one of these: nothing of a control stream is content or a section
 
 pub data ControlView (c : Control) : Ruling Control → Type 0 where
-  v-refused : {code : ℕ} → 0x0103 ≤ code → ControlView c (refuse code)  -- a code of the protocol
+  v-refused : {f : ConnectionFault} → ControlView c (refuse (of-connection f))
   v-skipped : ControlView c (accept skipped c)
   v-kept : {k : Kept} → ControlView c (accept (kept k) c)
 
@@ -30,13 +31,13 @@ either false a b = b
 
 kind-view : (k : Kind) (c : Control) (len : ℕ) → ControlView c (ruleFor k c len)
 unfolding ruleFor
-kind-view forbidden c len = v-refused (lit≤ tt)
-kind-view (one-integer k) c len = either (eqb len 0 || ltb 8 len) (v-refused (lit≤ tt)) v-kept
+kind-view forbidden c len = v-refused
+kind-view (one-integer k) c len = either (eqb len 0 || ltb 8 len) v-refused v-kept
 kind-view unknown c len = v-skipped
 
 pub control-view : (c : Control) (t len : ℕ) → ControlView c (rule c t len)
 unfolding rule first-rule
-control-view unset t len = either (eqb t 4) (either (ltb settings-limit len) (v-refused (lit≤ tt)) v-kept) (v-refused (lit≤ tt))
+control-view unset t len = either (eqb t 4) (either (ltb settings-limit len) v-refused v-kept) v-refused
 control-view (set s g m) t len = kind-view (lookup column unknown t) (set s g m) len
 
 -- ---- what is kept has an end
@@ -49,7 +50,7 @@ KeptWithin most len (accept skipped c) = Unit {0}
 KeptWithin most len (accept (section t) c) = Unit {0}
 KeptWithin most len (accept (kept k) c) = len ≤ most
 
-limit-if : (most len : ℕ) (x : Bool) (code : ℕ) (r : Ruling Control) → (x ≡ false → KeptWithin most len r) → KeptWithin most len (elim x [ true ↦ refuse code | false ↦ r ])
+limit-if : (most len : ℕ) (x : Bool) (code : Code) (r : Ruling Control) → (x ≡ false → KeptWithin most len r) → KeptWithin most len (elim x [ true ↦ refuse code | false ↦ r ])
 limit-if most len true code r h = tt
 limit-if most len false code r h = h refl
 
@@ -61,15 +62,15 @@ kind-limit : (k : Kind) (c : Control) (len : ℕ) → KeptWithin settings-limit 
 unfolding ruleFor settings-limit
 kind-limit forbidden c len = tt
 kind-limit (one-integer k) c len =
-    limit-if 256 len (eqb len 0 || ltb 8 len) 0x0106 (accept (kept k) c) (λ e. (let h = ltb-false 8 len (either-false (eqb len 0) (ltb 8 len) e) in omega arith))
+    limit-if 256 len (eqb len 0 || ltb 8 len) (of-connection frame-error) (accept (kept k) c) (λ e. (let h = ltb-false 8 len (either-false (eqb len 0) (ltb 8 len) e) in omega arith))
 kind-limit unknown c len = tt
 
 first-limit : (t len : ℕ) (x : Bool) → KeptWithin settings-limit len (elim x [
-  | false ↦ refuse 0x010a
-  | true ↦ elim (ltb settings-limit len) [ true ↦ refuse 0x0107 | false ↦ accept (kept settings) unset ]
+  | false ↦ refuse (of-connection missing-settings)
+  | true ↦ elim (ltb settings-limit len) [ true ↦ refuse (of-connection excessive-load) | false ↦ accept (kept settings) unset ]
 ])
 first-limit t len false = tt
-first-limit t len true = limit-if settings-limit len (ltb settings-limit len) 0x0107 (accept (kept settings) unset) (λ e. ltb-false settings-limit len e)
+first-limit t len true = limit-if settings-limit len (ltb settings-limit len) (of-connection excessive-load) (accept (kept settings) unset) (λ e. ltb-false settings-limit len e)
 
 -- SETTINGS OF 256 BYTES AT MOST, and one integer of 8: a control stream keeps no more
 pub control-limit : (c : Control) (t len : ℕ) → KeptWithin settings-limit len (rule c t len)
@@ -83,14 +84,14 @@ settings-limit-is = refl
 
 -- ---- more laws
 
--- a first frame other than SETTINGS is 0x010a, whatever its type and length
-pub first-is-settings : (t len : ℕ) → eqb t 4 ≡ false → rule unset t len ≡ refuse 0x010a
+-- a first frame other than SETTINGS is missing-settings, whatever its type and length
+pub first-is-settings : (t len : ℕ) → eqb t 4 ≡ false → rule unset t len ≡ refuse (of-connection missing-settings)
 unfolding rule first-rule
 first-is-settings t len e = rw (e, first-rule)
 
 -- what an accepted GOAWAY and MAX_PUSH_ID leave
 not-above : (s : Settings) (g v : ℕ) (m : Option ℕ) (x : Bool) → ltb g v ≡ x → (c : Control)
-    → (elim x as (λ y. Next Control) [ true ↦ stop 0x0108 | false ↦ go (set s (some v) m) ]) ≡ go c → (v ≤ g) × (c ≡ set s (some v) m)
+    → (elim x as (λ y. Next Control) [ true ↦ stop (of-connection id-error) | false ↦ go (set s (some v) m) ]) ≡ go c → (v ≤ g) × (c ≡ set s (some v) m)
 not-above s g v m true e c q = let z : _≡_ {A = ℕ} 0 1 = cc in absurd (omega arith)
 not-above s g v m false e c q = (nltb→le g v (rw e tt), cc)
 
@@ -99,7 +100,7 @@ unfolding after-goaway above
 goaway-falls s g m v c q = not-above s g v m (ltb g v) refl c q
 
 not-below : (s : Settings) (g : Option ℕ) (v m : ℕ) (x : Bool) → ltb v m ≡ x → (c : Control)
-    → (elim x as (λ y. Next Control) [ true ↦ stop 0x0108 | false ↦ go (set s g (some v)) ]) ≡ go c → (m ≤ v) × (c ≡ set s g (some v))
+    → (elim x as (λ y. Next Control) [ true ↦ stop (of-connection id-error) | false ↦ go (set s g (some v)) ]) ≡ go c → (m ≤ v) × (c ≡ set s g (some v))
 not-below s g v m true e c q = let z : _≡_ {A = ℕ} 0 1 = cc in absurd (omega arith)
 not-below s g v m false e c q = (nltb→le v m (rw e tt), cc)
 
@@ -112,13 +113,13 @@ abbrev Enough : (f g : ℕ) → Type 0
 Enough f g = (seen : List ℕ) (s : Settings) (bs : List ℕ) → length bs ≤ f → length bs ≤ g → pairs f seen s bs ≡ pairs g seen s bs
 
 enough-seen : (f g : ℕ) (seen : List ℕ) (s : Settings) (i v : ℕ) (bs : List ℕ) → Enough f g → length bs ≤ f → length bs ≤ g → (x : Bool)
-    → _≡_ {A = Next Settings} (elim x [ true ↦ stop 0x0109 | false ↦ pairs f (i ∷ seen) (set-to i v s) bs ]) (elim x [ true ↦ stop 0x0109 | false ↦ pairs g (i ∷ seen) (set-to i v s) bs ])
+    → _≡_ {A = Next Settings} (elim x [ true ↦ stop (of-connection settings-error) | false ↦ pairs f (i ∷ seen) (set-to i v s) bs ]) (elim x [ true ↦ stop (of-connection settings-error) | false ↦ pairs g (i ∷ seen) (set-to i v s) bs ])
 enough-seen f g seen s i v bs ih h k true = refl
 enough-seen f g seen s i v bs ih h k false = ih (i ∷ seen) (set-to i v s) bs h k
 
 enough-value : (f g : ℕ) (seen : List ℕ) (s : Settings) (i : ℕ) (rest : List ℕ) → Enough f g → length rest ≤ f → length rest ≤ g → (x : Int) → integer 0 rest ≡ x
-    → _≡_ {A = Next Settings} (elim x [ cut ↦ stop 0x0106 | got v to shorter ↦ elim (isOneOf reserved-identifiers i || isOneOf seen i) [ true ↦ stop 0x0109 | false ↦ pairs f (i ∷ seen) (set-to i v s) shorter ] ])
-    (elim x [ cut ↦ stop 0x0106 | got v to shorter ↦ elim (isOneOf reserved-identifiers i || isOneOf seen i) [ true ↦ stop 0x0109 | false ↦ pairs g (i ∷ seen) (set-to i v s) shorter ] ])
+    → _≡_ {A = Next Settings} (elim x [ cut ↦ stop (of-connection frame-error) | got v to shorter ↦ elim (isOneOf reserved-identifiers i || isOneOf seen i) [ true ↦ stop (of-connection settings-error) | false ↦ pairs f (i ∷ seen) (set-to i v s) shorter ] ])
+    (elim x [ cut ↦ stop (of-connection frame-error) | got v to shorter ↦ elim (isOneOf reserved-identifiers i || isOneOf seen i) [ true ↦ stop (of-connection settings-error) | false ↦ pairs g (i ∷ seen) (set-to i v s) shorter ] ])
 enough-value f g seen s i rest ih h k cut e = refl
 enough-value f g seen s i rest ih h k (got v to shorter) e =
     let l = integer-length 0 rest e in enough-seen f g seen s i v shorter ih (omega arith) (omega arith) (isOneOf reserved-identifiers i || isOneOf seen i)
@@ -170,7 +171,7 @@ forbidden-row (suc (suc (suc (suc (suc (suc (suc (suc (suc zero))))))))) l n3 n7
 forbidden-row (suc (suc (suc (suc (suc (suc (suc (suc (suc (suc k)))))))))) l n3 n7 = absurd (omega arith)
 
 module _ (s : Settings) (g m : Option ℕ) (len : ℕ) where
-  pub control-forbidden : (t : ℕ) → t < 10 → (t ≡ 3 → ⊥) → (t ≡ 7 → ⊥) → rule (set s g m) t len ≡ refuse 0x0105
+  pub control-forbidden : (t : ℕ) → t < 10 → (t ≡ 3 → ⊥) → (t ≡ 7 → ⊥) → rule (set s g m) t len ≡ refuse (of-connection frame-unexpected)
   unfolding rule ruleFor
   control-forbidden t l n3 n7 = let e = forbidden-row t l n3 n7 in rw e
 
@@ -197,11 +198,11 @@ integer-fits k c len h l =
     let e : (eqb len 0 || ltb 8 len) ≡ false = rw (a, b) refl in
     rw (e, ruleFor)
 
-pub integer-empty : (k : Kept) (c : Control) → ruleFor (one-integer k) c 0 ≡ refuse 0x0106
+pub integer-empty : (k : Kept) (c : Control) → ruleFor (one-integer k) c 0 ≡ refuse (of-connection frame-error)
 unfolding ruleFor
 integer-empty k c = refl
 
-pub integer-long : (k : Kept) (c : Control) (len : ℕ) → 8 < len → ruleFor (one-integer k) c len ≡ refuse 0x0106
+pub integer-long : (k : Kept) (c : Control) (len : ℕ) → 8 < len → ruleFor (one-integer k) c len ≡ refuse (of-connection frame-error)
 unfolding ruleFor
 integer-long k c len h =
     let a = ne-eqb len 0 (λ e. omega arith) in
@@ -213,6 +214,6 @@ pub first-fits : (len : ℕ) → len ≤ settings-limit → rule unset 4 len ≡
 unfolding rule first-rule
 first-fits len h = let e = le-ltb settings-limit len h in rw (e, first-rule)
 
-pub first-long : (len : ℕ) → settings-limit < len → rule unset 4 len ≡ refuse 0x0107
+pub first-long : (len : ℕ) → settings-limit < len → rule unset 4 len ≡ refuse (of-connection excessive-load)
 unfolding rule first-rule
 first-long len h = let e = lt-ltb settings-limit len h in rw (e, first-rule)

@@ -7,6 +7,7 @@ use mathlib.Core.List.{List, [], _∷_, _++_}
 use mathlib.Core.Bool.{Bool, true, false}
 use lib.Dec.{eqb·suc-zero}
 use lib.ListN.{length}
+use Rattle.rules.specs.Numbers.{Code}
 use Rattle.rules.specs.Reading.{Part, Kept, Use, content, skipped, section, kept, Ruling, refuse, accept, Next, stop, go, Grammar}
 use Rattle.meaning.specs.Machine.{Fed, going, value, fed, State, in-type, in-length, in-payload, due, lives, dies, between, answered, typed, over, with-left}
 use Rattle.meaning.specs.Feed.{quiet, section-bytes, content-bytes, taken, Feeding, halt, also, onward, judged-event, over-event, left-event, behind-header, named, taking, feed}
@@ -18,7 +19,7 @@ pub record Closed (G : Grammar) (Q : (allow : ℕ) (piece : List ℕ) → Feedin
   pub nothing-left : (allow : ℕ) (s : State (G .P)) → Q allow [] (halt quiet (lives s))
   pub none-allowed : (s : State (G .P)) (piece : List ℕ) → Q zero piece (halt quiet (lives s))
   pub waiting : (allow : ℕ) (piece : List ℕ) (t : Part) (p : G .P) → Q allow piece (halt quiet (lives (due t p)))
-  pub fault : (allow : ℕ) (piece : List ℕ) (code : ℕ) → Q allow piece (halt quiet (dies code))
+  pub fault : (allow : ℕ) (piece : List ℕ) (code : Code) → Q allow piece (halt quiet (dies code))
   pub empty-section : (allow : ℕ) (piece : List ℕ) (t : Part) (p : G .P) → Q allow piece (halt (section-bytes 0 true) (lives (due t p)))
   pub told : (allow : ℕ) (piece : List ℕ) (k : Kept) (payload : List ℕ) (p : G .P) → Q allow piece (halt (taken k payload) (lives (between p)))
   pub content-part : (allow left b : ℕ) (bs : List ℕ) (p : G .P) → let j = min left (length bs) in Q allow (b ∷ bs) (taking G content j (left - j) p)
@@ -83,7 +84,7 @@ pub data Stops {P : Type 0} (allow : ℕ) (piece : List ℕ) (f : Feeding P) : T
   at-taken : {k : Kept} {payload : List ℕ} → f .event ≡ taken k payload → Stops allow piece f
   at-end : f .used ≡ length piece → Stops allow piece f
   at-allowance : f .heads ≡ allow → Stops allow piece f
-  at-fault : {code : ℕ} → f .after ≡ dies code → Stops allow piece f
+  at-fault : {code : Code} → f .after ≡ dies code → Stops allow piece f
   while-due : {t : Part} {p : P} → f .after ≡ lives (due t p) → Stops allow piece f
 
 also-stops : {P : Type 0} {allow : ℕ} (h all : ℕ) → h + allow ≡ all → {b : ℕ} {bs : List ℕ} {f : Feeding P} → Stops allow bs f → Stops all (b ∷ bs) (also h f)
@@ -240,7 +241,7 @@ feed-marks G = every-feed G Marked (record {
 
 -- ---- no refusal gives an event
 
-never-dies : {P : Type 0} {A : Type 0} (s : State P) (code : ℕ) → lives s ≡ dies code → A
+never-dies : {P : Type 0} {A : Type 0} (s : State P) (code : Code) → lives s ≡ dies code → A
 never-dies s code e = let z : _≡_ {A = ℕ} 0 1 = cc in absurd (omega arith)
 
 abbrev isPart : Use → Bool
@@ -249,7 +250,7 @@ isPart skipped = false
 isPart (section t) = true
 isPart (kept k) = false
 
-part-lives : (G : Grammar) (u : Use) → isPart u ≡ true → (j l : ℕ) (p : G .P) (code : ℕ) → taking G u j l p .after ≡ dies code → ⊥
+part-lives : (G : Grammar) (u : Use) → isPart u ≡ true → (j l : ℕ) (p : G .P) (code : Code) → taking G u j l p .after ≡ dies code → ⊥
 unfolding taking with-left over
 part-lives G content h j zero p code e = never-dies (between p) code e
 part-lives G content h j (suc l) p code e = never-dies (in-payload content [] l p) code e
@@ -259,9 +260,9 @@ part-lives G (section t) h j (suc l) p code e = never-dies (in-payload (section 
 part-lives G (kept k) h j l p code e = let z : _≡_ {A = ℕ} 0 1 = cc in omega arith
 
 -- A FAULT IS SILENT
-pub feed-silent : (G : Grammar) (allow : ℕ) (s : State (G .P)) (piece : List ℕ) (code : ℕ) → feed G allow s piece .after ≡ dies code → feed G allow s piece .event ≡ quiet
+pub feed-silent : (G : Grammar) (allow : ℕ) (s : State (G .P)) (piece : List ℕ) (code : Code) → feed G allow s piece .after ≡ dies code → feed G allow s piece .event ≡ quiet
 unfolding halt also taking
-feed-silent G allow s piece = every-feed G (λ allow piece f. (code : ℕ) → f .after ≡ dies code → f .event ≡ quiet) (record {
+feed-silent G allow s piece = every-feed G (λ allow piece f. (code : Code) → f .after ≡ dies code → f .event ≡ quiet) (record {
   nothing-left = λ allow s code e. refl;
   none-allowed = λ s piece code e. refl;
   waiting = λ allow piece t p code e. refl;

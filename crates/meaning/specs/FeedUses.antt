@@ -6,6 +6,7 @@ use native.Mathlib.Omega.{arith}
 use mathlib.Core.List.{List, [], _∷_, _++_}
 use mathlib.Core.Bool.{Bool, true}
 use lib.ListN.{length}
+use Rattle.rules.specs.Numbers.{Code}
 use Rattle.rules.specs.Reading.{Part, Kept, Use, content, skipped, section, kept, Ruling, refuse, accept, Next, stop, go, Grammar}
 use Rattle.meaning.specs.Machine.{Fed, going, value, fed, State, in-type, in-length, in-payload, due, Outcome, lives, dies, between, answered, typed, over, with-left}
 use Rattle.meaning.specs.Feed.{Event, quiet, section-bytes, content-bytes, taken, Feeding, halt, also, onward, judged-event, over-event, left-event, behind-header, named, taking, feed}
@@ -21,11 +22,11 @@ NotKept (section t) = Unit {0}
 NotKept (kept f) = ⊥
 
 -- a ruling on a frame of this length, and a judgement, within some uses and codes
-abbrev pub RulesWithin : {P : Type 0} → (U : Uses) (K : ℕ → Type 0) → (len : ℕ) → Ruling P → Type 0
+abbrev pub RulesWithin : {P : Type 0} → (U : Uses) (K : Code → Type 0) → (len : ℕ) → Ruling P → Type 0
 RulesWithin U K len (refuse code) = K code
 RulesWithin U K len (accept u p) = U u [] len
 
-abbrev pub JudgesWithin : {P : Type 0} → (K : ℕ → Type 0) → Next P → Type 0
+abbrev pub JudgesWithin : {P : Type 0} → (K : Code → Type 0) → Next P → Type 0
 JudgesWithin K (stop code) = K code
 JudgesWithin K (go p) = Unit {0}
 
@@ -36,7 +37,7 @@ StateWithin U (in-length t g p) = Unit {0}
 StateWithin U (in-payload u k left p) = U u k (suc left)
 StateWithin U (due t p) = U (section t) [] 0
 
-abbrev pub OutcomeWithin : {P : Type 0} → (U : Uses) (K : ℕ → Type 0) → Outcome P → Type 0
+abbrev pub OutcomeWithin : {P : Type 0} → (U : Uses) (K : Code → Type 0) → Outcome P → Type 0
 OutcomeWithin U K (lives s) = StateWithin U s
 OutcomeWithin U K (dies code) = K code
 
@@ -47,11 +48,11 @@ EventWithin U (section-bytes len last) = (t : Part) × U (section t) [] 0
 EventWithin U (content-bytes len) = U content [] 0
 EventWithin U (taken k payload) = U (kept k) payload 0
 
-pub record FeedWithin {P : Type 0} (U : Uses) (K : ℕ → Type 0) (f : Feeding P) : Type 0 where
+pub record FeedWithin {P : Type 0} (U : Uses) (K : Code → Type 0) (f : Feeding P) : Type 0 where
   pub event : EventWithin U (f .event)
   pub after : OutcomeWithin U K (f .after)
 
-module _ (G : Grammar) (U : Uses) (K : ℕ → Type 0) (clear : (u : Use) → NotKept u → (k : List ℕ) (l : ℕ) → U u k l → (n : ℕ) → U u [] n) (more : (f : Kept) (k : List ℕ) (b l : ℕ) → U (kept f) k (suc l) → U (kept f) (k ++ (b ∷ [])) l)
+module _ (G : Grammar) (U : Uses) (K : Code → Type 0) (clear : (u : Use) → NotKept u → (k : List ℕ) (l : ℕ) → U u k l → (n : ℕ) → U u [] n) (more : (f : Kept) (k : List ℕ) (b l : ℕ) → U (kept f) k (suc l) → U (kept f) (k ++ (b ∷ [])) l)
     (rules : (p : G .P) (t len : ℕ) → RulesWithin U K len (G .rule p t len))
     (judges : (k : Kept) (p : G .P) (payload : List ℕ) → JudgesWithin K (G .judged k p payload)) where
   halts : (e : Event) (o : Outcome (G .P)) → EventWithin U e → OutcomeWithin U K o → FeedWithin U K (halt e o)

@@ -6,6 +6,7 @@ use native.Mathlib.Omega.{arith}
 use mathlib.Core.List.{List, [], _∷_, _++_, append-nil}
 use mathlib.Core.Logic.{_↔_}
 use lib.ListN.{length, length-append, take}
+use Rattle.rules.specs.Numbers.{Code}
 use Rattle.rules.specs.Block.{Section}
 use Rattle.rules.specs.Reading.{Next, stop, go, End, complete, lacking, Grammar, Verdict, whole, fault, waits, ended, read}
 use Rattle.meaning.specs.Machine.{fresh, need, State, in-type, in-length, in-payload, due, Outcome, lives, dies, between, step, finish, Run, reads, stuck, resumed, supplied, settled, next, tells, finished, begins, run, began, lists, fresh-run}
@@ -115,7 +116,7 @@ module _ (G : Grammar) where
       )
 
   -- THE FIRST FAULT, at place p: it is there after p bytes, it is the verdict whatever follows them, and no shorter beginning settles anything.
-  pub record FirstFault (bl : List Section) (bytes : List ℕ) (code p : ℕ) : Type 0 where
+  pub record FirstFault (bl : List Section) (bytes : List ℕ) (code : Code) (p : ℕ) : Type 0 where
     pub within : p ≤ length bytes
     pub there : Inside G bl (take p bytes) (fault code p)
     pub same : (t : List ℕ) → read G bl (take p bytes ++ t) .verdict ≡ fault code p
@@ -125,7 +126,7 @@ module _ (G : Grammar) where
   not-both (reads bl s) v h e = let z : _≡_ {A = ℕ} 0 1 = cc in omega arith
   not-both (stuck w) v h e = h
 
-  pub first-fault : (bl : List Section) (bytes : List ℕ) (code p : ℕ) → Inside G bl bytes (fault code p) → FirstFault bl bytes code p
+  pub first-fault : (bl : List Section) (bytes : List ℕ) (code : Code) (p : ℕ) → Inside G bl bytes (fault code p) → FirstFault bl bytes code p
   unfolding Inside placeOf
   first-fault bl bytes code p e =
       let s = struck 0 bl (in-type fresh (G .start)) bytes (fault code p) e in
@@ -143,12 +144,12 @@ module _ (G : Grammar) where
       → read G bl bytes .verdict ≡ finish G (length bytes) s
   end-rule bl bytes e = ap (λ r. r .verdict) (read-is G bl bytes) ∙ rw e (unfold finished in refl)
 
-  end-place : (e : End) (at code p : ℕ) → ended e at ≡ fault code p → p ≡ at
+  end-place : (e : End) (at : ℕ) (code : Code) (p : ℕ) → ended e at ≡ fault code p → p ≡ at
   unfolding ended
   end-place complete at code p e = let z : _≡_ {A = ℕ} 0 1 = cc in absurd (omega arith)
   end-place (lacking c) at code p e = cc
 
-  finish-place : (at : ℕ) (s : State (G .P)) (code p : ℕ) → finish G at s ≡ fault code p → p ≡ at
+  finish-place : (at : ℕ) (s : State (G .P)) (code : Code) (p : ℕ) → finish G at s ≡ fault code p → p ≡ at
   unfolding finish
   finish-place at (in-type fresh q) code p e = end-place (G .end q) at code p e
   finish-place at (in-type (need k v) q) code p e = cc
@@ -156,17 +157,17 @@ module _ (G : Grammar) where
   finish-place at (in-payload u k left q) code p e = cc
   finish-place at (due t q) code p e = let z : _≡_ {A = ℕ} 0 1 = cc in absurd (omega arith)
 
-  early : (at : ℕ) (r : Run (G .P)) (code p : ℕ) → finished G at r ≡ fault code p → p < at → r ≡ stuck (fault code p)
+  early : (at : ℕ) (r : Run (G .P)) (code : Code) (p : ℕ) → finished G at r ≡ fault code p → p < at → r ≡ stuck (fault code p)
   unfolding finished
   early at (reads bl s) code p e h = let x = finish-place at s code p e in absurd (omega arith)
   early at (stuck v) code p e h = ap stuck e
 
   -- a fault before the end is inside the stream
-  pub early-inside : (bl : List Section) (bytes : List ℕ) (code p : ℕ) → read G bl bytes .verdict ≡ fault code p → p < length bytes → Inside G bl bytes (fault code p)
+  pub early-inside : (bl : List Section) (bytes : List ℕ) (code : Code) (p : ℕ) → read G bl bytes .verdict ≡ fault code p → p < length bytes → Inside G bl bytes (fault code p)
   unfolding Inside
   early-inside bl bytes code p e h = early (length bytes) (run G 0 (fresh-run G bl) bytes) code p (sym (ap (λ r. r .verdict) (read-is G bl bytes)) ∙ e) h
 
-  inside-of : (bl : List Section) (x : List ℕ) (code p : ℕ) (r : Run (G .P)) → run G 0 (fresh-run G bl) x ≡ r
+  inside-of : (bl : List Section) (x : List ℕ) (code : Code) (p : ℕ) (r : Run (G .P)) → run G 0 (fresh-run G bl) x ≡ r
       → ((t : List ℕ) → read G bl (x ++ t) .verdict ≡ fault code p) → r ≡ stuck (fault code p)
   unfolding finished Inside run next placeOf
   inside-of bl x code p (stuck v) e f =
@@ -185,7 +186,7 @@ module _ (G : Grammar) where
       absurd (omega arith)
 
   -- in the words of the definition alone: a fault is inside the stream exactly if it is the verdict of every continuation
-  pub inside-means : (bl : List Section) (x : List ℕ) (code p : ℕ) → Inside G bl x (fault code p) ↔ ((t : List ℕ) → read G bl (x ++ t) .verdict ≡ fault code p)
+  pub inside-means : (bl : List Section) (x : List ℕ) (code : Code) (p : ℕ) → Inside G bl x (fault code p) ↔ ((t : List ℕ) → read G bl (x ++ t) .verdict ≡ fault code p)
   unfolding Inside
   inside-means bl x code p = (λ e t. last-word bl x t (fault code p) e .0, λ f. inside-of bl x code p (run G 0 (fresh-run G bl) x) refl f)
 
@@ -193,26 +194,26 @@ module _ (G : Grammar) where
 
 module _ (G : Grammar) where
   -- of some sections, those taken by a run that comes to a fault: whatever others follow them, it comes to the same
-  pub record Due (at : ℕ) (r : List Section → Run (G .P)) (bs : List ℕ) (code place : ℕ) (sections : List Section) : Type 0 where
+  pub record Due (at : ℕ) (r : List Section → Run (G .P)) (bs : List ℕ) (code : Code) (place : ℕ) (sections : List Section) : Type 0 where
     pub taken : List Section
     pub left : List Section
     pub are : sections ≡ taken ++ left
     pub same : (others : List Section) → run G at (r (taken ++ others)) bs ≡ stuck (fault code place)
 
-  abbrev Finds : (at : ℕ) (bs : List ℕ) (code place : ℕ) → Type 0
+  abbrev Finds : (at : ℕ) (bs : List ℕ) (code : Code) (place : ℕ) → Type 0
   Finds at bs code place = (s : State (G .P)) (sections : List Section) → run G at (reads sections s) bs ≡ stuck (fault code place) → Due at (λ l. reads l s) bs code place sections
 
-  none-taken : (at : ℕ) (bs : List ℕ) (code place c p : ℕ) (sections : List Section) → run G at (stuck (fault c p)) bs ≡ stuck (fault code place)
+  none-taken : (at : ℕ) (bs : List ℕ) (code : Code) (place : ℕ) (c : Code) (p : ℕ) (sections : List Section) → run G at (stuck (fault c p)) bs ≡ stuck (fault code place)
       → Due at (λ l. stuck (fault c p)) bs code place sections
   none-taken at bs code place c p sections e = record { taken = []; left = sections; are = refl; same = λ others. e }
 
-  resumed-due : (at : ℕ) (bs : List ℕ) (code place : ℕ) → Finds at bs code place → (sections : List Section) (n : Next (G .P))
+  resumed-due : (at : ℕ) (bs : List ℕ) (code : Code) (place : ℕ) → Finds at bs code place → (sections : List Section) (n : Next (G .P))
       → run G at (resumed G at sections n) bs ≡ stuck (fault code place) → Due at (λ l. resumed G at l n) bs code place sections
   unfolding resumed
   resumed-due at bs code place ih sections (stop c) e = none-taken at bs code place c at sections e
   resumed-due at bs code place ih sections (go p) e = ih (between p) sections e
 
-  supplied-due : (at : ℕ) (bs : List ℕ) (code place : ℕ) → Finds at bs code place → (s : State (G .P)) (sections : List Section)
+  supplied-due : (at : ℕ) (bs : List ℕ) (code : Code) (place : ℕ) → Finds at bs code place → (s : State (G .P)) (sections : List Section)
       → run G at (supplied G at sections s) bs ≡ stuck (fault code place) → Due at (λ l. supplied G at l s) bs code place sections
   unfolding supplied
   supplied-due at bs code place ih (in-type g p) sections e = ih (in-type g p) sections e
@@ -223,13 +224,13 @@ module _ (G : Grammar) where
       let d = resumed-due at bs code place ih sections (G .given t p c) e in
       record { taken = c ∷ d .taken; left = d .left; are = ap (λ l. c ∷ l) (d .are); same = d .same }
 
-  settled-due : (at : ℕ) (bs : List ℕ) (code place : ℕ) → Finds at bs code place → (o : Outcome (G .P)) (sections : List Section)
+  settled-due : (at : ℕ) (bs : List ℕ) (code : Code) (place : ℕ) → Finds at bs code place → (o : Outcome (G .P)) (sections : List Section)
       → run G at (settled G at sections o) bs ≡ stuck (fault code place) → Due at (λ l. settled G at l o) bs code place sections
   unfolding settled
   settled-due at bs code place ih (lives s) sections e = supplied-due at bs code place ih s sections e
   settled-due at bs code place ih (dies c) sections e = none-taken at bs code place c at sections e
 
-  finds : (bs : List ℕ) (at code place : ℕ) → Finds at bs code place
+  finds : (bs : List ℕ) (at : ℕ) (code : Code) (place : ℕ) → Finds at bs code place
   unfolding run next
   finds [] at code place s sections e = let z : _≡_ {A = ℕ} 0 1 = cc in absurd (omega arith)
   finds (b ∷ bs) at code place s sections e =
@@ -237,7 +238,7 @@ module _ (G : Grammar) where
       record { taken = d .taken; left = d .left; are = d .are; same = d .same }
 
   -- THE SECTIONS DUE BY A FAULT decide it: those behind them may be any others
-  pub due-by : (sections : List Section) (bytes : List ℕ) (code p : ℕ) → Inside G sections bytes (fault code p)
+  pub due-by : (sections : List Section) (bytes : List ℕ) (code : Code) (p : ℕ) → Inside G sections bytes (fault code p)
       → (taken : List Section) × (left : List Section) × (sections ≡ taken ++ left) × ((others : List Section) → Inside G (taken ++ others) bytes (fault code p))
   unfolding Inside
   due-by sections bytes code p e = let d = finds bytes 0 code p (in-type fresh (G .start)) sections e in (d .taken, d .left, d .are, d .same)

@@ -5,6 +5,7 @@ use mathlib.Core.List.{List, [], _∷_, _++_}
 use mathlib.Core.Option.{none, some}
 use lib.Dec.{lit<}
 use lib.ListN.{length}
+use Rattle.rules.specs.Numbers.{of-stream, message-error}
 use Rattle.rules.specs.Block.{Section}
 use Rattle.rules.specs.Integers.{got, integer}
 use Rattle.rules.specs.Frames.{frame, framesFrom}
@@ -69,9 +70,9 @@ unfolding answer upload
 legal = whole-iff-legal three one upload .0 refl
 
 -- the first fault: Content-Length 2 and DATA of 3, whatever follows the first five bytes, whatever sections follow the first
-pub too-much : FirstFault (request (all-sound (some 2))) one upload 0x010e 5
+pub too-much : FirstFault (request (all-sound (some 2))) one upload (of-stream message-error) 5
 unfolding answer upload
-too-much = first-fault (request (all-sound (some 2))) one upload 0x010e 5 (early-inside (request (all-sound (some 2))) one upload 0x010e 5 refl (lit< tt))
+too-much = first-fault (request (all-sound (some 2))) one upload (of-stream message-error) 5 (early-inside (request (all-sound (some 2))) one upload (of-stream message-error) 5 refl (lit< tt))
 
 -- demand 3 at document 01's own pair
 pub the-pair : Longer three one (read (request three) one upload) (read (request three) one (upload ++ behind)) upload behind

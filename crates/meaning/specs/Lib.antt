@@ -1,4 +1,5 @@
 pub mod TextLaws
+pub mod NumberLaws
 pub mod IntegerLaws
 pub mod FrameLaws
 pub mod WriterLaws

@@ -3,6 +3,7 @@
 use Prim.Native.Nat.{ℕ, zero, suc, _+_, _*_, _%_}
 use mathlib.Core.List.{List, [], _∷_, _++_}
 use lib.ListN.{length}
+use Rattle.rules.specs.Numbers.{Code}
 use Rattle.rules.specs.Integers.{extra}
 use Rattle.rules.specs.Block.{Section}
 use Rattle.rules.specs.Reading.{Part, Kept, Use, content, skipped, section, kept, Ruling, refuse, accept, Next, stop, go, Grammar, Verdict, fault, waits, Saying, header, refused, frame-kept, Reading, ending, put, told, ended}
@@ -36,7 +37,7 @@ pub data State (P : Type 0) : Type 0 where
 
 pub data Outcome (P : Type 0) : Type 0 where
   lives : State P → Outcome P
-  dies : (code : ℕ) → Outcome P
+  dies : (code : Code) → Outcome P
 
 module _ {P : Type 0} where
   abbrev pub between : P → State P

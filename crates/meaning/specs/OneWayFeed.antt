@@ -3,6 +3,7 @@
 use Prim.Native.Nat.{ℕ, suc, _+_, _-_}
 use mathlib.Core.List.{List, [], _∷_, _++_}
 use lib.ListN.{length, take, drop}
+use Rattle.rules.specs.Numbers.{Code}
 use Rattle.rules.specs.Reading.{Saying}
 use Rattle.rules.specs.Control.{Control, unset, control}
 use Rattle.rules.specs.OneWay.{Qpack, Kind, a-control, a-qpack, skipped, Typed, refuse, is, typeRule}
@@ -17,7 +18,7 @@ pub data OneState : Type 0 where
 
 pub data OneOutcome : Type 0 where
   lives : OneState → OneOutcome
-  dies : (code : ℕ) → OneOutcome
+  dies : (code : Code) → OneOutcome
 
 pub data OneEvent : Type 0 where
   of-frames : F.Event → OneEvent

@@ -7,6 +7,7 @@ use native.Mathlib.Omega.{arith}
 use mathlib.Core.List.{List, [], _∷_, _++_, append-assoc, append-nil}
 use lib.ListN.{length, take, length-append}
 use lib.Seq.{length-take-le, take-length}
+use Rattle.rules.specs.Numbers.{Code}
 use Rattle.rules.specs.Block.{Section}
 use Rattle.rules.specs.Integers.{Int, cut, got, more, extra, integer}
 use Rattle.rules.specs.Reading.{Part, skipped as skipped-frame, kept, Use, content, section, Ruling, Next, stop, go, Saying, whole, fault, waits, Reading}
@@ -79,11 +80,11 @@ module _ (seen : List ℕ) where
   data Holds (bytes : List ℕ) (frames : List Saying) (qpack : List ℕ) (heads : ℕ) : OneOutcome → Type 0 where
     h-type : {g : Prog} → ((y : List ℕ) → integer 0 (bytes ++ y) ≡ resumed g (length bytes) y) → frames ≡ [] → qpack ≡ [] → heads ≡ 0
         → Holds bytes frames qpack heads (lives (in-stream-type g))
-    h-refused : {t code : ℕ} → integer 0 bytes ≡ got t (length bytes) [] → typeRule seen t ≡ refuse code → frames ≡ [] → qpack ≡ [] → heads ≡ 0
+    h-refused : {t : ℕ} {code : Code} → integer 0 bytes ≡ got t (length bytes) [] → typeRule seen t ≡ refuse code → frames ≡ [] → qpack ≡ [] → heads ≡ 0
         → Holds bytes frames qpack heads (dies code)
     h-control : {t next : ℕ} {rest : List ℕ} {s : State Control} → integer 0 bytes ≡ got t next rest → typeRule seen t ≡ is a-control
         → OfControl bytes frames heads next rest (Outcome.lives s) → qpack ≡ [] → Holds bytes frames qpack heads (lives (in-control s))
-    h-died : {t next : ℕ} {rest : List ℕ} {code : ℕ} → integer 0 bytes ≡ got t next rest → typeRule seen t ≡ is a-control
+    h-died : {t next : ℕ} {rest : List ℕ} {code : Code} → integer 0 bytes ≡ got t next rest → typeRule seen t ≡ is a-control
         → OfControl bytes frames heads next rest (Outcome.dies code) → qpack ≡ [] → Holds bytes frames qpack heads (dies code)
     h-qpack : {t next : ℕ} {q : Qpack} → integer 0 bytes ≡ got t next qpack → typeRule seen t ≡ is (a-qpack q) → frames ≡ [] → heads ≡ 0
         → Holds bytes frames qpack heads (lives (in-qpack q))
@@ -219,7 +220,7 @@ module _ (seen : List ℕ) where
   -- what the calls came to, beside what the bytes consumed mean
   pub data Came (d : Done) : OneWay → Type 0 where
     still-untyped : {g : Prog} → d .after ≡ lives (in-stream-type g) → d .frames ≡ [] → d .qpack ≡ [] → d .heads ≡ 0 → Came d untyped
-    type-refused : {code : ℕ} → d .after ≡ dies code → d .frames ≡ [] → d .qpack ≡ [] → d .heads ≡ 0 → Came d (refused code (length (d .bytes)))
+    type-refused : {code : Code} → d .after ≡ dies code → d .frames ≡ [] → d .qpack ≡ [] → d .heads ≡ 0 → Came d (refused code (length (d .bytes)))
     a-control-stream : {r : Reading} (o : Outcome Control) → d .after ≡ controlled o → d .frames ≡ unheaded (r .said) → d .qpack ≡ [] → d .heads ≡ headersIn (r .said)
         → r .verdict ≡ finished control (length (d .bytes)) (settled control (length (d .bytes)) [] o) → Came d (is-control r)
     a-qpack-stream : {q : Qpack} → d .after ≡ lives (in-qpack q) → d .frames ≡ [] → d .heads ≡ 0 → Came d (of-qpack q (d .qpack))
@@ -281,7 +282,7 @@ pub data OneStops (allow : ℕ) (piece : List ℕ) (f : OneFeeding) : Type 0 whe
   at-event : Loud (f .event) → OneStops allow piece f
   at-end : f .used ≡ length piece → OneStops allow piece f
   at-allowance : f .heads ≡ allow → OneStops allow piece f
-  at-fault : {code : ℕ} → f .after ≡ dies code → OneStops allow piece f
+  at-fault : {code : Code} → f .after ≡ dies code → OneStops allow piece f
   while-due : {t : Part} {c : Control} → f .after ≡ lives (in-control (due t c)) → OneStops allow piece f  -- which never comes: never-due
 
 control-stops : {allow : ℕ} {piece : List ℕ} (f : F.Feeding Control) → Stops allow piece f → OneStops allow piece (of-control f)
@@ -401,7 +402,7 @@ left-none bl at (kept f) k (suc l) c h = tt
 
 ruled-none : (bl : List Section) (at len : ℕ) {c : Control} {r : Ruling Control} → ControlView c r → NoSectionRun (settled control at bl (ruled control len r))
 unfolding ruled settled
-ruled-none bl at len (v-refused h) = tt
+ruled-none bl at len v-refused = tt
 ruled-none bl at len {c} v-skipped = left-none bl at skipped-frame [] len c tt
 ruled-none bl at len {c} (v-kept {k = k}) = left-none bl at (kept k) [] len c tt
 

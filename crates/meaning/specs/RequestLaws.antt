@@ -6,6 +6,7 @@ use mathlib.Core.Bool.{Bool, true, false}
 use mathlib.Core.Option.{Option, none, some}
 use borrow.Author.Tests.{lt-ltb}
 use lib.Dec.{ltb, ltb→lt, nltb→le, lit≤}
+use Rattle.rules.specs.Numbers.{Code, of-stream, of-connection, request-cancelled, message-error, frame-unexpected, excessive-load}
 use Rattle.rules.specs.Text.{lookup}
 use Rattle.rules.specs.Reading.{header-section, trailers, content, skipped, section, Ruling, refuse, accept}
 use Rattle.rules.specs.Message.{content-limit, Message, opening, body, trailed, Reason, out-of-place, past-stated, past-limit, no-section, unequal, Step, goes, refuses, sum-to, carries}
@@ -44,47 +45,39 @@ kind-view t = lookup-view t (KindView t) column unknown
 -- ---- the rule answers one of these
 
 pub data RuleView (t len : ℕ) : Message → Ruling Message → Type 0 where
-  r-refused : {m : Message} {code : ℕ} → 0x0103 ≤ code → RuleView t len m (refuse code)  -- a code of the protocol
+  r-refused : {m : Message} {code : Code} → RuleView t len m (refuse code)
   r-skipped : {m : Message} → Unknown t → RuleView t len m (accept skipped m)
   r-content : {m q : Message} → t ≡ 0 → carries len m ≡ goes q → RuleView t len m (accept content q)
   r-header : t ≡ 1 → len ≤ headers-limit → RuleView t len opening (accept (section header-section) opening)
   r-trailers : {stated : Option ℕ} {sum : ℕ} → t ≡ 1 → len ≤ headers-limit
       → RuleView t len (body stated sum) (accept (section trailers) (body stated sum))
 
-code-high : (r : Reason) → 0x0103 ≤ codeOf r
-unfolding codeOf
-code-high out-of-place = lit≤ tt
-code-high past-stated = lit≤ tt
-code-high past-limit = lit≤ tt
-code-high no-section = lit≤ tt
-code-high unequal = lit≤ tt
-
 data-view : (t len : ℕ) (m : Message) → t ≡ 0 → (s : Step) → carries len m ≡ s → RuleView t len m (data-rule s)
 unfolding data-rule
 data-view t len m z (goes q) e = r-content z e
-data-view t len m z (refuses r) e = r-refused (code-high r)
+data-view t len m z (refuses r) e = r-refused
 
 header-view : (t len : ℕ) → t ≡ 1 → (x : Bool) → ltb headers-limit len ≡ x
-    → RuleView t len opening (elim x [ true ↦ refuse 0x0107 | false ↦ accept (section header-section) opening ])
-header-view t len z true e = r-refused (lit≤ tt)
+    → RuleView t len opening (elim x [ true ↦ refuse (of-connection excessive-load) | false ↦ accept (section header-section) opening ])
+header-view t len z true e = r-refused
 header-view t len z false e = r-header z (nltb→le headers-limit len (rw e tt))
 
 trailer-view : (t len : ℕ) (stated : Option ℕ) (sum : ℕ) → t ≡ 1 → (x : Bool) → ltb headers-limit len ≡ x
-    → RuleView t len (body stated sum) (elim x [ true ↦ refuse 0x0107 | false ↦ accept (section trailers) (body stated sum) ])
-trailer-view t len stated sum z true e = r-refused (lit≤ tt)
+    → RuleView t len (body stated sum) (elim x [ true ↦ refuse (of-connection excessive-load) | false ↦ accept (section trailers) (body stated sum) ])
+trailer-view t len stated sum z true e = r-refused
 trailer-view t len stated sum z false e = r-trailers z (nltb→le headers-limit len (rw e tt))
 
 headers-view : (t len : ℕ) (m : Message) → t ≡ 1 → RuleView t len m (headers-rule len m)
 unfolding headers-rule within-limit
 headers-view t len opening z = header-view t len z (ltb headers-limit len) refl
 headers-view t len (body stated sum) z = trailer-view t len stated sum z (ltb headers-limit len) refl
-headers-view t len (trailed stated sum) z = r-refused (code-high out-of-place)
+headers-view t len (trailed stated sum) z = r-refused
 
 kind-rule : (m : Message) (t len : ℕ) {k : Kind} → KindView t k → RuleView t len m (ruleFor k m len)
 unfolding ruleFor
 kind-rule m t len (k-data z) = data-view t len m z (carries len m) refl
 kind-rule m t len (k-headers z) = headers-view t len m z
-kind-rule m t len k-forbidden = r-refused (lit≤ tt)
+kind-rule m t len k-forbidden = r-refused
 kind-rule m t len (k-unknown u) = r-skipped u
 
 pub rule-view : (m : Message) (t len : ℕ) → RuleView t len m (rule m t len)
@@ -128,42 +121,42 @@ forbidden-kind (suc (suc (suc (suc (suc (suc (suc (suc zero)))))))) h l = refl
 forbidden-kind (suc (suc (suc (suc (suc (suc (suc (suc (suc zero))))))))) h l = refl
 forbidden-kind (suc (suc (suc (suc (suc (suc (suc (suc (suc (suc k)))))))))) h l = absurd (omega arith)
 
-pub rule-forbidden : (m : Message) (t len : ℕ) → 2 ≤ t → t < 10 → rule m t len ≡ refuse 0x0105
+pub rule-forbidden : (m : Message) (t len : ℕ) → 2 ≤ t → t < 10 → rule m t len ≡ refuse (of-connection frame-unexpected)
 unfolding rule ruleFor
 rule-forbidden m t len h l = let e = forbidden-kind t h l in rw e
 
-pub rule-thirteen : (m : Message) (len : ℕ) → rule m 13 len ≡ refuse 0x0105
+pub rule-thirteen : (m : Message) (len : ℕ) → rule m 13 len ≡ refuse (of-connection frame-unexpected)
 unfolding rule kindOf lookup column ruleFor
 rule-thirteen m len = refl
 
-pub rule-early-data : (len : ℕ) → rule opening 0 len ≡ refuse 0x0105
+pub rule-early-data : (len : ℕ) → rule opening 0 len ≡ refuse (of-connection frame-unexpected)
 unfolding rule kindOf lookup column ruleFor data-rule carries codeOf
 rule-early-data len = refl
 
-pub rule-late-data : (stated : Option ℕ) (sum len : ℕ) → rule (trailed stated sum) 0 len ≡ refuse 0x0105
+pub rule-late-data : (stated : Option ℕ) (sum len : ℕ) → rule (trailed stated sum) 0 len ≡ refuse (of-connection frame-unexpected)
 unfolding rule kindOf lookup column ruleFor data-rule carries codeOf
 rule-late-data stated sum len = refl
 
-pub rule-past-stated : (n sum len : ℕ) → n < sum + len → rule (body (some n) sum) 0 len ≡ refuse 0x010e
+pub rule-past-stated : (n sum len : ℕ) → n < sum + len → rule (body (some n) sum) 0 len ≡ refuse (of-stream message-error)
 unfolding rule kindOf lookup column ruleFor data-rule carries sum-to codeOf
 rule-past-stated n sum len h = let e = lt-ltb n (sum + len) h in rw (e, sum-to)
 
-pub rule-past-limit : (sum len : ℕ) → content-limit < sum + len → rule (body none sum) 0 len ≡ refuse 0x010c
+pub rule-past-limit : (sum len : ℕ) → content-limit < sum + len → rule (body none sum) 0 len ≡ refuse (of-stream request-cancelled)
 unfolding rule kindOf lookup column ruleFor data-rule carries sum-to codeOf
 rule-past-limit sum len h = let e = lt-ltb content-limit (sum + len) h in rw (e, sum-to)
 
-long-enough : (len : ℕ) (r : Ruling Message) → headers-limit < len → within-limit len r ≡ refuse 0x0107
+long-enough : (len : ℕ) (r : Ruling Message) → headers-limit < len → within-limit len r ≡ refuse (of-connection excessive-load)
 unfolding within-limit
 long-enough len r h = let e = lt-ltb headers-limit len h in rw (e, within-limit)
 
-pub rule-long-header : (len : ℕ) → headers-limit < len → rule opening 1 len ≡ refuse 0x0107
+pub rule-long-header : (len : ℕ) → headers-limit < len → rule opening 1 len ≡ refuse (of-connection excessive-load)
 unfolding rule kindOf lookup column ruleFor headers-rule
 rule-long-header len h = long-enough len _ h
 
-pub rule-long-trailers : (stated : Option ℕ) (sum len : ℕ) → headers-limit < len → rule (body stated sum) 1 len ≡ refuse 0x0107
+pub rule-long-trailers : (stated : Option ℕ) (sum len : ℕ) → headers-limit < len → rule (body stated sum) 1 len ≡ refuse (of-connection excessive-load)
 unfolding rule kindOf lookup column ruleFor headers-rule
 rule-long-trailers stated sum len h = long-enough len _ h
 
-pub rule-third : (stated : Option ℕ) (sum len : ℕ) → rule (trailed stated sum) 1 len ≡ refuse 0x0105
+pub rule-third : (stated : Option ℕ) (sum len : ℕ) → rule (trailed stated sum) 1 len ≡ refuse (of-connection frame-unexpected)
 unfolding rule kindOf lookup column ruleFor headers-rule codeOf
 rule-third stated sum len = refl

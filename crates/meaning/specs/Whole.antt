@@ -86,7 +86,7 @@ module _ (R : Rules) where
         → {x : Ruling Message} → RuleView (h .type) (h .len) m x → rule m (h .type) (h .len) ≡ x
         → judge (request R) total m bl (frame h payload fs) .verdict ≡ whole → LegalFrom m bl (frame h payload fs)
     unfolding judge put completed
-    frame-legal h payload fs m bl ih s (r-refused c) q w = let v = rw (q, judge) at w in let z : _≡_ {A = ℕ} 0 1 = cc in absurd (omega arith)
+    frame-legal h payload fs m bl ih s r-refused q w = let v = rw (q, judge) at w in let z : _≡_ {A = ℕ} 0 1 = cc in absurd (omega arith)
     frame-legal h payload fs m bl ih s (r-skipped u) q w = unknown-legal h payload fs m bl u (ih m bl s (rw (q, judge) at w))
     frame-legal h payload fs m bl ih s (r-content {q = p} z e) q w = data-legal h payload fs m p bl z ih (carry-view (h .len) m) e (rw (q, judge) at w)
     frame-legal h payload fs opening [] ih s (r-header z l) q w = let v = rw (q, judge) at w in let y : _≡_ {A = ℕ} 0 1 = cc in absurd (omega arith)

@@ -7,6 +7,7 @@ use mathlib.Core.Bool.{Bool, true, false}
 use mathlib.Core.Option.{Option, none, some}
 use lib.Dec.{ltb, nltb→le}
 use lib.ListN.{length, length-append}
+use Rattle.rules.specs.Numbers.{of-connection, closed-critical-stream}
 use Rattle.rules.specs.Integers.{got, integer, written}
 use Rattle.rules.specs.Frames.{frame, framesFrom}
 use Rattle.rules.specs.Reading.{header, frame-kept, settings, kept, fault}
@@ -102,7 +103,7 @@ goaway-back sent room id at bs rest e = go (badGoaway sent id) e
 pub opening-back : (payload : List ℕ)
     × (oneWay [] opening ≡ of-control (record {
       said = header (head 1 3 4 9) (kept settings) ∷ frame-kept settings payload ∷ [];
-      verdict = fault 0x0104 12;
+      verdict = fault (of-connection closed-critical-stream) 12;
     }))
     × (tells settings payload ≡ told-settings (record { section-size = some 16_384; table-capacity = 0; blocked-streams = 0 }))
 unfolding answer opening

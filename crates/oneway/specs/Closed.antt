@@ -6,6 +6,7 @@ use mathlib.Core.List.{List, []}
 use mathlib.Core.Bool.{Bool, true, false}
 use mathlib.Core.Option.{Option, none, some}
 use lib.ListN.{length}
+use Rattle.rules.specs.Numbers.{CLOSED-CRITICAL-STREAM, Code, of-connection, closed-critical-stream, id-error, codeNumber}
 use Rattle.rules.specs.Reading.{Kept, settings, goaway, max-push-id, cancel-push, Next, stop, go, Verdict, whole, fault, waits, Reading, lacking, ended}
 use Rattle.rules.specs.Control.{Settings, settings-of, Control, unset, set, control, only, above, below, after-settings, after-integer, after-goaway, after-max-push, judged}
 use Rattle.rules.specs.Integers.{integer}
@@ -28,8 +29,8 @@ use Rattle.oneway.specs.Frames.{frameCells}
 -- 0: freed without fault, else the code
 unfoldable pub closes : OneState → ℕ
 closes (in-stream-type g) = 0
-closes (in-control s) = 0x0104
-closes (in-qpack q) = 0x0104
+closes (in-control s) = CLOSED-CRITICAL-STREAM
+closes (in-qpack q) = CLOSED-CRITICAL-STREAM
 closes in-skipped = 0
 
 abbrev pub Closes : numbers.OneWay → ℕ → Type 0
@@ -53,7 +54,7 @@ module _ (c : Cells) (p : Control) (k : List ℕ) where
   high (suc (suc (suc (suc (suc zero))))) h = absurd (omega arith)
   high (suc (suc (suc (suc (suc (suc n)))))) h = refl
 
-  held : (kind : ℕ) → 3 ≤ kind → kind ≤ 5 → 0x0104 ≡ closes (oneStateAt kind c p k)
+  held : (kind : ℕ) → 3 ≤ kind → kind ≤ 5 → CLOSED-CRITICAL-STREAM ≡ closes (oneStateAt kind c p k)
   unfolding closes oneStateAt
   held zero h l = absurd (omega arith)
   held (suc zero) h l = absurd (omega arith)
@@ -70,16 +71,16 @@ module _ (w : numbers.OneWay) where
   pub closes-skipped : 5 < w .kind → Closes w 0
   closes-skipped h p k = high (w .cells) p k (w .kind) h
 
-  pub closes-held : 3 ≤ w .kind → w .kind ≤ 5 → Closes w 0x0104
+  pub closes-held : 3 ≤ w .kind → w .kind ≤ 5 → Closes w CLOSED-CRITICAL-STREAM
   closes-held h l p k = held (w .cells) p k (w .kind) h l
 
 -- ---- it is the rules' own
 
-unfoldable pub closeNumber : Option ℕ → ℕ
+unfoldable pub closeNumber : Option Code → ℕ
 closeNumber none = 0
-closeNumber (some code) = code
+closeNumber (some code) = codeNumber code
 
-control-ends : (n : ℕ) (s : State Control) → ReadsOn s → finished control n (settled control n [] (Outcome.lives s)) ≡ fault 0x0104 n
+control-ends : (n : ℕ) (s : State Control) → ReadsOn s → finished control n (settled control n [] (Outcome.lives s)) ≡ fault (of-connection closed-critical-stream) n
 unfolding finished settled supplied finish ended
 control-ends n (in-type fresh p) r = refl
 control-ends n (in-type (need k v) p) r = refl
@@ -107,10 +108,10 @@ closed-is seen cs s e = let d = calls seen nothing-done cs in closed-at seen d s
 
 -- a place that a judgement leaves has its SETTINGS
 data IsSet : Next Control → Type 0 where
-  stopped : {code : ℕ} → IsSet (stop code)
+  stopped : {code : Code} → IsSet (stop code)
   goes : {s : Settings} {g m : Option ℕ} → IsSet (go (set s g m))
 
-set-unless : (bad : Bool) (code : ℕ) (s : Settings) (g m : Option ℕ) → IsSet (elim bad [ true ↦ stop code | false ↦ go (set s g m) ])
+set-unless : (bad : Bool) (code : Code) (s : Settings) (g m : Option ℕ) → IsSet (elim bad [ true ↦ stop code | false ↦ go (set s g m) ])
 set-unless true code s g m = stopped
 set-unless false code s g m = goes
 
@@ -123,8 +124,8 @@ set-integer : (f : Kept) (s : Settings) (g m o : Option ℕ) → IsSet (after-in
 unfolding after-integer after-goaway after-max-push
 set-integer f s g m none = stopped
 set-integer settings s g m (some id) = stopped
-set-integer goaway s g m (some id) = set-unless (above id g) 0x0108 s (some id) m
-set-integer max-push-id s g m (some id) = set-unless (below id m) 0x0108 s g (some id)
+set-integer goaway s g m (some id) = set-unless (above id g) (of-connection id-error) s (some id) m
+set-integer max-push-id s g m (some id) = set-unless (below id m) (of-connection id-error) s g (some id)
 set-integer cancel-push s g m (some id) = stopped
 
 judged-set : (f : Kept) (p : Control) (all : List ℕ) → IsSet (judged f p all)

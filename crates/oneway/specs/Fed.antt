@@ -8,6 +8,7 @@ use mathlib.Core.Logic.{inl, inr}
 use mathlib.Core.Bool.{Bool, true, false}
 use lib.Dec.{eqb}
 use lib.ListN.{length, drop, length-drop, drop-of-length-le}
+use Rattle.rules.specs.Numbers.{of-connection, stream-creation-error, coded, codeNumber}
 use Rattle.rules.specs.Control.{Control, unset, control}
 use Rattle.rules.specs.OneWay.{Qpack, encoder, decoder, Kind, a-control, a-qpack, skipped, Typed, refuse, is, once, typeRule}
 use Rattle.rules.specs.Text.{isOneOf, lookup}
@@ -25,6 +26,7 @@ use Rattle.oneway.specs.declared.OneWay.{OneWay}
 use Rattle.oneway.specs.declared.OneAnswer.{OneAnswer}
 use Rattle.oneway.specs.declared.TypeEnd.{TypeEnd}
 use Rattle.oneway.specs.Types.{seenOf, kindNumber}
+use Rattle.meaning.specs.NumberLaws.{coded-back, code-high}
 use Rattle.oneway.specs.Stands.{oneStateAt, oneState, OneStands, qpackOf, oneAnswerAt, OneSoundAt, OneSound, cellsOf, OneShapeAt, OneShape, StandsAt, Says, OneFed}
 use Rattle.oneway.specs.Typed.{onePast, one-past-none, typeGoes, TypeRead}
 use Rattle.oneway.specs.Frames.{frame-sane, framesStand, framesFrom, Controlled}
@@ -125,6 +127,7 @@ module _ (s : List ℕ) (at : ℕ) (w : at ≤ length s) (o : OneWay) where
     stays = λ x. absurd (omega arith);
     behind = λ x. absurd (omega arith);
     held = λ x. absurd (omega arith);
+    listed = λ x. absurd (omega arith);
     leaves = λ x y p k st. stands-bare (o .kind) (o .cells) p (omega arith);
   })
 
@@ -141,6 +144,7 @@ module _ (s : List ℕ) (at : ℕ) (w : at ≤ length s) (o : OneWay) where
     stays = λ x. absurd (omega arith);
     behind = λ x. absurd (omega arith);
     held = λ x. absurd (omega arith);
+    listed = λ x. absurd (omega arith);
     leaves = λ x y p k st. stands-bare (o .kind) (o .cells) p (omega arith);
   }
 
@@ -156,6 +160,7 @@ module _ (s : List ℕ) (at : ℕ) (w : at ≤ length s) (o : OneWay) where
     stays = λ x. absurd (omega arith);
     behind = λ x. absurd (omega arith);
     held = λ x. absurd (omega arith);
+    listed = λ x. absurd (omega arith);
     leaves = λ x y p k st. stands-bare (o .kind) (o .cells) p (omega arith);
   })
 
@@ -202,6 +207,7 @@ module _ (o : OneWay) (seen : Seen) (s : List ℕ) (allow : ℕ) where
     stays = b .stays;
     behind = b .behind;
     held = b .held;
+    listed = b .listed;
     leaves = λ x y p k st. b .leaves x y p k tt;
   }
 
@@ -220,6 +226,7 @@ module _ (o : OneWay) (seen : Seen) (s : List ℕ) (allow : ℕ) where
     stays = λ x. b .stays x ∙ same-kind 2 e;
     behind = b .behind;
     held = b .held;
+    listed = b .listed;
     leaves = λ x y p k st. b .leaves x y p k (rw e at st);
   }
 
@@ -243,6 +250,7 @@ module _ (o : OneWay) (seen : Seen) (s : List ℕ) (allow : ℕ) where
     stays = b .stays;
     behind = b .behind;
     held = b .held;
+    listed = b .listed;
     leaves = λ x y p k st. b .leaves x y p k (control-stands (o .kind) p k e st);
   }
 
@@ -260,50 +268,38 @@ fresh-shape : OneShapeAt 3 (cellsOf 0 0 3)
 unfolding OneShapeAt
 fresh-shape = (omega arith, λ h. absurd (omega arith))
 
--- a refusal of the rule is 0x0103
-abbrev Coded : Typed → Type 0
-Coded (refuse code) = code ≡ 0x0103
-Coded (is k) = Unit {0}
-
-coded-else : (b : Bool) (x y : Typed) → Coded x → Coded y → Coded (elim b [ true ↦ x | false ↦ y ])
-coded-else true x y a d = a
-coded-else false x y a d = d
-
-coded-once : (seen : List ℕ) (t : ℕ) (k : Kind) → Coded (once seen t k)
-unfolding once
-coded-once seen t k = coded-else (isOneOf seen t) (refuse 0x0103) (is k) refl tt
-
-coded-rule : (seen : List ℕ) (t : ℕ) → Coded (typeRule seen t)
-unfolding typeRule lookup
-coded-rule seen t =
-    coded-else (eqb t 0) _ _ (coded-once seen 0 a-control)
-    (coded-else (eqb t 1) _ _ refl
-    (coded-else (eqb t 2) _ _ (coded-once seen 2 (a-qpack encoder)) (coded-else (eqb t 3) _ _ (coded-once seen 3 (a-qpack decoder)) tt)))
-
 -- the kind's number says what follows
-refused-feed : (allow : ℕ) (x : Typed) (code : ℕ) (rest : List ℕ) → code ≡ kindNumber x → 6 < code → typed-feed allow x rest ≡ halt (dies code)
+refused-feed : (allow : ℕ) (x : Typed) (number : ℕ) (rest : List ℕ) → number ≡ kindNumber x → 6 < number → typed-feed allow x rest ≡ halt (dies (coded number))
 unfolding kindNumber typed-feed
-refused-feed allow (refuse c) code rest e h = ap (λ x. halt (dies x)) (sym e)
+refused-feed allow (refuse c) number rest e h = ap (λ x. halt (dies x)) (sym (ap coded e ∙ coded-back c))
 refused-feed allow (is a-control) code rest e h = absurd (omega arith)
 refused-feed allow (is (a-qpack encoder)) code rest e h = absurd (omega arith)
 refused-feed allow (is (a-qpack decoder)) code rest e h = absurd (omega arith)
 refused-feed allow (is skipped) code rest e h = absurd (omega arith)
 
-control-feeds : (allow : ℕ) (x : Typed) (kind : ℕ) (rest : List ℕ) → Coded x → kind ≡ kindNumber x → kind ≡ 3 → typed-feed allow x rest ≡ of-control (F.feed control allow (between unset) rest)
-unfolding kindNumber typed-feed kind-feed
-control-feeds allow (refuse c) kind rest d e h = absurd (omega arith)
-control-feeds allow (is a-control) kind rest d e h = refl
-control-feeds allow (is (a-qpack encoder)) kind rest d e h = absurd (omega arith)
-control-feeds allow (is (a-qpack decoder)) kind rest d e h = absurd (omega arith)
-control-feeds allow (is skipped) kind rest d e h = absurd (omega arith)
+kind-listed : (x : Typed) (number : ℕ) → number ≡ kindNumber x → 6 < number → codeNumber (coded number) ≡ number
+unfolding kindNumber
+kind-listed (refuse c) number e h = ap (λ n. codeNumber (coded n)) e ∙ ap codeNumber (coded-back c) ∙ sym e
+kind-listed (is a-control) number e h = absurd (omega arith)
+kind-listed (is (a-qpack encoder)) number e h = absurd (omega arith)
+kind-listed (is (a-qpack decoder)) number e h = absurd (omega arith)
+kind-listed (is skipped) number e h = absurd (omega arith)
 
-bare-feeds : (allow : ℕ) (x : Typed) (kind : ℕ) (rest : List ℕ) → Coded x → kind ≡ kindNumber x → (6 < kind → ⊥) → (kind ≡ 3 → ⊥) → (typed-feed allow x rest ≡ bareFeed kind rest) × (4 ≤ kind)
+control-feeds : (allow : ℕ) (x : Typed) (kind : ℕ) (rest : List ℕ) → kind ≡ kindNumber x → kind ≡ 3 → typed-feed allow x rest ≡ of-control (F.feed control allow (between unset) rest)
+unfolding kindNumber typed-feed kind-feed
+control-feeds allow (refuse c) kind rest e h = let l = code-high c in absurd (omega arith)
+control-feeds allow (is a-control) kind rest e h = refl
+control-feeds allow (is (a-qpack encoder)) kind rest e h = absurd (omega arith)
+control-feeds allow (is (a-qpack decoder)) kind rest e h = absurd (omega arith)
+control-feeds allow (is skipped) kind rest e h = absurd (omega arith)
+
+bare-feeds : (allow : ℕ) (x : Typed) (kind : ℕ) (rest : List ℕ) → kind ≡ kindNumber x → (6 < kind → ⊥) → (kind ≡ 3 → ⊥) → (typed-feed allow x rest ≡ bareFeed kind rest) × (4 ≤ kind)
 unfolding kindNumber typed-feed kind-feed bareFeed
-bare-feeds allow (refuse c) kind rest d e h n = absurd (h (omega arith))
-bare-feeds allow (is a-control) kind rest d e h n = absurd (n e)
-bare-feeds allow (is (a-qpack encoder)) kind rest d e h n = (rw e refl, omega arith)
-bare-feeds allow (is (a-qpack decoder)) kind rest d e h n = (rw e refl, omega arith)
-bare-feeds allow (is skipped) kind rest d e h n = (rw e refl, omega arith)
+bare-feeds allow (refuse c) kind rest e h n = let l = code-high c in absurd (h (omega arith))
+bare-feeds allow (is a-control) kind rest e h n = absurd (n e)
+bare-feeds allow (is (a-qpack encoder)) kind rest e h n = (rw e refl, omega arith)
+bare-feeds allow (is (a-qpack decoder)) kind rest e h n = (rw e refl, omega arith)
+bare-feeds allow (is skipped) kind rest e h n = (rw e refl, omega arith)
 
 goes-cut : (seen : List ℕ) (allow whole a d : ℕ) → whole ≡ 0 → typeGoes seen allow whole a d [] ≡ halt (lives (in-stream-type (prog d a)))
 unfolding typeGoes type-feed
@@ -332,6 +328,7 @@ module _ (c : Cells) (seen : Seen) (s : List ℕ) (allow : ℕ) (e : TypeEnd) (q
     stays = λ x. absurd (omega arith);
     behind = λ x. absurd (omega arith);
     held = λ x. absurd (omega arith);
+    listed = λ x. absurd (omega arith);
     leaves = λ x y p k st. st .0;
   })
     where
@@ -352,7 +349,7 @@ module _ (c : Cells) (seen : Seen) (s : List ℕ) (allow : ℕ) (e : TypeEnd) (q
         → OneFed (untyped c) seen s allow (record { event = 4; start = e .next; len = kind; used = e .next; heads = 0; payload = 0; stream = untyped c })
     unfolding OneSoundAt onePast halt oneAnswerAt
     typed-refused g h = record {
-      is = λ p k st. known-state (λ x. halt (dies kind)) p k (refused-feed allow _ kind (drop (e .next) s) is-kind h) ∙ refused p k;
+      is = λ p k st. known-state (λ x. halt (dies (coded kind))) p k (refused-feed allow _ kind (drop (e .next) s) is-kind h) ∙ refused p k;
       within = q .within;
       part = inr refl;
       sound = g;
@@ -362,10 +359,11 @@ module _ (c : Cells) (seen : Seen) (s : List ℕ) (allow : ℕ) (e : TypeEnd) (q
       stays = λ x. refl;
       behind = λ x. absurd (omega arith);
       held = λ x. absurd (omega arith);
+      listed = λ x. kind-listed _ kind is-kind h;
       leaves = λ x y p k st. absurd (x refl);
     }
       where
-        refused : (p : Control) (k : List ℕ) → onePast (e .next) (halt (dies kind)) ≡ oneAnswerAt 4 (e .next) kind (e .next) 0 0 (untyped c) p k s
+        refused : (p : Control) (k : List ℕ) → onePast (e .next) (halt (dies (coded kind))) ≡ oneAnswerAt 4 (e .next) kind (e .next) 0 0 (untyped c) p k s
         refused p k = let y = add-zero (e .next) in rw y refl
 
     untyped-stands : (p : Control) (k : List ℕ) → OneStands 2 c p k → framesStand (cellsOf 0 0 3) p k
@@ -384,7 +382,7 @@ module _ (c : Cells) (seen : Seen) (s : List ℕ) (allow : ℕ) (e : TypeEnd) (q
     typed-control {d} {r} h f b =
         let b′ : Controlled s (e .next) (untyped c) (cellsOf 0 0 3) allow r = rw f at b in
         record {
-          is = λ p k st. known-state (λ x. of-control (F.feed control allow (between unset) x)) p k (control-feeds allow _ kind (drop (e .next) s) (coded-rule (seenOf seen) (e .acc)) is-kind h)
+          is = λ p k st. known-state (λ x. of-control (F.feed control allow (between unset) x)) p k (control-feeds allow _ kind (drop (e .next) s) is-kind h)
               ∙ ap (λ x. onePast (e .next) (of-control (F.feed control allow x (drop (e .next) s)))) (sym (fresh-frames k))
               ∙ ap (λ x. framesFrom s (e .next) (cellsOf 0 0 3) allow x k) (sym (is-unset p k st)) ∙ b′ .is p k (untyped-stands p k st);
           within = b′ .within;
@@ -396,11 +394,12 @@ module _ (c : Cells) (seen : Seen) (s : List ℕ) (allow : ℕ) (e : TypeEnd) (q
           stays = b′ .stays;
           behind = b′ .behind;
           held = b′ .held;
+          listed = b′ .listed;
           leaves = λ x y p k st. b′ .leaves x y p k (untyped-stands p k st);
         }
 
     pub kind-bare : (6 < kind → ⊥) → (kind ≡ 3 → ⊥) → 4 ≤ kind
-    kind-bare h n = bare-feeds allow _ kind (drop (e .next) s) (coded-rule (seenOf seen) (e .acc)) is-kind h n .1
+    kind-bare h n = bare-feeds allow _ kind (drop (e .next) s) is-kind h n .1
 
     bare-shape : (n : ℕ) (d : Cells) → 4 ≤ n → (6 < n → ⊥) → d ≡ cellsOf 0 0 0 → OneShapeAt n d
     unfolding OneShapeAt
@@ -418,7 +417,7 @@ module _ (c : Cells) (seen : Seen) (s : List ℕ) (allow : ℕ) (e : TypeEnd) (q
 
     pub typed-bare : {d : Cells} {r : OneAnswer} → d ≡ cellsOf 0 0 0 → (6 < kind → ⊥) → (kind ≡ 3 → ⊥) → Bare s (e .next) (record { kind = kind; cells = d }) r → OneFed (untyped c) seen s allow r
     typed-bare {d} f h n bare = let b = bare (untyped c) in record {
-      is = λ p k st. known-state (bareFeed kind) p k (bare-feeds allow _ kind (drop (e .next) s) (coded-rule (seenOf seen) (e .acc)) is-kind h n .0) ∙ b .is p k tt;
+      is = λ p k st. known-state (bareFeed kind) p k (bare-feeds allow _ kind (drop (e .next) s) is-kind h n .0) ∙ b .is p k tt;
       within = b .within;
       part = b .part;
       sound = b .sound;
@@ -428,5 +427,6 @@ module _ (c : Cells) (seen : Seen) (s : List ℕ) (allow : ℕ) (e : TypeEnd) (q
       stays = b .stays;
       behind = b .behind;
       held = b .held;
+      listed = b .listed;
       leaves = λ x y p k st. b .leaves x y p k tt;
     }

@@ -7,6 +7,7 @@ use mathlib.Core.Logic.{_⊎_, inl, inr}
 use lib.ListN.{length, take, drop, length-drop}
 use lib.Seq.{drop-drop, take-all}
 use mathlib.Core.Option.{none}
+use Rattle.rules.specs.Numbers.{Code}
 use Rattle.rules.specs.Reading.{Kept, Use, content, skipped, section, kept, Ruling, Next, stop, go}
 use Rattle.rules.specs.Control.{Control, unset, set, no-settings, control, judged}
 use Rattle.meaning.specs.Machine.{State, answered}
@@ -164,11 +165,11 @@ clear skipped i k l h n = h
 clear (section t) i k l h n = h
 clear (kept f) i k l h n = absurd i
 
-abbrev Any : ℕ → Type 0
+abbrev Any : Code → Type 0
 Any code = Unit {0}
 
 viewed : (len : ℕ) {c : Control} {r : Ruling Control} → ControlView c r → RulesWithin Unseen Any len r
-viewed len (v-refused h) = tt
+viewed len v-refused = tt
 viewed len v-skipped = tt
 viewed len v-kept = tt
 
@@ -321,6 +322,7 @@ module _ (s : List ℕ) (at : ℕ) (before : OneWay) (c : Cells) (allow : ℕ) (
     stays = λ x. refl;
     behind = λ x. absurd (omega arith);
     held = λ x. absurd (omega arith);
+    listed = λ x. fed .listed e;
     leaves = λ x y p k st. absurd (x refl);
   }
 
@@ -338,6 +340,7 @@ module _ (s : List ℕ) (at : ℕ) (before : OneWay) (c : Cells) (allow : ℕ) (
     stays = λ x. absurd (omega arith);
     behind = λ x. refl;
     held = λ x. absurd (omega arith);
+    listed = λ x. absurd (omega arith);
     leaves = λ x y p k st. absurd (y refl);
   })
 
@@ -354,6 +357,7 @@ module _ (s : List ℕ) (at : ℕ) (before : OneWay) (c : Cells) (allow : ℕ) (
     stays = λ x. absurd (omega arith);
     behind = λ x. absurd (omega arith);
     held = λ x. (refl, fed .held (let u = fed .known in omega arith));
+    listed = λ x. absurd (omega arith);
     leaves = λ x y p k st. left-stands p k st;
   }
 
@@ -370,5 +374,6 @@ module _ (s : List ℕ) (at : ℕ) (before : OneWay) (c : Cells) (allow : ℕ) (
     stays = λ x. absurd (omega arith);
     behind = λ x. absurd (omega arith);
     held = λ x. absurd (omega arith);
+    listed = λ x. absurd (omega arith);
     leaves = λ x y p k st. left-stands p k st;
   }

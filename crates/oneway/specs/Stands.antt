@@ -5,6 +5,7 @@ use mathlib.Core.List.{List, [], _++_}
 use mathlib.Core.Bool.{true, false}
 use mathlib.Core.Logic.{_⊎_}
 use lib.ListN.{length, take, drop}
+use Rattle.rules.specs.Numbers.{coded, codeNumber}
 use Rattle.rules.specs.Control.{Control, unset, control}
 use Rattle.rules.specs.OneWay.{Qpack, encoder, decoder}
 use Rattle.meaning.specs.Feed.{Event, quiet, section-bytes, content-bytes}
@@ -60,7 +61,7 @@ oneAnswerAt zero start len used heads f w p k s = record { used = used; heads = 
 oneAnswerAt (suc zero) start len used heads f w p k s = record { used = used; heads = heads; event = of-frames (content-bytes len); after = lives (oneState w p k) }
 oneAnswerAt (suc (suc zero)) start len used heads f w p k s = record { used = used; heads = heads; event = of-frames (section-bytes len false); after = lives (oneState w p k) }
 oneAnswerAt (suc (suc (suc zero))) start len used heads f w p k s = record { used = used; heads = heads; event = of-frames (section-bytes len true); after = lives (oneState w p k) }
-oneAnswerAt (suc (suc (suc (suc zero)))) start len used heads f w p k s = record { used = used; heads = heads; event = of-frames quiet; after = dies len }
+oneAnswerAt (suc (suc (suc (suc zero)))) start len used heads f w p k s = record { used = used; heads = heads; event = of-frames quiet; after = dies (coded len) }
 oneAnswerAt (suc (suc (suc (suc (suc zero))))) start len used heads f w p k s =
     of-control (past used heads (judgedAs control 0 p (keptAt f) (k ++ take len (drop start s))))
 oneAnswerAt (suc (suc (suc (suc (suc (suc zero)))))) start len used heads f w p k s =
@@ -120,6 +121,7 @@ pub record Says (s : List ℕ) (before : OneWay) (shape : Type 0) (stands : Cont
   pub stays : r .event ≡ 4 → r .stream ≡ before  -- a fault leaves the stream as it was
   pub behind : r .event ≡ 5 → r .stream ≡ record { kind = 3; cells = cellsOf 0 0 4 }  -- where it stands once the payload is judged good
   pub held : r .event ≡ 6 → (r .stream .kind ≡ 3) × (8 ≤ r .stream .cells .mode)  -- a part is kept of a kept payload alone
+  pub listed : r .event ≡ 4 → codeNumber (coded (r .len)) ≡ r .len  -- a fault's number is a code's
   pub leaves : (r .event ≡ 4 → ⊥) → (r .event ≡ 5 → ⊥) → (p : Control) (k : List ℕ) → stands p k → StandsAt (r .stream .kind) (r .stream .cells) p
 
 -- WHAT A FEED OF A ONE-WAY STREAM ANSWERS: the definition's feed, from every state that the numbers stand for

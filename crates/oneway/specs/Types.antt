@@ -5,6 +5,7 @@ use mathlib.Core.List.{List, [], _∷_, _++_}
 use mathlib.Core.Bool.{Bool, true, false}
 use lib.Dec.{eqb}
 use borrow.Author.Tests.{ne-eqb}
+use Rattle.rules.specs.Numbers.{STREAM-CREATION-ERROR, codeNumber}
 use Rattle.rules.specs.Text.{isOneOf, lookup}
 use Rattle.rules.specs.OneWay.{Qpack, encoder, decoder, Kind, a-control, a-qpack, skipped, Typed, refuse, is, once, typeRule}
 use Rattle.oneway.specs.declared.Seen.{Seen}
@@ -22,7 +23,7 @@ abbrev pub seenOf : Seen → List ℕ
 seenOf s = typesOf (s .control) (s .encoder) (s .decoder)
 
 unfoldable pub kindNumber : Typed → ℕ
-kindNumber (refuse code) = code
+kindNumber (refuse code) = codeNumber code
 kindNumber (is a-control) = 3
 kindNumber (is (a-qpack encoder)) = 4
 kindNumber (is (a-qpack decoder)) = 5
@@ -30,13 +31,13 @@ kindNumber (is skipped) = 6
 
 unfoldable pub onceOf : (times kind : ℕ) → ℕ
 onceOf zero kind = kind
-onceOf (suc n) kind = 0x0103
+onceOf (suc n) kind = STREAM-CREATION-ERROR
 
 pub once-fresh : (n kind : ℕ) → n ≡ 0 → kind ≡ onceOf n kind
 unfolding onceOf
 once-fresh n kind e = rw e refl
 
-pub once-again : (n kind : ℕ) → (n ≡ 0 → ⊥) → 0x0103 ≡ onceOf n kind
+pub once-again : (n kind : ℕ) → (n ≡ 0 → ⊥) → STREAM-CREATION-ERROR ≡ onceOf n kind
 unfolding onceOf
 once-again zero kind z = absurd (z refl)
 once-again (suc n) kind z = refl
@@ -79,7 +80,7 @@ module _ (t : ℕ) where
     pub kind-control : {r : ℕ} → t ≡ 0 → r ≡ onceOf (s .control) 3 → Kinds r
     kind-control e f = f ∙ rw e (control-type (s .control) (s .encoder) (s .decoder))
 
-    pub kind-push : t ≡ 1 → Kinds 0x0103
+    pub kind-push : t ≡ 1 → Kinds STREAM-CREATION-ERROR
     unfolding kindNumber typeRule lookup
     kind-push e = rw e refl
 

@@ -10,6 +10,7 @@ use lib.Seq.{sets, sets-eq, length-sets, take-nil, take-all, take-append-seam, l
 use lib.Dec.{eqb}
 use mathlib.Core.Bool.{Bool, true, false}
 use borrow.Author.Tests.{le-ltb, eq-eqb, eqb-true, eqb-false}
+use Rattle.rules.specs.Numbers.{Code, codeNumber, coded}
 use Rattle.rules.specs.Reading.{Kept as Payload, Next, stop, go, kept}
 use Rattle.rules.specs.Control.{Control, control, judged, Told}
 use Rattle.meaning.specs.Machine.{in-payload, between, answered}
@@ -39,7 +40,7 @@ use Rattle.control.specs.declared.Kept.{Kept}
 use Rattle.control.specs.declared.Verdict.{Verdict}
 use Rattle.control.specs.Judged.{refusal, judgedOf}
 use Rattle.control.specs.Rules.{controlOf, Says, judged-says}
-use Rattle.control.specs.Codes.{High, judged-high}
+use Rattle.meaning.specs.NumberLaws.{code-high}
 use Rattle.oneways.specs.declared.Side.{Side}
 use Rattle.oneways.specs.declared.Heard.{Heard}
 use Rattle.oneways.specs.Mirror.{keptNumbers, keptIn, sofarIn, bytesOf, heldIn, sideOf, sideAfter, sideBy, begunIn}
@@ -52,7 +53,7 @@ use Rattle.oneways.specs.Leaves.{heeds-sound, heeds-shape, control-stand
 pub lives-one : {s t : OneState} → lives s ≡ lives t → s ≡ t
 lives-one e = cc
 
-dies-not : {code : ℕ} {t : OneState} → dies code ≡ lives t → ⊥
+dies-not : {code : Code} {t : OneState} → dies code ≡ lives t → ⊥
 dies-not e = let z : _≡_ {A = ℕ} 0 1 = cc in omega arith
 
 -- ---- a complete payload
@@ -90,12 +91,12 @@ module _ (which phase : ℕ) (payload : List ℕ) (used heads : ℕ) (r : Record
       rw (s, u, h) refl
   refused-as (go q) told v s z = absurd (z (s .0))
 
-  good-as : (n : Next Control) (told : Told) (v : Verdict) → High n → n ≡ judgement → Says was told v n → v .number ≡ 0 → {q : Record} {tidy : Kept} {side : Side} {event value : ℕ}
+  good-as : (n : Next Control) (told : Told) (v : Verdict) → n ≡ judgement → Says was told v n → v .number ≡ 0 → {q : Record} {tidy : Kept} {side : Side} {event value : ℕ}
       → r .id < 2 ^ 62 → r .id % 4 ≡ 2 → tidy ≡ keptNumbers (controlOf (v .kept)) → event ≡ takenNumber (keptAt which) → value ≡ valueIn (keptAt which) tidy
       → Written (stream 3 (r .id) (cellsOf 0 0 4)) q → side ≡ sideOf 1 (d .encoder) (d .decoder) tidy 0 (replicate 256 0) → heard 0 event 0 0 used heads value q side ≡ wants n
   unfolding Says saidBy of-control past halt judged-event answered controlled frameEvent frameValue sideAfter sofarIn placeIn
-  good-as (stop code) told v hi j s z i m t e f w g = let x : v .number ≡ code = ap (λ y. y .number) s in absurd (omega arith)
-  good-as (go p) told v hi j s z {q} i m t e f w g =
+  good-as (stop code) told v j s z i m t e f w g = let x : v .number ≡ codeNumber code = ap (λ y. y .number) s in let h = code-high code in absurd (omega arith)
+  good-as (go p) told v j s z {q} i m t e f w g =
       let u = add-zero used in
       let h = add-zero heads in
       let st = behind-judged (keptAt which) (controlOf was) p payload (sym j) in
@@ -116,12 +117,12 @@ module _ (which phase : ℕ) (payload : List ℕ) (used heads : ℕ) (r : Record
   refused-stays (stop code) told v s z row side t e = absurd (dies-not e)
   refused-stays (go q) told v s z row side t e = absurd (z (s .0))
 
-  good-stays : (n : Next Control) (told : Told) (v : Verdict) → High n → n ≡ judgement → Says was told v n → v .number ≡ 0 → {q : Record} {tidy : Kept} {side : Side}
+  good-stays : (n : Next Control) (told : Told) (v : Verdict) → n ≡ judgement → Says was told v n → v .number ≡ 0 → {q : Record} {tidy : Kept} {side : Side}
       → r .id < 2 ^ 62 → r .id % 4 ≡ 2 → tidy ≡ keptNumbers (controlOf (v .kept))
       → Written (stream 3 (r .id) (cellsOf 0 0 4)) q → side ≡ sideOf 1 (d .encoder) (d .decoder) tidy 0 (replicate 256 0) → Stays q side (wants-fed n)
   unfolding Says of-control past halt judged-event answered controlled sideAfter sofarIn placeIn OneStands StandsAt
-  good-stays (stop code) told v hi j s z i m t w g x e = absurd (dies-not e)
-  good-stays (go p) told v hi j s z {q} {tidy} {side} i m t w g x e =
+  good-stays (stop code) told v j s z i m t w g x e = absurd (dies-not e)
+  good-stays (go p) told v j s z {q} {tidy} {side} i m t w g x e =
       let st = behind-judged (keptAt which) (controlOf was) p payload (sym j) in
       let at : oneStateAt 3 (cellsOf 0 0 4) p [] ≡ in-control (between p) = behind-between p in
       let nil = take-nil {A = ℕ} 256 in
@@ -141,7 +142,7 @@ module _ (which phase : ℕ) (payload : List ℕ) (used heads : ℕ) (r : Record
   judged-good-stays v e z {q} {tidy} {side} i m t w g =
       let x = judged-says was payload which in
       subst (Stays q side) fed-is
-      (good-stays judgement (x .0) v (judged-high (keptAt which) (controlOf was) payload) refl (subst (λ y. Says was (x .0) y judgement) (sym e) (x .1)) z i m t w g)
+      (good-stays judgement (x .0) v refl (subst (λ y. Says was (x .0) y judgement) (sym e) (x .1)) z i m t w g)
 
   pub judged-refused : (v : Verdict) → v ≡ judgedOf which was payload → (v .number ≡ 0 → ⊥) → heard (v .number) 0 0 0 used heads 0 r d ≡ judgedHere which phase payload used heads r d
   judged-refused v e z =
@@ -153,7 +154,7 @@ module _ (which phase : ℕ) (payload : List ℕ) (used heads : ℕ) (r : Record
       → Written (stream 3 (r .id) (cellsOf 0 0 4)) q → side ≡ sideOf 1 (d .encoder) (d .decoder) tidy 0 (replicate 256 0) → heard 0 event 0 0 used heads value q side ≡ judgedHere which phase payload used heads r d
   judged-good v e z i m t f g w h =
       let x = judged-says was payload which in
-      good-as judgement (x .0) v (judged-high (keptAt which) (controlOf was) payload) refl (subst (λ y. Says was (x .0) y judgement) (sym e) (x .1)) z i m t f g w h ∙ wants-is
+      good-as judgement (x .0) v refl (subst (λ y. Says was (x .0) y judgement) (sym e) (x .1)) z i m t f g w h ∙ wants-is
 
 -- ---- what an answer in numbers says
 
@@ -164,9 +165,9 @@ module _ (r : Record) (d : Side) (start len used heads payload : ℕ) (w : OneWa
   abbrev leaves : (event value start′ len′ : ℕ) → List ℕ → Heard
   leaves event value start′ len′ k = heard 0 event start′ len′ used heads value (oneWayRecord (r .id) (oneState w p k)) (sideAfter d (oneState w p k))
 
-  said-fault : (event : ℕ) → event ≡ 4 → heard len 0 0 0 used heads 0 r d ≡ says event
+  said-fault : (event : ℕ) → event ≡ 4 → codeNumber (coded len) ≡ len → heard len 0 0 0 used heads 0 r d ≡ says event
   unfolding oneAnswerAt saidBy
-  said-fault event e = rw e refl
+  said-fault event e n = rw e (ap (λ x. heard x 0 0 0 used heads 0 r d) (sym n))
 
   said-part : (event : ℕ) → event ≡ 6 → leaves 0 0 0 0 (take len (drop start s)) ≡ says event
   unfolding oneAnswerAt saidBy frameEvent frameValue
@@ -234,12 +235,12 @@ module _ (r : Record) (o : Heeds r) (d : Side) {c : Cells} (ec : c ≡ cellsIn r
   on-fit = let h = o .sound .fit .shaped in one-fit (r .id) (h .ids) (h .one-way-id (o .kind)) after (own-fed .sound) shape-after
 
   pub on-fault : a .event ≡ 4 → {x : Heard} → x ≡ heard (a .len) 0 0 0 (a .used) (a .heads) 0 r d → x ≡ want
-  on-fault e q = q ∙ said-fault r d (a .start) (a .len) (a .used) (a .heads) (a .payload) after p s (a .event) e ∙ wanted
+  on-fault e q = q ∙ said-fault r d (a .start) (a .len) (a .used) (a .heads) (a .payload) after p s (a .event) e (own-fed .listed e) ∙ wanted
 
   is-fed : feeding d allow s (stateHere r d) ≡ oneAnswerAt (a .event) (a .start) (a .len) (a .used) (a .heads) (a .payload) after p [] s
   is-fed = ap (λ k. feeding d allow s (oneStateAt (r .kind) (cellsIn r) p k)) (none-held r o d low) ∙ own-fed .is p [] (stands-here r o d)
 
-  fault-after : (event start len used heads payload : ℕ) (k : List ℕ) → event ≡ 4 → oneAnswerAt event start len used heads payload after p k s .after ≡ dies len
+  fault-after : (event start len used heads payload : ℕ) (k : List ℕ) → event ≡ 4 → oneAnswerAt event start len used heads payload after p k s .after ≡ dies (coded len)
   unfolding oneAnswerAt
   fault-after event start len used heads payload k e = rw e refl
 

@@ -4,6 +4,7 @@ use Prim.Native.Nat.{ℕ, zero, suc, _-_, _≤_}
 use mathlib.Core.List.{List}
 use mathlib.Core.Bool.{Bool}
 use lib.ListN.{take}
+use Rattle.rules.specs.Numbers.{codeNumber}
 use Rattle.rules.specs.Reading.{Kept as Payload, settings, goaway, max-push-id, cancel-push}
 use Rattle.rules.specs.Control.{Control, control}
 use Rattle.rules.specs.OneWay.{Qpack, encoder, decoder}
@@ -82,7 +83,7 @@ typeNumber decoder = 3
 
 -- A PIECE FED: every fault of a one-way stream is the connection's, and leaves record and side
 unfoldable pub saidBy : Record → Side → (used heads : ℕ) → OneEvent → OneOutcome → Heard
-saidBy r d u h e (dies code) = heard code 0 0 0 u h 0 r d
+saidBy r d u h e (dies code) = heard (codeNumber code) 0 0 0 u h 0 r d
 saidBy r d u h (of-frames e) (lives s) = heard 0 (frameEvent e) 0 0 u h (frameValue e (sideAfter d s .kept)) (oneWayRecord (r .id) s) (sideAfter d s)
 saidBy r d u h (qpack-bytes q len) (lives s) = heard 0 7 (u - len) len u h (typeNumber q) (oneWayRecord (r .id) s) (sideAfter d s)
 
@@ -112,7 +113,7 @@ abbrev pub givenHere : Record → Side → OneState → Heard
 givenHere r d s = refused 5 r d
 
 -- THE END OR A RESET: freed (event 12), or the code
-unfoldable pub closedBy : Record → Side → (code : ℕ) → Heard
+unfoldable pub closedBy : Record → Side → (number : ℕ) → Heard
 closedBy r d zero = heard 0 12 0 0 0 0 0 free-record d
 closedBy r d (suc c) = refused (suc c) r d
 

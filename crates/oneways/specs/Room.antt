@@ -4,6 +4,7 @@ use Prim.Native.Nat.{ℕ, zero, suc, _+_, _-_, _≤_, _<_, min}
 use native.Mathlib.Omega.{arith}
 use mathlib.Core.List.{List, [], _∷_, _++_}
 use lib.ListN.{length, take, length-take, length-append}
+use Rattle.rules.specs.Numbers.{Code}
 use Rattle.rules.specs.Reading.{Kept, Use, content, skipped, section, kept, Ruling, refuse, accept, Next, stop, go}
 use Rattle.rules.specs.Control.{Control, unset, control, judged, rule}
 use Rattle.rules.specs.OneWay.{Qpack, Kind, a-control, a-qpack, Typed, is, typeRule}
@@ -30,7 +31,7 @@ clear (kept f) i k l h n = absurd i
 more : (f : Kept) (k : List ℕ) (b l : ℕ) → Fits (kept f) k (suc l) → Fits (kept f) (k ++ (b ∷ [])) l
 more f k b l h = let e = length-append k (b ∷ []) in omega arith
 
-abbrev Any : ℕ → Type 0
+abbrev Any : Code → Type 0
 Any code = Unit {0}
 
 limited : (most len : ℕ) (r : Ruling Control) → most ≡ 256 → KeptWithin most len r → RulesWithin Fits Any len r

@@ -5,8 +5,10 @@ use native.Mathlib.Omega.{arith}
 use mathlib.Core.List.{List, [], _++_}
 use mathlib.Core.Logic.{_⊎_, ⊎-elim}
 use lib.ListN.{take, drop}
+use Rattle.rules.specs.Numbers.{codeNumber, coded}
 use Rattle.rules.specs.Message.{Message}
 use Rattle.rules.specs.Request.{document, request}
+use Rattle.meaning.specs.NumberLaws.{code-high}
 use Rattle.meaning.specs.Machine.{State, lives, dies}
 use Rattle.meaning.specs.Feed.{taken, Feeding, halt, judged-event, feed}
 use Rattle.meaning.specs.FeedLaws.{past}
@@ -107,13 +109,9 @@ module _ (r : Record) (start len used heads : ℕ) (d : Cells) (m : Message) (k 
   part-said (suc (suc (suc zero))) z l = refl
   part-said (suc (suc (suc (suc n)))) z l = absurd (omega arith)
 
-  fault-said : (event : ℕ) → event ≡ 4 → reply len 0 0 0 used heads (leftBy len r) ≡ said r (fedAt event)
+  fault-said : (event : ℕ) → event ≡ 4 → codeNumber (coded len) ≡ len → reply len 0 0 0 used heads (leftBy len r) ≡ said r (fedAt event)
   unfolding answerAt map-feeding map-outcome saidBy
-  fault-said event e = rw e refl
-
-  fault-after : (event : ℕ) → event ≡ 4 → fedAt event .after ≡ dies len
-  unfolding answerAt map-feeding map-outcome
-  fault-after event e = rw e refl
+  fault-said event e n = rw e (ap (λ x. reply x 0 0 0 used heads (leftBy x r)) (sym n))
 
   late-said : (event : ℕ) → 4 < event → (event ≡ 5 → ⊥) → (l : List ℕ) × (reply 0 0 0 0 used heads (requestRecord (r .id) (leaves l)) ≡ said r (fedAt event))
   unfolding answerAt map-feeding map-outcome saidBy
@@ -207,10 +205,8 @@ module _ (r : Record) (o : Open r) (piece : List ℕ) (allow : ℕ) where
     feed-fault e f = record {
       answers = opened o
           (ap (reply (ans .len) 0 0 0 (ans .used) (ans .heads)) f
-          ∙ fault-said r (ans .start) (ans .len) (ans .used) (ans .heads) (ans .cells) next [] piece (ans .event) e ∙ want-is);
-      stays = λ z.
-          (let h = plainly .high (ans .len) (fault-after r (ans .start) (ans .len) (ans .used) (ans .heads) (ans .cells) next [] piece (ans .event) e) in
-          absurd (omega arith));
+          ∙ fault-said r (ans .start) (ans .len) (ans .used) (ans .heads) (ans .cells) next [] piece (ans .event) e (fed .listed e) ∙ want-is);
+      stays = λ z. (let h = code-high (coded (ans .len)) in let n = fed .listed e in absurd (omega arith));
     }
 
     module _ (four : ans .event ≡ 4 → ⊥) where

@@ -6,12 +6,14 @@ use mathlib.Core.List.{List, []}
 use mathlib.Core.Bool.{Bool, true, false}
 use lib.Dec.{eqb, lit≤}
 use borrow.Author.Tests.{eqb-true, eqb-false}
+use Rattle.rules.specs.Numbers.{codeNumber}
 use Rattle.rules.specs.Block.{Section, Lines, unreadable, readable, lines}
 use Rattle.rules.specs.Reading.{header-section, trailers, Next, stop, go}
 use Rattle.rules.specs.Section.{Reason, Judgement, Head, codeOf as section-code}
 use Rattle.rules.specs.Section as section
 use Rattle.rules.specs.Message.{Message, Step, goes, refuses, heads, trails}
 use Rattle.rules.specs.Request.{document, header-by, trailer-by, next-of, headed-by, trailed-by, given as next-given}
+use Rattle.meaning.specs.NumberLaws.{code-high}
 use Rattle.meaning.specs.Machine.{due, between, answered, given}
 use Rattle.meaning.specs.Hom.{map-state}
 use Rattle.streams.specs.declared.Cells.{Cells}
@@ -30,64 +32,8 @@ use Rattle.requests.specs.declared.Reply.{Reply}
 use Rattle.requests.specs.Reply.{Open, stateIn, refused, leftBy, unlessDue, takenAs, readAs, givenAs, Keeps, opened}
 use Rattle.requests.specs.Severity.{left-alone}
 use Rattle.requests.specs.Answered.{own-stands}
-use Rattle.requests.specs.Told.{code-high, phase-low}
+use Rattle.requests.specs.Told.{phase-low}
 use Rattle.requests.specs.Feeds.{due-not}
-
--- ---- a section is refused with a code of the protocol
-
-section-high : (x : Reason) → 0x0103 ≤ section-code x
-unfolding section-code
-section-high section.too-large = lit≤ tt
-section-high section.bad-bytes = lit≤ tt
-section-high section.unknown-pseudo = lit≤ tt
-section-high section.repeated-pseudo = lit≤ tt
-section-high section.late-pseudo = lit≤ tt
-section-high section.pseudo-in-trailers = lit≤ tt
-section-high section.connection-field = lit≤ tt
-section-high section.other-te = lit≤ tt
-section-high section.bad-method = lit≤ tt
-section-high section.no-method = lit≤ tt
-section-high section.repeated-length = lit≤ tt
-section-high section.length-in-trailers = lit≤ tt
-section-high section.no-digits = lit≤ tt
-section-high section.length-above = lit≤ tt
-section-high section.repeated-host = lit≤ tt
-section-high section.connect = lit≤ tt
-section-high section.no-scheme-or-path = lit≤ tt
-section-high section.other-scheme = lit≤ tt
-section-high section.bad-path = lit≤ tt
-section-high section.no-authority = lit≤ tt
-section-high section.empty-authority = lit≤ tt
-section-high section.authorities-differ = lit≤ tt
-section-high section.at-in-authority = lit≤ tt
-section-high section.length-past-limit = lit≤ tt
-
-abbrev High : Next Message → Type 0
-High (stop code) = 0x0103 ≤ code
-High (go m) = Unit {0}
-
-step-high : (s : Step) → High (next-of s)
-unfolding next-of
-step-high (goes m) = tt
-step-high (refuses x) = code-high x
-
-headed-high : (j : Judgement Head) (m : Message) → High (headed-by (header-by j) m)
-unfolding headed-by header-by
-headed-high (section.refused x) m = section-high x
-headed-high (section.sound h) m = step-high (heads (h .stated) m)
-
-trailed-high : (j : Judgement (Unit {0})) (m : Message) → High (trailed-by (trailer-by j) m)
-unfolding trailed-by trailer-by
-trailed-high (section.refused x) m = section-high x
-trailed-high (section.sound u) m = step-high (trails m)
-
-header-high : (m : Message) (s : Section) → High (next-given document header-section m s)
-unfolding next-given document
-header-high m s = headed-high (section.header-section s) m
-
-trailer-high : (m : Message) (s : Section) → High (next-given document trailers m s)
-unfolding next-given document
-trailer-high m s = trailed-high (section.trailers s) m
 
 -- ---- what an answer in numbers says
 
@@ -97,12 +43,12 @@ data Meant (r : Record) (g : Given) (x : Reply) : Type 0 where
       → refused 0 (requestRecord (r .id) (between m)) ≡ x → Meant r g x
 
 module _ (r : Record) where
-  by-next : (c : Cells) (g : Given) (n : Next Message) → Says c g n → High n → Meant r g (takenAs r (answered n))
+  by-next : (c : Cells) (g : Given) (n : Next Message) → Says c g n → Meant r g (takenAs r (answered n))
   unfolding Says takenAs answered
-  by-next c g (stop code) s h = turned code (λ z. omega arith) (ap (λ x. x .number) s) refl
-  by-next c g (go m) s h = took m (s .0) (s .1) (s .2) (s .3) refl
+  by-next c g (stop code) s = turned (codeNumber code) (λ z. (let h = code-high code in omega arith)) (ap (λ x. x .number) s) refl
+  by-next c g (go m) s = took m (s .0) (s .1) (s .2) (s .3) refl
 
-  plain-number : (c : Cells) (n : ℕ) → (n ≡ 0 → ⊥) → n < 0x0103 → Meant r (answer n c) (refused n r)
+  plain-number : (c : Cells) (n : ℕ) → (n ≡ 0 → ⊥) → n < 10 → Meant r (answer n c) (refused n r)
   plain-number c n z h =
       turned n z refl (ap (refused n) (sym (left-alone r n ((λ e. omega arith), (λ e. omega arith), (λ e. omega arith), (λ e. omega arith)))))
 
@@ -110,12 +56,12 @@ module _ (r : Record) where
     header-lines : (l : Lines) → Meant r (headedAs c (headerOf l)) (readAs r (due header-section m) l)
     unfolding headedAs headerOf readAs given
     header-lines (unreadable f) = plain-number c 6 (λ e. omega arith) (omega arith)
-    header-lines (readable s) = by-next c _ (next-given document header-section m s) (header-says c m st s) (header-high m s)
+    header-lines (readable s) = by-next c _ (next-given document header-section m s) (header-says c m st s)
 
     trailer-lines : Sane c → (l : Lines) → Meant r (trailedAs c (trailerOf l)) (readAs r (due trailers m) l)
     unfolding trailedAs trailerOf readAs given
     trailer-lines sane (unreadable f) = plain-number c 6 (λ e. omega arith) (omega arith)
-    trailer-lines sane (readable s) = by-next c _ (next-given document trailers m s) (trailer-says c m st sane s) (trailer-high m s)
+    trailer-lines sane (readable s) = by-next c _ (next-given document trailers m s) (trailer-says c m st sane s)
 
 data DueView (mode : ℕ) : Type 0 where
   of-header : mode ≡ 6 → DueView mode

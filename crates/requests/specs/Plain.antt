@@ -1,7 +1,8 @@
--- A request keeps no payload: what its feed says and leaves, and the codes it stops with. Assumes nothing.
+-- A request keeps no payload: what its feed says and leaves. Assumes nothing.
 use mathlib.Core.Path.{_≡_, refl, subst}
 use Prim.Native.Nat.{ℕ, _≤_}
 use mathlib.Core.List.{List, []}
+use Rattle.rules.specs.Numbers.{Code}
 use Rattle.rules.specs.Reading.{Kept, Use, content, skipped, section, kept, Ruling, Next}
 use Rattle.rules.specs.Message.{Message}
 use Rattle.rules.specs.Request.{Rules, request, rule}
@@ -26,27 +27,25 @@ clear (kept f) i k l h n = absurd i
 abbrev pub Plain : {P : Type 0} → State P → Type 0
 Plain s = StateWithin Handed s
 
-abbrev High : ℕ → Type 0
-High code = 0x0103 ≤ code
+abbrev Any : Code → Type 0
+Any code = Unit {0}
 
 pub record Plainly (f : Feeding Message) : Type 0 where
   pub untold : (k : Kept) (payload : List ℕ) → f .event ≡ taken k payload → ⊥
   pub plain : (s : State Message) → f .after ≡ lives s → Plain s
-  pub high : (code : ℕ) → f .after ≡ dies code → 0x0103 ≤ code
 
-viewed : (t len : ℕ) (m : Message) {r : Ruling Message} → RuleView t len m r → RulesWithin Handed High len r
-viewed t len m (r-refused h) = h
+viewed : (t len : ℕ) (m : Message) {r : Ruling Message} → RuleView t len m r → RulesWithin Handed Any len r
+viewed t len m r-refused = tt
 viewed t len m (r-skipped u) = refl
 viewed t len m (r-content z e) = refl
 viewed t len m (r-header z l) = refl
 viewed t len m (r-trailers z l) = refl
 
--- A REQUEST'S FEED KEEPS NOTHING, and stops with a code of the protocol
+-- A REQUEST'S FEED KEEPS NOTHING
 pub plain-feed : (R : Rules) (n : ℕ) (s : State Message) → Plain s → (bs : List ℕ) → Plainly (feed (request R) n s bs)
 plain-feed R n s h bs =
-    let w = feed-within (request R) Handed High clear (λ f k b l h. absurd h) (λ m t len. viewed t len m (rule-view m t len)) (λ k m payload. tt) n s h bs in
+    let w = feed-within (request R) Handed Any clear (λ f k b l h. absurd h) (λ m t len. viewed t len m (rule-view m t len)) (λ k m payload. tt) n s h bs in
     record {
       untold = λ k payload e. subst (EventWithin Handed) e (w .event);
-      plain = λ t e. subst (OutcomeWithin Handed High) e (w .after);
-      high = λ code e. subst (OutcomeWithin Handed High) e (w .after);
+      plain = λ t e. subst (OutcomeWithin Handed Any) e (w .after);
     }

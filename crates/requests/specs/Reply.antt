@@ -8,7 +8,7 @@ use Rattle.rules.specs.Block.{Lines, unreadable, readable, lines}
 use Rattle.rules.specs.Reading.{Verdict, whole, fault, waits}
 use Rattle.rules.specs.Message.{Message}
 use Rattle.rules.specs.Request.{document, request}
-use Rattle.rules.specs.Numbers.{Leaves, nothing-altered, id-unspent, untouched, record-freed, code-kept, Row, rowOf}
+use Rattle.rules.specs.Numbers.{codeNumber, named, Leaves, nothing-altered, id-unspent, untouched, record-freed, code-kept, leaves}
 use Rattle.meaning.specs.Machine.{State, in-type, in-length, in-payload, due, Outcome, lives, dies, given, finish}
 use Rattle.meaning.specs.Feed.{Event, quiet, section-bytes, content-bytes, taken, Feeding, feed}
 use Rattle.streams.specs.Answers.{stateOf}
@@ -38,29 +38,26 @@ abbrev pub refused : (number : ℕ) → Record → Reply
 refused number r = reply number 0 0 0 0 0 r
 
 -- document 01's last table says which numbers free the record
-unfoldable pub frees : Leaves → Bool
-frees nothing-altered = false
-frees id-unspent = false
-frees untouched = false
-frees record-freed = true
-frees code-kept = false
-
-unfoldable pub freesRow : Option Row → Bool
-freesRow none = false
-freesRow (some row) = frees (row .leaves)
+unfoldable pub frees : Option Leaves → Bool
+frees none = false
+frees (some nothing-altered) = false
+frees (some id-unspent) = false
+frees (some untouched) = false
+frees (some record-freed) = true
+frees (some code-kept) = false
 
 unfoldable pub freedIf : Bool → Record → Record
 freedIf true r = free-record
 freedIf false r = r
 
 abbrev pub leftBy : (number : ℕ) → Record → Record
-leftBy number r = freedIf (freesRow (rowOf number)) r
+leftBy number r = freedIf (frees (leaves (named number))) r
 
 -- ---- the calls
 
 -- A FEED: no event beside a fault; event 0 none, 1 content, 2 section bytes, 3 the last of them (on a request no payload is kept)
 unfoldable pub saidBy : Record → (used heads : ℕ) → Event → Outcome Message → Reply
-saidBy r u h e (dies code) = reply code 0 0 0 u h (leftBy code r)
+saidBy r u h e (dies code) = reply (codeNumber code) 0 0 0 u h (leftBy (codeNumber code) r)
 saidBy r u h quiet (lives s) = reply 0 0 0 0 u h (requestRecord (r .id) s)
 saidBy r u h (content-bytes len) (lives s) = reply 0 1 (u - len) len u h (requestRecord (r .id) s)
 saidBy r u h (section-bytes len false) (lives s) = reply 0 2 (u - len) len u h (requestRecord (r .id) s)
@@ -81,7 +78,7 @@ fedAs r allow piece s = unlessDue s (refused 4 r) (said r (feed (request documen
 
 -- A SECTION GIVEN
 unfoldable pub takenAs : Record → Outcome Message → Reply
-takenAs r (dies code) = refused code (leftBy code r)
+takenAs r (dies code) = refused (codeNumber code) (leftBy (codeNumber code) r)
 takenAs r (lives s) = refused 0 (requestRecord (r .id) s)
 
 unfoldable pub readAs : Record → State Message → Lines → Reply
@@ -94,7 +91,7 @@ givenAs r block s = unlessDue s (readAs r s (lines block)) (refused 5 r)
 -- THE END: event 11, the request is whole
 unfoldable pub endedBy : Record → Verdict → Reply
 endedBy r whole = reply 0 11 0 0 0 0 free-record
-endedBy r (fault code place) = refused code (leftBy code r)
+endedBy r (fault code place) = refused (codeNumber code) (leftBy (codeNumber code) r)
 endedBy r (waits place) = refused 4 r
 
 abbrev pub endedAs : Record → State Message → Reply

@@ -1,62 +1,53 @@
 -- Which numbers free a record: document 01's last table. Assumes nothing.
-use mathlib.Core.Path.{_≡_, refl}
+use mathlib.Core.Path.{_≡_, refl, sym, _∙_}
 use Prim.Native.Nat.{ℕ}
-use mathlib.Core.List.{List, [], _∷_}
-use mathlib.Core.Bool.{Bool, true, false}
-use mathlib.Core.Option.{Option, none, some}
-use lib.Dec.{eqb}
-use borrow.Author.Tests.{eqb-true}
-use Rattle.rules.specs.Numbers.{Row, numbers, rowIn, rowOf}
+use mathlib.Core.List.{_∷_}
+use mathlib.Core.Bool.{true, false}
+use Rattle.rules.specs.Numbers.{REQUEST-REJECTED, REQUEST-CANCELLED, REQUEST-INCOMPLETE, MESSAGE-ERROR, StreamFault, request-rejected, request-cancelled, request-incomplete, message-error, ConnectionFault, of-stream, of-connection, accepted, codeNumber, numberOf, rows, named, houseLeaves, leaves}
+use Rattle.meaning.specs.NumberLaws.{name-view, fault-named}
 use Rattle.record.specs.declared.Record.{Record}
 use Rattle.record.specs.Row.{free-record}
-use Rattle.requests.specs.Reply.{frees, freesRow, freedIf, leftBy}
+use Rattle.requests.specs.Reply.{frees, freedIf, leftBy}
 
--- what holds of each row that has the number, and of none, holds of the number's row
-module _ (n : ℕ) (Q : Option Row → Type 0) where
-  abbrev pub Rows : List Row → Type 0
-  Rows [] = Unit {0}
-  Rows (r ∷ rs) = (n ≡ r .number → Q (some r)) × Rows rs
+-- ---- by name
 
-  pub row-view : (rs : List Row) → Rows rs → Q none → Q (rowIn rs n)
-  unfolding rowIn
-  row-view [] x q = q
-  row-view (r ∷ rs) x q = go (eqb n (r .number)) refl (row-view rs (x .1) q)
-    where
-      go : (t : Bool) → eqb n (r .number) ≡ t → Q (rowIn rs n) → Q (elim t [ true ↦ some r | false ↦ rowIn rs n ])
-      go true e y = x .0 (eqb-true n (r .number) e)
-      go false e y = y
+-- A STREAM FAULT FREES THE RECORD
+pub stream-frees : (f : StreamFault) (r : Record) → leftBy (codeNumber (of-stream f)) r ≡ free-record
+unfolding freedIf frees leaves
+stream-frees f r = let e = fault-named (of-stream f) in rw e refl
+
+-- a connection fault leaves it as it was
+pub connection-leaves : (f : ConnectionFault) (r : Record) → leftBy (codeNumber (of-connection f)) r ≡ r
+unfolding freedIf frees leaves
+connection-leaves f r = let e = fault-named (of-connection f) in rw e refl
+
+-- ---- by number
 
 abbrev pub NoStreamFault : ℕ → Type 0
-NoStreamFault n = (n ≡ 0x010b → ⊥) × (n ≡ 0x010c → ⊥) × (n ≡ 0x010d → ⊥) × (n ≡ 0x010e → ⊥)
+NoStreamFault n = (n ≡ REQUEST-REJECTED → ⊥) × (n ≡ REQUEST-CANCELLED → ⊥) × (n ≡ REQUEST-INCOMPLETE → ⊥) × (n ≡ MESSAGE-ERROR → ⊥)
 
-kept-by : (n : ℕ) → NoStreamFault n → freesRow (rowOf n) ≡ false
-unfolding rowOf numbers freesRow frees
+kept-by : (n : ℕ) → NoStreamFault n → frees (leaves (named n)) ≡ false
+unfolding named rows numberOf leaves houseLeaves frees
 kept-by n other =
-    row-view n (λ o. freesRow o ≡ false) numbers
-    ((λ e. refl), ((λ e. refl), ((λ e. refl), ((λ e. refl), ((λ e. refl), ((λ e. refl), ((λ e. refl), ((λ e. refl), ((λ e. refl), ((λ e. absurd (other .0 e)), ((λ e. absurd (other .1 e)), ((λ e. absurd (other .2 e)), ((λ e. absurd (other .3 e)), ((λ e. refl), ((λ e. refl), ((λ e. refl), ((λ e. refl), ((λ e. refl), ((λ e. refl), ((λ e. refl), ((λ e. refl), tt)))))))))))))))))))))
+    name-view n (λ a. frees (leaves a) ≡ false) (accepted ∷ rows)
+    ((λ e. refl), ((λ e. refl), ((λ e. refl), ((λ e. refl), ((λ e. refl), ((λ e. refl), ((λ e. refl), ((λ e. refl), ((λ e. refl), ((λ e. refl), ((λ e. absurd (other .0 e)), ((λ e. absurd (other .1 e)), ((λ e. absurd (other .2 e)), ((λ e. absurd (other .3 e)), ((λ e. refl), ((λ e. refl), ((λ e. refl), ((λ e. refl), ((λ e. refl), ((λ e. refl), ((λ e. refl), ((λ e. refl), tt))))))))))))))))))))))
     refl
 
 module _ (r : Record) {a : Record} where
-  -- A STREAM FAULT FREES THE RECORD
-  freed : (n : ℕ) → freesRow (rowOf n) ≡ true → a ≡ free-record → a ≡ leftBy n r
-  unfolding freedIf
-  freed n e q = rw e q
+  freed : (f : StreamFault) (n : ℕ) → n ≡ codeNumber (of-stream f) → a ≡ free-record → a ≡ leftBy n r
+  freed f n e q = rw e (q ∙ sym (stream-frees f r))
 
-  pub freed-rejected : (n : ℕ) → n ≡ 0x010b → a ≡ free-record → a ≡ leftBy n r
-  unfolding rowOf rowIn numbers freesRow frees
-  freed-rejected n e q = freed n (rw e refl) q
+  pub freed-rejected : (n : ℕ) → n ≡ REQUEST-REJECTED → a ≡ free-record → a ≡ leftBy n r
+  freed-rejected n e q = freed request-rejected n e q
 
-  pub freed-cancelled : (n : ℕ) → n ≡ 0x010c → a ≡ free-record → a ≡ leftBy n r
-  unfolding rowOf rowIn numbers freesRow frees
-  freed-cancelled n e q = freed n (rw e refl) q
+  pub freed-cancelled : (n : ℕ) → n ≡ REQUEST-CANCELLED → a ≡ free-record → a ≡ leftBy n r
+  freed-cancelled n e q = freed request-cancelled n e q
 
-  pub freed-incomplete : (n : ℕ) → n ≡ 0x010d → a ≡ free-record → a ≡ leftBy n r
-  unfolding rowOf rowIn numbers freesRow frees
-  freed-incomplete n e q = freed n (rw e refl) q
+  pub freed-incomplete : (n : ℕ) → n ≡ REQUEST-INCOMPLETE → a ≡ free-record → a ≡ leftBy n r
+  freed-incomplete n e q = freed request-incomplete n e q
 
-  pub freed-malformed : (n : ℕ) → n ≡ 0x010e → a ≡ free-record → a ≡ leftBy n r
-  unfolding rowOf rowIn numbers freesRow frees
-  freed-malformed n e q = freed n (rw e refl) q
+  pub freed-malformed : (n : ℕ) → n ≡ MESSAGE-ERROR → a ≡ free-record → a ≡ leftBy n r
+  freed-malformed n e q = freed message-error n e q
 
 -- ANY OTHER NUMBER LEAVES IT AS IT WAS
 pub left-alone : (r : Record) (n : ℕ) → NoStreamFault n → r ≡ leftBy n r

@@ -3,10 +3,10 @@ use mathlib.Core.Path.{_≡_, refl, sym, ap, _∙_}
 use Prim.Native.Nat.{ℕ, _≤_}
 use native.Mathlib.Omega.{arith}
 use mathlib.Core.List.{[]}
-use lib.Dec.{lit≤}
 use Rattle.rules.specs.Reading.{Verdict, whole, fault, waits, ended}
 use Rattle.rules.specs.Message.{Message, Reason, out-of-place, past-stated, past-limit, no-section, unequal, Ended, all-come, lacks, ends}
 use Rattle.rules.specs.Request.{document, request, codeOf, end-of}
+use Rattle.meaning.specs.NumberLaws.{code-high}
 use Rattle.meaning.specs.Machine.{fresh, need, State, in-type, in-length, in-payload, due, finish}
 use Rattle.streams.specs.declared.Cells.{Cells}
 use Rattle.streams.specs.Both.{of-request}
@@ -20,45 +20,18 @@ use Rattle.requests.specs.Reply.{Open, stateIn, reply, refused, leftBy, 
 use Rattle.requests.specs.Severity.{left-alone}
 use Rattle.requests.specs.Answered.{own-stands}
 
-pub code-high : (x : Reason) → 0x0103 ≤ codeOf x
-unfolding codeOf
-code-high out-of-place = lit≤ tt
-code-high past-stated = lit≤ tt
-code-high past-limit = lit≤ tt
-code-high no-section = lit≤ tt
-code-high unequal = lit≤ tt
-
--- a verdict that an end can have: a fault has a code of the protocol
-abbrev Sober : Verdict → Type 0
-Sober whole = Unit {0}
-Sober (fault code place) = 0x0103 ≤ code
-Sober (waits place) = Unit {0}
-
-sober-end : (e : Ended) (place : ℕ) → Sober (ended (end-of e) place)
-unfolding ended end-of
-sober-end all-come place = tt
-sober-end (lacks x) place = code-high x
-
-sober : (s : State Message) → Sober (finish (request document) 0 s)
-unfolding finish
-sober (in-type fresh m) = sober-end (ends m) 0
-sober (in-type (need k v) m) = lit≤ tt
-sober (in-length t g m) = lit≤ tt
-sober (in-payload u k left m) = lit≤ tt
-sober (due t m) = tt
-
 module _ (r : Record) (n : ℕ) where
-  by-whole : (v : Verdict) → Sober v → n ≡ verdictNumber v → n ≡ 0 → reply 0 11 0 0 0 0 free-record ≡ endedBy r v
+  by-whole : (v : Verdict) → n ≡ verdictNumber v → n ≡ 0 → reply 0 11 0 0 0 0 free-record ≡ endedBy r v
   unfolding verdictNumber endedBy
-  by-whole whole h e z = refl
-  by-whole (fault code place) h e z = absurd (omega arith)
-  by-whole (waits place) h e z = absurd (omega arith)
+  by-whole whole e z = refl
+  by-whole (fault code place) e z = let h = code-high code in absurd (omega arith)
+  by-whole (waits place) e z = absurd (omega arith)
 
-  by-code : (v : Verdict) → Sober v → n ≡ verdictNumber v → (n ≡ 0 → ⊥) → refused n (leftBy n r) ≡ endedBy r v
+  by-code : (v : Verdict) → n ≡ verdictNumber v → (n ≡ 0 → ⊥) → refused n (leftBy n r) ≡ endedBy r v
   unfolding verdictNumber endedBy
-  by-code whole h e z = absurd (z e)
-  by-code (fault code place) h e z = ap (λ x. refused x (leftBy x r)) e
-  by-code (waits place) h e z = ap (λ x. refused x (leftBy x r)) e ∙ ap (refused 4) (sym (left-alone r 4 ((λ x. omega arith), (λ x. omega arith), (λ x. omega arith), (λ x. omega arith))))
+  by-code whole e z = absurd (z e)
+  by-code (fault code place) e z = ap (λ x. refused x (leftBy x r)) e
+  by-code (waits place) e z = ap (λ x. refused x (leftBy x r)) e ∙ ap (refused 4) (sym (left-alone r 4 ((λ x. omega arith), (λ x. omega arith), (λ x. omega arith), (λ x. omega arith))))
 
 module _ (r : Record) (o : Open r) where
   pub phase-low : cellsIn r .phase ≤ 2
@@ -70,10 +43,10 @@ module _ (r : Record) (o : Open r) where
       ∙ ap endOf (sym (state-carried of-request (c .mode) (c .acc) (c .due) (c .ftype) (message (ownPlace c)) [])) ∙ request-end document 0 (stateIn r)
 
   pub end-whole : {n : ℕ} {a : Reply} {q : Record} {d : Cells} → d ≡ cellsIn r → Ends d n → n ≡ 0 → q ≡ free-record → a ≡ reply 0 11 0 0 0 0 q → Answered r (endedAs r) a
-  end-whole {n} w e z f g = opened o (g ∙ ap (reply 0 11 0 0 0 0) f ∙ by-whole r n (finish (request document) 0 (stateIn r)) (sober (stateIn r)) (end-number w e) z)
+  end-whole {n} w e z f g = opened o (g ∙ ap (reply 0 11 0 0 0 0) f ∙ by-whole r n (finish (request document) 0 (stateIn r)) (end-number w e) z)
 
   pub end-code : {n : ℕ} {a : Reply} {q : Record} {d : Cells} → d ≡ cellsIn r → Ends d n → (n ≡ 0 → ⊥) → q ≡ leftBy n r → a ≡ refused n q → Answered r (endedAs r) a
-  end-code {n} w e z f g = opened o (g ∙ ap (refused n) f ∙ by-code r n (finish (request document) 0 (stateIn r)) (sober (stateIn r)) (end-number w e) z)
+  end-code {n} w e z f g = opened o (g ∙ ap (refused n) f ∙ by-code r n (finish (request document) 0 (stateIn r)) (end-number w e) z)
 
   pub reset-open : {a : Reply} {q : Record} → q ≡ free-record → a ≡ reply 0 12 0 0 0 0 q → Answered r (resetAs r) a
   reset-open f g = opened o (g ∙ ap (reply 0 12 0 0 0 0) f)

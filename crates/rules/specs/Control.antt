@@ -6,6 +6,7 @@ use mathlib.Core.Bool.{Bool, true, false, _||_}
 use mathlib.Core.Option.{Option, none, some}
 use lib.Dec.{ltb, eqb}
 use lib.ListN.{length}
+use Rattle.rules.specs.Numbers.{of-connection, closed-critical-stream, frame-unexpected, frame-error, excessive-load, id-error, settings-error, missing-settings}
 use Rattle.rules.specs.Text.{isOneOf, lookup}
 use Rattle.rules.specs.Integers.{Int, cut, got, integer}
 use Rattle.rules.specs.Reading.{Kept, settings, goaway, max-push-id, cancel-push, skipped, kept, Ruling, refuse, accept, Next, stop, go, lacking, Grammar}
@@ -44,11 +45,11 @@ pairs zero seen s payload = go s
 pairs (suc fuel) seen s [] = go s
 pairs (suc fuel) seen s (b ∷ bs) =
     elim (integer 0 (b ∷ bs)) [
-      | cut ↦ stop 0x0106
+      | cut ↦ stop (of-connection frame-error)
       | got identifier at rest ↦ elim (integer 0 rest) [
-        | cut ↦ stop 0x0106
+        | cut ↦ stop (of-connection frame-error)
         | got value to shorter ↦ elim (isOneOf reserved-identifiers identifier || isOneOf seen identifier) [
-          | true ↦ stop 0x0109
+          | true ↦ stop (of-connection settings-error)
           | false ↦ pairs fuel (identifier ∷ seen) (set-to identifier value s) shorter
         ]
       ]
@@ -90,15 +91,15 @@ column =
 
 -- one integer takes 1 to 8 bytes
 unfoldable pub ruleFor : Kind → Control → (len : ℕ) → Ruling Control
-ruleFor forbidden c len = refuse 0x0105
-ruleFor (one-integer k) c len = elim (eqb len 0 || ltb 8 len) [ true ↦ refuse 0x0106 | false ↦ accept (kept k) c ]
+ruleFor forbidden c len = refuse (of-connection frame-unexpected)
+ruleFor (one-integer k) c len = elim (eqb len 0 || ltb 8 len) [ true ↦ refuse (of-connection frame-error) | false ↦ accept (kept k) c ]
 ruleFor unknown c len = accept skipped c
 
 -- a first frame other than SETTINGS is 0x010a, before all else
 unfoldable pub first-rule : (type len : ℕ) → Ruling Control
 first-rule t len = elim (eqb t 4) [
-  | false ↦ refuse 0x010a
-  | true ↦ elim (ltb settings-limit len) [ true ↦ refuse 0x0107 | false ↦ accept (kept settings) unset ]
+  | false ↦ refuse (of-connection missing-settings)
+  | true ↦ elim (ltb settings-limit len) [ true ↦ refuse (of-connection excessive-load) | false ↦ accept (kept settings) unset ]
 ]
 
 unfoldable pub rule : Control → (type len : ℕ) → Ruling Control
@@ -121,18 +122,18 @@ below v (some earlier) = ltb v earlier
 
 -- a client's GOAWAY above an earlier one; a MAX_PUSH_ID below an earlier one; we promise no push that could be cancelled
 unfoldable pub after-goaway : Settings → (goaway max-push-id : Option ℕ) → (id : ℕ) → Next Control
-after-goaway s g m id = elim (above id g) [ true ↦ stop 0x0108 | false ↦ go (set s (some id) m) ]
+after-goaway s g m id = elim (above id g) [ true ↦ stop (of-connection id-error) | false ↦ go (set s (some id) m) ]
 
 unfoldable pub after-max-push : Settings → (goaway max-push-id : Option ℕ) → (id : ℕ) → Next Control
-after-max-push s g m id = elim (below id m) [ true ↦ stop 0x0108 | false ↦ go (set s g (some id)) ]
+after-max-push s g m id = elim (below id m) [ true ↦ stop (of-connection id-error) | false ↦ go (set s g (some id)) ]
 
 -- (SETTINGS is kept only as the first frame, so it is not asked of here)
 unfoldable pub after-integer : Kept → Settings → (goaway max-push-id : Option ℕ) → Option ℕ → Next Control
-after-integer k s g m none = stop 0x0106
-after-integer settings s g m (some id) = stop 0x0105
+after-integer k s g m none = stop (of-connection frame-error)
+after-integer settings s g m (some id) = stop (of-connection frame-unexpected)
 after-integer goaway s g m (some id) = after-goaway s g m id
 after-integer max-push-id s g m (some id) = after-max-push s g m id
-after-integer cancel-push s g m (some id) = stop 0x0108
+after-integer cancel-push s g m (some id) = stop (of-connection id-error)
 
 unfoldable pub after-settings : Next Settings → Next Control
 after-settings (stop code) = stop code
@@ -150,8 +151,8 @@ control = record {
   rule = rule;
   given = λ t c s. go c;
   judged = judged;
-  end = λ c. lacking 0x0104;
-  cut = 0x0104;
+  end = λ c. lacking (of-connection closed-critical-stream);
+  cut = of-connection closed-critical-stream;
 }
 
 -- ---- what a kept frame tells the host

@@ -19,7 +19,7 @@ use Rattle.rules.specs.Message.{Message, opening, body, trailed}
 use Rattle.rules.specs.Request.{document, Header, Header.bad as bad-header, Header.good as good-header, Trailer, Trailer.bad as bad-trailer, Trailer.good as good-trailer}
 use Rattle.rules.specs.Control.{Settings, Control, unset, set, Told, told-settings, told-goaway, told-max-push-id}
 use Rattle.rules.specs.OneWay.{OneWay, encoder, decoder, untyped, refused as one-way-refused, of-control, of-qpack, passed-over}
-use Rattle.rules.specs.Numbers.{Severity, house, stream as a-stream, connection, Leaves, nothing-altered, id-unspent, untouched, record-freed, code-kept}
+use Rattle.rules.specs.Numbers.{houseNumber, codeNumber, numberOf, rows, namedIn, named, codeIn, coded, Code, Severity, house, stream as a-stream, connection, Leaves, nothing-altered, id-unspent, untouched, record-freed, code-kept}
 use Rattle.rules.specs.Writer.{Write, wrote, refused}
 use Rattle.rules.specs.Worked.{Question, reads, writes, writes-header, writes-integer-frame, writes-goaway, writes-opening, block, request-stream, request-with, request-headers, request-sections, request-header-bytes, request-says, request-rule, one-way-stream, one-way-says, one-way-tells, control-judges, closes, bytes-with, header-section, trailers, header-reason, trailer-reason, number}
 use Rattle.rules.specs.Worked.{Answer, read-as, written-as, lines-are, request-is, headers-are, says-all, ruling-is, one-way-is, tells, control-leaves, closed-with, bytes-are, header-is, trailer-is, reason-is, row-is}
@@ -214,53 +214,53 @@ abbrev others-long : List String
 others-long = "0A 01 00" ∷ "0B 01 00" ∷ "0C 01 00" ∷ "0E 01 00" ∷ "21 01 00" ∷ []
 
 unfoldable pub request-table : List Worked
-unfolding hex hexFrom nibble
+unfolding hex hexFrom nibble numberOf rows namedIn named codeIn coded
 request-table =
     -- before the header section
-    behind "" (fault 0x0105 2) ("00 00" ∷ "00 01 00" ∷ [])
+    behind "" (fault (coded 0x0105) 2) ("00 00" ∷ "00 01 00" ∷ [])
     ++ behind "" whole ("01 00" ∷ "01 01 00" ∷ [])
-    ++ behind "" (fault 0x0105 2) forbidden-empty
-    ++ behind "" (fault 0x0105 2) forbidden-long
-    ++ behind "" (fault 0x010d 2) others-empty
-    ++ behind "" (fault 0x010d 3) others-long
+    ++ behind "" (fault (coded 0x0105) 2) forbidden-empty
+    ++ behind "" (fault (coded 0x0105) 2) forbidden-long
+    ++ behind "" (fault (coded 0x010d) 2) others-empty
+    ++ behind "" (fault (coded 0x010d) 3) others-long
     -- (0xF0700, 2^62 - 1; 256, 257, 2^32 and 2^32 + 1, whose low bytes are those of known types)
-    ++ behind "" (fault 0x010d 5) ("80 0F 07 00 00" ∷ [])
-    ++ behind "" (fault 0x010d 9) ("FF FF FF FF FF FF FF FF 00" ∷ "C0 00 00 01 00 00 00 00 00" ∷ "C0 00 00 01 00 00 00 01 00" ∷ [])
-    ++ behind "" (fault 0x010d 3) ("41 00 00" ∷ "41 01 00" ∷ "40 40 00" ∷ [])
+    ++ behind "" (fault (coded 0x010d) 5) ("80 0F 07 00 00" ∷ [])
+    ++ behind "" (fault (coded 0x010d) 9) ("FF FF FF FF FF FF FF FF 00" ∷ "C0 00 00 01 00 00 00 00 00" ∷ "C0 00 00 01 00 00 00 01 00" ∷ [])
+    ++ behind "" (fault (coded 0x010d) 3) ("41 00 00" ∷ "41 01 00" ∷ "40 40 00" ∷ [])
     -- behind the header section
     ++ behind "01 01 00" whole ("00 00" ∷ "01 00" ∷ "01 01 00" ∷ [])
-    ++ behind "01 01 00" (fault 0x0105 5) forbidden-empty
-    ++ behind "01 01 00" (fault 0x0105 5) forbidden-long
+    ++ behind "01 01 00" (fault (coded 0x0105) 5) forbidden-empty
+    ++ behind "01 01 00" (fault (coded 0x0105) 5) forbidden-long
     ++ behind "01 01 00" whole others-empty
     ++ behind "01 01 00" whole others-long
     ++ behind "01 01 00" whole ("FF FF FF FF FF FF FF FF 00" ∷ "FF FF FF FF FF FF FF FF 01 00" ∷ "80 0F 07 00 02 00 75" ∷ "41 00 01 00" ∷ "41 01 01 00" ∷ [])
     -- behind trailers
-    ++ behind "01 01 00 01 01 00" (fault 0x0105 8) ("00 00" ∷ "00 01 00" ∷ "01 00" ∷ "01 01 00" ∷ [])
-    ++ behind "01 01 00 01 01 00" (fault 0x0105 8) forbidden-empty
-    ++ behind "01 01 00 01 01 00" (fault 0x0105 8) forbidden-long
+    ++ behind "01 01 00 01 01 00" (fault (coded 0x0105) 8) ("00 00" ∷ "00 01 00" ∷ "01 00" ∷ "01 01 00" ∷ [])
+    ++ behind "01 01 00 01 01 00" (fault (coded 0x0105) 8) forbidden-empty
+    ++ behind "01 01 00 01 01 00" (fault (coded 0x0105) 8) forbidden-long
     ++ behind "01 01 00 01 01 00" whole others-empty
     ++ behind "01 01 00 01 01 00" whole others-long
     ++ behind "01 01 00 01 01 00" whole ("FF FF FF FF FF FF FF FF 00" ∷ "80 0F 07 00 02 00 75" ∷ "41 00 01 00" ∷ "41 01 01 00" ∷ [])
     -- types and lengths in other than the shortest form
-    ++ behind "" (fault 0x0105 3) ("40 00 00" ∷ "40 04 00" ∷ "40 0D 00" ∷ "00 40 00" ∷ "07 40 00" ∷ [])
-    ++ behind "" (fault 0x0105 5) ("80 00 00 09 00" ∷ "02 80 00 00 00" ∷ [])
-    ++ behind "" (fault 0x0105 9) ("C0 00 00 00 00 00 00 03 00" ∷ "03 C0 00 00 00 00 00 00 00" ∷ [])
-    ++ behind "" (fault 0x010d 3) ("40 0A 00" ∷ "40 21 00" ∷ "21 40 00" ∷ [])
-    ++ behind "01 01 00 01 01 00" (fault 0x0105 9) ("40 00 00" ∷ "40 01 00" ∷ "00 40 00" ∷ [])
+    ++ behind "" (fault (coded 0x0105) 3) ("40 00 00" ∷ "40 04 00" ∷ "40 0D 00" ∷ "00 40 00" ∷ "07 40 00" ∷ [])
+    ++ behind "" (fault (coded 0x0105) 5) ("80 00 00 09 00" ∷ "02 80 00 00 00" ∷ [])
+    ++ behind "" (fault (coded 0x0105) 9) ("C0 00 00 00 00 00 00 03 00" ∷ "03 C0 00 00 00 00 00 00 00" ∷ [])
+    ++ behind "" (fault (coded 0x010d) 3) ("40 0A 00" ∷ "40 21 00" ∷ "21 40 00" ∷ [])
+    ++ behind "01 01 00 01 01 00" (fault (coded 0x0105) 9) ("40 00 00" ∷ "40 01 00" ∷ "00 40 00" ∷ [])
 
 unfoldable pub request-positions : List Worked
-unfolding hex hexFrom nibble
+unfolding hex hexFrom nibble numberOf rows namedIn named codeIn coded
 request-positions =
     stream none "01 01 00 00 01 61" "61" whole
     ∷ stream none "01 01 00 00 01 61 00 01 62" "61 62" whole
     ∷ stream none "01 01 00 00 01 61 01 01 00" "61" whole
-    ∷ stream none "01 01 00 00 01 61 01 01 00 00 00" "61" (fault 0x0105 11)
-    ∷ stream none "01 01 00 00 01 61 01 01 00 01 00" "61" (fault 0x0105 11)
-    ∷ stream none "01 01 00 00 01 61 04 00" "61" (fault 0x0105 8)
+    ∷ stream none "01 01 00 00 01 61 01 01 00 00 00" "61" (fault (coded 0x0105) 11)
+    ∷ stream none "01 01 00 00 01 61 01 01 00 01 00" "61" (fault (coded 0x0105) 11)
+    ∷ stream none "01 01 00 00 01 61 04 00" "61" (fault (coded 0x0105) 8)
     -- skipped frames stand anywhere and are no content; the position is that of the known types
     ∷ stream none "21 01 61 01 01 00 21 01 61 00 01 62 21 01 61 01 01 00 21 01 61" "62" whole
-    ∷ stream none "21 00 00 00" "" (fault 0x0105 4)
-    ∷ stream none "21 00 01 00 21 00 01 00 21 00 01 00" "" (fault 0x0105 12)
+    ∷ stream none "21 00 00 00" "" (fault (coded 0x0105) 4)
+    ∷ stream none "21 00 01 00 21 00 01 00 21 00 01 00" "" (fault (coded 0x0105) 12)
     -- types and lengths in other than the shortest form
     ∷ stream none "40 01 40 01 00 40 00 40 01 61" "61" whole
     ∷ stream none "80 00 00 01 80 00 00 00 80 00 00 00 80 00 00 01 61" "61" whole
@@ -270,33 +270,33 @@ request-positions =
 -- ---- limits and order, request stream
 
 unfoldable pub request-limits : List Worked
-unfolding hex hexFrom nibble
+unfolding hex hexFrom nibble numberOf rows namedIn named codeIn coded
 request-limits =
     -- a header is judged at its last byte, and no sooner
-    behind "" (fault 0x0106 1) ("00" ∷ "01" ∷ "04" ∷ "0D" ∷ "21" ∷ "40" ∷ "C0" ∷ [])
-    ++ behind "" (fault 0x0106 2) ("00 40" ∷ "04 40" ∷ "40 04" ∷ "80 00" ∷ [])
-    ++ behind "01 01 00 01 01 00" (fault 0x0106 7) ("00" ∷ "01" ∷ "04" ∷ "21" ∷ [])
+    behind "" (fault (coded 0x0106) 1) ("00" ∷ "01" ∷ "04" ∷ "0D" ∷ "21" ∷ "40" ∷ "C0" ∷ [])
+    ++ behind "" (fault (coded 0x0106) 2) ("00 40" ∷ "04 40" ∷ "40 04" ∷ "80 00" ∷ [])
+    ++ behind "01 01 00 01 01 00" (fault (coded 0x0106) 7) ("00" ∷ "01" ∷ "04" ∷ "21" ∷ [])
     -- position before length
-    ++ behind "" (fault 0x0105 9) ("00 FF FF FF FF FF FF FF FF" ∷ "04 FF FF FF FF FF FF FF FF" ∷ "07 FF FF FF FF FF FF FF FF" ∷ [])
-    ++ behind "01 01 00 01 01 00" (fault 0x0105 11) ("01 80 00 40 01" ∷ "00 80 10 00 01" ∷ [])
+    ++ behind "" (fault (coded 0x0105) 9) ("00 FF FF FF FF FF FF FF FF" ∷ "04 FF FF FF FF FF FF FF FF" ∷ "07 FF FF FF FF FF FF FF FF" ∷ [])
+    ++ behind "01 01 00 01 01 00" (fault (coded 0x0105) 11) ("01 80 00 40 01" ∷ "00 80 10 00 01" ∷ [])
     -- HEADERS: 16,384 bytes, and one more
-    ++ behind "" (fault 0x0106 5) ("01 80 00 40 00" ∷ [])
-    ++ behind "" (fault 0x0107 5) ("01 80 00 40 01" ∷ "01 BF FF FF FF" ∷ [])
-    ++ behind "" (fault 0x0106 9) ("01 C0 00 00 00 00 00 40 00" ∷ [])
-    ++ behind "" (fault 0x0107 9) ("01 C0 00 00 00 00 00 40 01" ∷ "01 FF FF FF FF FF FF FF FF" ∷ [])
-    ++ behind "01 01 00" (fault 0x0106 8) ("01 80 00 40 00" ∷ [])
-    ++ behind "01 01 00" (fault 0x0107 8) ("01 80 00 40 01" ∷ [])
+    ++ behind "" (fault (coded 0x0106) 5) ("01 80 00 40 00" ∷ [])
+    ++ behind "" (fault (coded 0x0107) 5) ("01 80 00 40 01" ∷ "01 BF FF FF FF" ∷ [])
+    ++ behind "" (fault (coded 0x0106) 9) ("01 C0 00 00 00 00 00 40 00" ∷ [])
+    ++ behind "" (fault (coded 0x0107) 9) ("01 C0 00 00 00 00 00 40 01" ∷ "01 FF FF FF FF FF FF FF FF" ∷ [])
+    ++ behind "01 01 00" (fault (coded 0x0106) 8) ("01 80 00 40 00" ∷ [])
+    ++ behind "01 01 00" (fault (coded 0x0107) 8) ("01 80 00 40 01" ∷ [])
     -- a skipped frame has no limit
-    ++ behind "" (fault 0x0106 9) ("21 FF FF FF FF FF FF FF FF" ∷ [])
-    ++ behind "01 01 00" (fault 0x0106 12) ("21 FF FF FF FF FF FF FF FF" ∷ [])
+    ++ behind "" (fault (coded 0x0106) 9) ("21 FF FF FF FF FF FF FF FF" ∷ [])
+    ++ behind "01 01 00" (fault (coded 0x0106) 12) ("21 FF FF FF FF FF FF FF FF" ∷ [])
 
 unfoldable pub headers-at-limit : List Worked
-unfolding hex hexFrom nibble
+unfolding hex hexFrom nibble numberOf rows namedIn named codeIn coded
 headers-at-limit =
     request (hex "01 80 00 40 00" ++ long 16_384) whole
-    ∷ request (hex "01 80 00 40 00" ++ long 16_383) (fault 0x0106 16_388)
+    ∷ request (hex "01 80 00 40 00" ++ long 16_383) (fault (coded 0x0106) 16_388)
     ∷ request (hex "01 01 00 01 80 00 40 00" ++ long 16_384) whole
-    ∷ request (hex "01 80 00 40 01" ++ long 16_385) (fault 0x0107 5)
+    ∷ request (hex "01 80 00 40 01" ++ long 16_385) (fault (coded 0x0107) 5)
     ∷ []
 
 -- DATA of a length, where a message stands
@@ -304,10 +304,10 @@ abbrev carries : Message → (len : ℕ) → Message → Worked
 carries m len after = asks (request-rule m 0 len) (ruling-is (accept content after))
 
 abbrev refuses : Message → (len code : ℕ) → Worked
-refuses m len code = asks (request-rule m 0 len) (ruling-is (refuse code))
+refuses m len code = asks (request-rule m 0 len) (ruling-is (refuse (coded code)))
 
 unfoldable pub data-sums : List Worked
-unfolding hex hexFrom nibble
+unfolding hex hexFrom nibble numberOf rows namedIn named codeIn coded
 data-sums =
     -- without Content-Length
     carries (body none 0) 1_048_576 (body none 1_048_576)
@@ -317,11 +317,11 @@ data-sums =
     ∷ carries (body none 1_048_576) 0 (body none 1_048_576)
     ∷ refuses (body none 1_048_576) 1 0x010c
     ∷ refuses (body none 0) 4_611_686_018_427_387_903 0x010c
-    ∷ stream none "01 01 00 00 80 10 00 00" "" (fault 0x0106 8)
-    ∷ stream none "01 01 00 00 80 10 00 01" "" (fault 0x010c 8)
-    ∷ stream none "01 01 00 00 03 61 62 63 00 80 0F FF FD" "61 62 63" (fault 0x0106 13)
-    ∷ stream none "01 01 00 00 03 61 62 63 00 80 0F FF FE" "61 62 63" (fault 0x010c 13)
-    ∷ stream none "01 01 00 00 03 61 62 63 21 80 10 00 01" "61 62 63" (fault 0x0106 13)
+    ∷ stream none "01 01 00 00 80 10 00 00" "" (fault (coded 0x0106) 8)
+    ∷ stream none "01 01 00 00 80 10 00 01" "" (fault (coded 0x010c) 8)
+    ∷ stream none "01 01 00 00 03 61 62 63 00 80 0F FF FD" "61 62 63" (fault (coded 0x0106) 13)
+    ∷ stream none "01 01 00 00 03 61 62 63 00 80 0F FF FE" "61 62 63" (fault (coded 0x010c) 13)
+    ∷ stream none "01 01 00 00 03 61 62 63 21 80 10 00 01" "61 62 63" (fault (coded 0x0106) 13)
     -- with one
     ∷ carries (body (some 3) 0) 3 (body (some 3) 3)
     ∷ refuses (body (some 3) 0) 4 0x010e
@@ -335,10 +335,10 @@ data-sums =
     ∷ refuses (body (some 1_048_576) 0) 1_048_577 0x010e
     ∷ refuses (body (some 1_048_576) 1_048_576) 1 0x010e
     ∷ stream (some 3) "01 01 00 00 01 61 00 01 62 00 01 63" "61 62 63" whole
-    ∷ stream (some 2) "01 01 00 00 01 61 00 01 62 00 01 63" "61 62" (fault 0x010e 11)
-    ∷ stream (some 2) "01 01 00 00 03" "" (fault 0x010e 5)
-    ∷ stream (some 3) "01 01 00 00 04 61" "" (fault 0x010e 5)
-    ∷ stream (some 3) "01 01 00 00 40 04 61" "" (fault 0x010e 6)
+    ∷ stream (some 2) "01 01 00 00 01 61 00 01 62 00 01 63" "61 62" (fault (coded 0x010e) 11)
+    ∷ stream (some 2) "01 01 00 00 03" "" (fault (coded 0x010e) 5)
+    ∷ stream (some 3) "01 01 00 00 04 61" "" (fault (coded 0x010e) 5)
+    ∷ stream (some 3) "01 01 00 00 40 04 61" "" (fault (coded 0x010e) 6)
     ∷ stream (some 1) "01 01 00 21 02 61 62 00 01 63 01 01 00 21 01 64" "63" whole
     ∷ stream (some 1) "01 01 00 00 00 00 01 63 00 00 00 00" "63" whole
     -- position before the sum
@@ -346,40 +346,40 @@ data-sums =
     ∷ refuses opening 1_048_577 0x0105
     ∷ refuses (trailed none 1_048_576) 1 0x0105
     ∷ refuses (trailed (some 2) 2) 0 0x0105
-    ∷ stream (some 2) "01 01 00 00 02 61 62 01 01 00 00 01" "61 62" (fault 0x0105 12)
+    ∷ stream (some 2) "01 01 00 00 02 61 62 01 01 00 00 01" "61 62" (fault (coded 0x0105) 12)
     ∷ []
 
 -- an end inside a frame comes before no header section
 unfoldable pub request-cuts : List Worked
-unfolding hex hexFrom nibble
+unfolding hex hexFrom nibble numberOf rows namedIn named codeIn coded
 request-cuts =
-    behind "" (fault 0x010d 0) ("" ∷ [])
-    ++ behind "" (fault 0x0106 2) ("21 05" ∷ "01 01" ∷ "01 40" ∷ [])
-    ++ behind "" (fault 0x0106 3) ("21 05 00" ∷ "01 02 00" ∷ "21 00 21" ∷ "21 00 40" ∷ [])
-    ++ behind "" (fault 0x010d 4) ("21 00 21 00" ∷ "21 02 61 62" ∷ [])
+    behind "" (fault (coded 0x010d) 0) ("" ∷ [])
+    ++ behind "" (fault (coded 0x0106) 2) ("21 05" ∷ "01 01" ∷ "01 40" ∷ [])
+    ++ behind "" (fault (coded 0x0106) 3) ("21 05 00" ∷ "01 02 00" ∷ "21 00 21" ∷ "21 00 40" ∷ [])
+    ++ behind "" (fault (coded 0x010d) 4) ("21 00 21 00" ∷ "21 02 61 62" ∷ [])
 
 -- a request stream, so many of whose sections are there
 abbrev waiting : (sections : ℕ) (bytes come : String) → Verdict → Worked
 waiting n bytes come v = asks (request-stream none n (hex bytes)) (request-is (hex come) v)
 
 unfoldable pub request-ends : List Worked
-unfolding hex hexFrom nibble
+unfolding hex hexFrom nibble numberOf rows namedIn named codeIn coded
 request-ends =
     -- an end inside a frame comes before an unequal sum
-    stream (some 4) "01 01 00 00 03 61 62" "61 62" (fault 0x0106 7)
-    ∷ stream (some 4) "01 01 00 00 02 61 62 00" "61 62" (fault 0x0106 8)
-    ∷ stream (some 4) "01 01 00 00 02 61 62 01 01" "61 62" (fault 0x0106 9)
-    ∷ stream (some 4) "01 01 00 21 01" "" (fault 0x0106 5)
-    ∷ stream none "01 01 00 00" "" (fault 0x0106 4)
-    ∷ stream none "01 01 00 01 01" "" (fault 0x0106 5)
-    ∷ stream none "01 01 00 00 01" "" (fault 0x0106 5)
+    stream (some 4) "01 01 00 00 03 61 62" "61 62" (fault (coded 0x0106) 7)
+    ∷ stream (some 4) "01 01 00 00 02 61 62 00" "61 62" (fault (coded 0x0106) 8)
+    ∷ stream (some 4) "01 01 00 00 02 61 62 01 01" "61 62" (fault (coded 0x0106) 9)
+    ∷ stream (some 4) "01 01 00 21 01" "" (fault (coded 0x0106) 5)
+    ∷ stream none "01 01 00 00" "" (fault (coded 0x0106) 4)
+    ∷ stream none "01 01 00 01 01" "" (fault (coded 0x0106) 5)
+    ∷ stream none "01 01 00 00 01" "" (fault (coded 0x0106) 5)
     -- the sum
     ∷ stream (some 0) "01 01 00" "" whole
     ∷ stream (some 0) "01 01 00 00 00" "" whole
-    ∷ stream (some 1) "01 01 00" "" (fault 0x010e 3)
-    ∷ stream (some 1) "01 01 00 00 00 21 00" "" (fault 0x010e 7)
-    ∷ stream (some 1_048_576) "01 01 00 00 01 61" "61" (fault 0x010e 6)
-    ∷ stream (some 3) "01 01 00 00 02 61 62 01 01 00" "61 62" (fault 0x010e 10)
+    ∷ stream (some 1) "01 01 00" "" (fault (coded 0x010e) 3)
+    ∷ stream (some 1) "01 01 00 00 00 21 00" "" (fault (coded 0x010e) 7)
+    ∷ stream (some 1_048_576) "01 01 00 00 01 61" "61" (fault (coded 0x010e) 6)
+    ∷ stream (some 3) "01 01 00 00 02 61 62 01 01 00" "61 62" (fault (coded 0x010e) 10)
     ∷ stream (some 2) "01 01 00 00 02 61 62 01 01 00" "61 62" whole
     ∷ stream none "01 01 00 00 02 61 62 01 01 00" "61 62" whole
     -- a section is due and none is there: nothing behind its frame is read
@@ -389,8 +389,8 @@ request-ends =
     ∷ waiting 0 "01 01 00 00 01 61" "" (waits 3)
     ∷ waiting 0 "01 01 00 04 00" "" (waits 3)
     ∷ waiting 0 "01 01 00 00" "" (waits 3)
-    ∷ waiting 0 "01 01" "" (fault 0x0106 2)
-    ∷ waiting 0 "" "" (fault 0x010d 0)
+    ∷ waiting 0 "01 01" "" (fault (coded 0x0106) 2)
+    ∷ waiting 0 "" "" (fault (coded 0x010d) 0)
     ∷ waiting 1 "01 01 00 01 01 00" "" (waits 6)
     ∷ waiting 1 "01 00 01 00" "" (waits 4)
     ∷ waiting 1 "01 01 00 00 01 61 01 01 00 00 00" "61" (waits 9)
@@ -483,112 +483,112 @@ abbrev unexpected-long : List String
 unexpected-long = "00 01 00" ∷ "01 01 00" ∷ "02 01 00" ∷ "04 01 00" ∷ "05 01 00" ∷ "06 01 00" ∷ "08 01 00" ∷ "09 01 00" ∷ []
 
 unfoldable pub control-table : List Worked
-unfolding hex hexFrom nibble
+unfolding hex hexFrom nibble numberOf rows namedIn named codeIn coded
 control-table =
     -- the first frame
-    control-behind "00" (fault 0x0104 3) ("04 00" ∷ [])
-    ++ control-behind "00" (fault 0x010a 3) named-empty
-    ++ control-behind "00" (fault 0x010a 3) named-long
-    ++ control-behind "00" (fault 0x010a 3) others-empty
-    ++ control-behind "00" (fault 0x010a 3) others-long
-    ++ control-behind "00" (fault 0x010a 10) ("FF FF FF FF FF FF FF FF 00" ∷ [])
-    ++ control-behind "00" (fault 0x010a 6) ("80 0F 07 00 02 00 75" ∷ [])
+    control-behind "00" (fault (coded 0x0104) 3) ("04 00" ∷ [])
+    ++ control-behind "00" (fault (coded 0x010a) 3) named-empty
+    ++ control-behind "00" (fault (coded 0x010a) 3) named-long
+    ++ control-behind "00" (fault (coded 0x010a) 3) others-empty
+    ++ control-behind "00" (fault (coded 0x010a) 3) others-long
+    ++ control-behind "00" (fault (coded 0x010a) 10) ("FF FF FF FF FF FF FF FF 00" ∷ [])
+    ++ control-behind "00" (fault (coded 0x010a) 6) ("80 0F 07 00 02 00 75" ∷ [])
     -- 0x010a before all else, but at the header's last byte
-    ++ control-behind "00" (fault 0x010a 3) ("00 3F" ∷ "03 09" ∷ "07 09" ∷ "0D 09" ∷ [])
-    ++ control-behind "00" (fault 0x010a 6) ("01 80 00 40 01" ∷ [])
-    ++ control-behind "00" (fault 0x010a 4) ("05 41 01" ∷ "21 41 01" ∷ "40 07 01" ∷ "41 04 00" ∷ [])
-    ++ control-behind "00" (fault 0x0104 2) ("00" ∷ "07" ∷ "21" ∷ "04" ∷ [])
-    ++ control-behind "00" (fault 0x0104 3) ("07 40" ∷ "40 07" ∷ [])
-    ++ control-behind "00" (fault 0x0104 1) ("" ∷ [])
+    ++ control-behind "00" (fault (coded 0x010a) 3) ("00 3F" ∷ "03 09" ∷ "07 09" ∷ "0D 09" ∷ [])
+    ++ control-behind "00" (fault (coded 0x010a) 6) ("01 80 00 40 01" ∷ [])
+    ++ control-behind "00" (fault (coded 0x010a) 4) ("05 41 01" ∷ "21 41 01" ∷ "40 07 01" ∷ "41 04 00" ∷ [])
+    ++ control-behind "00" (fault (coded 0x0104) 2) ("00" ∷ "07" ∷ "21" ∷ "04" ∷ [])
+    ++ control-behind "00" (fault (coded 0x0104) 3) ("07 40" ∷ "40 07" ∷ [])
+    ++ control-behind "00" (fault (coded 0x0104) 1) ("" ∷ [])
     -- after SETTINGS
-    ++ control-behind "00 04 00" (fault 0x0105 5) unexpected-empty
-    ++ control-behind "00 04 00" (fault 0x0105 5) unexpected-long
-    ++ control-behind "00 04 00" (fault 0x0106 5) ("03 00" ∷ "07 00" ∷ "0D 00" ∷ [])
-    ++ control-behind "00 04 00" (fault 0x0108 6) ("03 01 00" ∷ [])
-    ++ control-behind "00 04 00" (fault 0x0104 6) ("07 01 00" ∷ "0D 01 00" ∷ [])
-    ++ control-behind "00 04 00" (fault 0x0104 5) others-empty
-    ++ control-behind "00 04 00" (fault 0x0104 6) others-long
-    ++ control-behind "00 04 00" (fault 0x0104 12) ("FF FF FF FF FF FF FF FF 00" ∷ [])
-    ++ control-behind "00 04 00" (fault 0x0104 10) ("80 0F 07 00 02 00 75" ∷ [])
+    ++ control-behind "00 04 00" (fault (coded 0x0105) 5) unexpected-empty
+    ++ control-behind "00 04 00" (fault (coded 0x0105) 5) unexpected-long
+    ++ control-behind "00 04 00" (fault (coded 0x0106) 5) ("03 00" ∷ "07 00" ∷ "0D 00" ∷ [])
+    ++ control-behind "00 04 00" (fault (coded 0x0108) 6) ("03 01 00" ∷ [])
+    ++ control-behind "00 04 00" (fault (coded 0x0104) 6) ("07 01 00" ∷ "0D 01 00" ∷ [])
+    ++ control-behind "00 04 00" (fault (coded 0x0104) 5) others-empty
+    ++ control-behind "00 04 00" (fault (coded 0x0104) 6) others-long
+    ++ control-behind "00 04 00" (fault (coded 0x0104) 12) ("FF FF FF FF FF FF FF FF 00" ∷ [])
+    ++ control-behind "00 04 00" (fault (coded 0x0104) 10) ("80 0F 07 00 02 00 75" ∷ [])
     -- position before length; a skipped frame has no limit; inside a frame is 0x0104 too
-    ++ control-behind "00 04 00" (fault 0x0105 6) ("04 41 2C" ∷ "04 41 01" ∷ "00 41 00" ∷ [])
-    ++ control-behind "00 04 00" (fault 0x0105 8) ("01 80 00 40 01" ∷ [])
-    ++ control-behind "00 04 00" (fault 0x0104 12) ("21 FF FF FF FF FF FF FF FF" ∷ [])
-    ++ control-behind "00 04 00" (fault 0x0104 4) ("00" ∷ "04" ∷ "03" ∷ "21" ∷ "40" ∷ [])
-    ++ control-behind "00 04 00" (fault 0x0104 5) ("00 40" ∷ "40 04" ∷ "21 05" ∷ [])
+    ++ control-behind "00 04 00" (fault (coded 0x0105) 6) ("04 41 2C" ∷ "04 41 01" ∷ "00 41 00" ∷ [])
+    ++ control-behind "00 04 00" (fault (coded 0x0105) 8) ("01 80 00 40 01" ∷ [])
+    ++ control-behind "00 04 00" (fault (coded 0x0104) 12) ("21 FF FF FF FF FF FF FF FF" ∷ [])
+    ++ control-behind "00 04 00" (fault (coded 0x0104) 4) ("00" ∷ "04" ∷ "03" ∷ "21" ∷ "40" ∷ [])
+    ++ control-behind "00 04 00" (fault (coded 0x0104) 5) ("00 40" ∷ "40 04" ∷ "21 05" ∷ [])
     -- a skipped frame alters nothing
-    ++ control-behind "00 04 00 21 01 04" (fault 0x0105 8) unexpected-empty
-    ++ control-behind "00 04 00 21 01 04" (fault 0x0104 9) ("07 01 00" ∷ "0D 01 00" ∷ "21 01 00" ∷ [])
+    ++ control-behind "00 04 00 21 01 04" (fault (coded 0x0105) 8) unexpected-empty
+    ++ control-behind "00 04 00 21 01 04" (fault (coded 0x0104) 9) ("07 01 00" ∷ "0D 01 00" ∷ "21 01 00" ∷ [])
     -- types and lengths in other than the shortest form
-    ++ control-behind "00" (fault 0x0104 5) ("40 04 40 00" ∷ [])
-    ++ control-behind "00" (fault 0x0104 17) ("C0 00 00 00 00 00 00 04 C0 00 00 00 00 00 00 00" ∷ [])
-    ++ control-behind "00 04 00" (fault 0x0105 6) ("40 04 00" ∷ "40 00 00" ∷ "04 40 00" ∷ [])
-    ++ control-behind "00 04 00" (fault 0x0104 8) ("40 07 40 01 05" ∷ "40 0D 40 01 05" ∷ "40 21 40 01 05" ∷ [])
-    ++ control-behind "00 04 00" (fault 0x0108 8) ("40 03 40 01 05" ∷ [])
+    ++ control-behind "00" (fault (coded 0x0104) 5) ("40 04 40 00" ∷ [])
+    ++ control-behind "00" (fault (coded 0x0104) 17) ("C0 00 00 00 00 00 00 04 C0 00 00 00 00 00 00 00" ∷ [])
+    ++ control-behind "00 04 00" (fault (coded 0x0105) 6) ("40 04 00" ∷ "40 00 00" ∷ "04 40 00" ∷ [])
+    ++ control-behind "00 04 00" (fault (coded 0x0104) 8) ("40 07 40 01 05" ∷ "40 0D 40 01 05" ∷ "40 21 40 01 05" ∷ [])
+    ++ control-behind "00 04 00" (fault (coded 0x0108) 8) ("40 03 40 01 05" ∷ [])
 
 -- frames that hold exactly one integer, behind SETTINGS
 unfoldable pub one-integer-frames : List Worked
-unfolding hex hexFrom nibble
+unfolding hex hexFrom nibble numberOf rows namedIn named codeIn coded
 one-integer-frames =
     -- length 0 or above 8, at the header
-    control-behind "00 04 00" (fault 0x0106 5) ("03 00" ∷ "07 00" ∷ "0D 00" ∷ "03 09" ∷ "07 09" ∷ "0D 09" ∷ [])
-    ++ control-behind "00 04 00" (fault 0x0106 5) ("03 09 C0 00 00 00 00 00 00 00 00" ∷ "07 09 C0 00 00 00 00 00 00 00 00" ∷ [])
-    ++ control-behind "00 04 00" (fault 0x0106 5) ("0D 09 C0 00 00 00 00 00 00 00 00" ∷ [])
-    ++ control-behind "00 04 00" (fault 0x0106 12) ("03 FF FF FF FF FF FF FF FF" ∷ "07 FF FF FF FF FF FF FF FF" ∷ "0D FF FF FF FF FF FF FF FF" ∷ [])
-    ++ control-behind "00 04 00" (fault 0x0106 6) ("03 40 00" ∷ "07 40 00" ∷ "0D 40 00" ∷ "07 40 09" ∷ [])
+    control-behind "00 04 00" (fault (coded 0x0106) 5) ("03 00" ∷ "07 00" ∷ "0D 00" ∷ "03 09" ∷ "07 09" ∷ "0D 09" ∷ [])
+    ++ control-behind "00 04 00" (fault (coded 0x0106) 5) ("03 09 C0 00 00 00 00 00 00 00 00" ∷ "07 09 C0 00 00 00 00 00 00 00 00" ∷ [])
+    ++ control-behind "00 04 00" (fault (coded 0x0106) 5) ("0D 09 C0 00 00 00 00 00 00 00 00" ∷ [])
+    ++ control-behind "00 04 00" (fault (coded 0x0106) 12) ("03 FF FF FF FF FF FF FF FF" ∷ "07 FF FF FF FF FF FF FF FF" ∷ "0D FF FF FF FF FF FF FF FF" ∷ [])
+    ++ control-behind "00 04 00" (fault (coded 0x0106) 6) ("03 40 00" ∷ "07 40 00" ∷ "0D 40 00" ∷ "07 40 09" ∷ [])
     -- lengths 1, 2, 4 and 8
-    ++ control-behind "00 04 00" (fault 0x0108 6) ("03 01 3F" ∷ [])
-    ++ control-behind "00 04 00" (fault 0x0108 7) ("03 02 40 00" ∷ [])
-    ++ control-behind "00 04 00" (fault 0x0108 9) ("03 04 80 00 00 00" ∷ [])
-    ++ control-behind "00 04 00" (fault 0x0108 13) ("03 08 C0 00 00 00 00 00 00 00" ∷ "03 08 FF FF FF FF FF FF FF FF" ∷ [])
-    ++ control-behind "00 04 00" (fault 0x0104 6) ("07 01 3F" ∷ "0D 01 3F" ∷ [])
-    ++ control-behind "00 04 00" (fault 0x0104 7) ("07 02 40 00" ∷ "0D 02 40 00" ∷ [])
-    ++ control-behind "00 04 00" (fault 0x0104 9) ("07 04 80 00 00 00" ∷ "0D 04 80 00 00 00" ∷ [])
-    ++ control-behind "00 04 00" (fault 0x0104 13) ("07 08 C0 00 00 00 00 00 00 00" ∷ "07 08 FF FF FF FF FF FF FF FF" ∷ [])
-    ++ control-behind "00 04 00" (fault 0x0104 13) ("0D 08 C0 00 00 00 00 00 00 00" ∷ "0D 08 FF FF FF FF FF FF FF FF" ∷ [])
+    ++ control-behind "00 04 00" (fault (coded 0x0108) 6) ("03 01 3F" ∷ [])
+    ++ control-behind "00 04 00" (fault (coded 0x0108) 7) ("03 02 40 00" ∷ [])
+    ++ control-behind "00 04 00" (fault (coded 0x0108) 9) ("03 04 80 00 00 00" ∷ [])
+    ++ control-behind "00 04 00" (fault (coded 0x0108) 13) ("03 08 C0 00 00 00 00 00 00 00" ∷ "03 08 FF FF FF FF FF FF FF FF" ∷ [])
+    ++ control-behind "00 04 00" (fault (coded 0x0104) 6) ("07 01 3F" ∷ "0D 01 3F" ∷ [])
+    ++ control-behind "00 04 00" (fault (coded 0x0104) 7) ("07 02 40 00" ∷ "0D 02 40 00" ∷ [])
+    ++ control-behind "00 04 00" (fault (coded 0x0104) 9) ("07 04 80 00 00 00" ∷ "0D 04 80 00 00 00" ∷ [])
+    ++ control-behind "00 04 00" (fault (coded 0x0104) 13) ("07 08 C0 00 00 00 00 00 00 00" ∷ "07 08 FF FF FF FF FF FF FF FF" ∷ [])
+    ++ control-behind "00 04 00" (fault (coded 0x0104) 13) ("0D 08 C0 00 00 00 00 00 00 00" ∷ "0D 08 FF FF FF FF FF FF FF FF" ∷ [])
     -- an integer that is not the whole payload, once complete
-    ++ control-behind "00 04 00" (fault 0x0106 6) ("03 01 40" ∷ "07 01 40" ∷ "0D 01 40" ∷ "07 01 80" ∷ "07 01 C0" ∷ [])
-    ++ control-behind "00 04 00" (fault 0x0106 7) ("03 02 00 00" ∷ "07 02 00 00" ∷ "0D 02 00 00" ∷ "03 02 80 00" ∷ "07 02 80 00" ∷ "0D 02 C0 00" ∷ [])
-    ++ control-behind "00 04 00" (fault 0x0106 8) ("03 03 40 00 00" ∷ "07 03 40 00 00" ∷ "0D 03 80 00 00" ∷ "07 03 00 00 00" ∷ [])
-    ++ control-behind "00 04 00" (fault 0x0106 9) ("03 04 40 00 00 00" ∷ "07 04 C0 00 00 00" ∷ "0D 04 00 00 00 00" ∷ [])
-    ++ control-behind "00 04 00" (fault 0x0106 10) ("03 05 80 00 00 00 00" ∷ "07 05 80 00 00 00 00" ∷ "0D 05 C0 00 00 00 00" ∷ [])
-    ++ control-behind "00 04 00" (fault 0x0106 11) ("03 06 80 00 00 00 00 00" ∷ "07 06 80 00 00 00 00 00" ∷ "0D 06 C0 00 00 00 00 00" ∷ [])
-    ++ control-behind "00 04 00" (fault 0x0106 12) ("03 07 C0 00 00 00 00 00 00" ∷ "07 07 80 00 00 00 00 00 00" ∷ "0D 07 C0 00 00 00 00 00 00" ∷ [])
-    ++ control-behind "00 04 00" (fault 0x0106 13) ("03 08 80 00 00 00 00 00 00 00" ∷ "07 08 40 00 00 00 00 00 00 00" ∷ "0D 08 00 00 00 00 00 00 00 00" ∷ [])
+    ++ control-behind "00 04 00" (fault (coded 0x0106) 6) ("03 01 40" ∷ "07 01 40" ∷ "0D 01 40" ∷ "07 01 80" ∷ "07 01 C0" ∷ [])
+    ++ control-behind "00 04 00" (fault (coded 0x0106) 7) ("03 02 00 00" ∷ "07 02 00 00" ∷ "0D 02 00 00" ∷ "03 02 80 00" ∷ "07 02 80 00" ∷ "0D 02 C0 00" ∷ [])
+    ++ control-behind "00 04 00" (fault (coded 0x0106) 8) ("03 03 40 00 00" ∷ "07 03 40 00 00" ∷ "0D 03 80 00 00" ∷ "07 03 00 00 00" ∷ [])
+    ++ control-behind "00 04 00" (fault (coded 0x0106) 9) ("03 04 40 00 00 00" ∷ "07 04 C0 00 00 00" ∷ "0D 04 00 00 00 00" ∷ [])
+    ++ control-behind "00 04 00" (fault (coded 0x0106) 10) ("03 05 80 00 00 00 00" ∷ "07 05 80 00 00 00 00" ∷ "0D 05 C0 00 00 00 00" ∷ [])
+    ++ control-behind "00 04 00" (fault (coded 0x0106) 11) ("03 06 80 00 00 00 00 00" ∷ "07 06 80 00 00 00 00 00" ∷ "0D 06 C0 00 00 00 00 00" ∷ [])
+    ++ control-behind "00 04 00" (fault (coded 0x0106) 12) ("03 07 C0 00 00 00 00 00 00" ∷ "07 07 80 00 00 00 00 00 00" ∷ "0D 07 C0 00 00 00 00 00 00" ∷ [])
+    ++ control-behind "00 04 00" (fault (coded 0x0106) 13) ("03 08 80 00 00 00 00 00 00 00" ∷ "07 08 40 00 00 00 00 00 00 00" ∷ "0D 08 00 00 00 00 00 00 00 00" ∷ [])
     -- and not before
-    ++ control-behind "00 04 00" (fault 0x0104 5) ("03 01" ∷ "07 01" ∷ "0D 01" ∷ "03 07" ∷ [])
-    ++ control-behind "00 04 00" (fault 0x0104 6) ("03 02 00" ∷ "07 02 00" ∷ "0D 02 80" ∷ [])
+    ++ control-behind "00 04 00" (fault (coded 0x0104) 5) ("03 01" ∷ "07 01" ∷ "0D 01" ∷ "03 07" ∷ [])
+    ++ control-behind "00 04 00" (fault (coded 0x0104) 6) ("03 02 00" ∷ "07 02 00" ∷ "0D 02 80" ∷ [])
     -- a GOAWAY above an earlier one
-    ++ control-behind "00 04 00 07 01 05" (fault 0x0104 9) ("07 01 05" ∷ "07 01 04" ∷ "07 01 00" ∷ [])
-    ++ control-behind "00 04 00 07 01 05" (fault 0x0104 10) ("07 02 40 05" ∷ [])
-    ++ control-behind "00 04 00 07 01 05" (fault 0x0108 9) ("07 01 06" ∷ "07 01 3F" ∷ [])
-    ++ control-behind "00 04 00 07 01 05" (fault 0x0108 16) ("07 08 C0 00 00 00 00 00 00 06" ∷ "07 08 FF FF FF FF FF FF FF FF" ∷ [])
-    ++ control-behind "00 04 00 07 01 05 07 01 04" (fault 0x0104 12) ("07 01 04" ∷ [])
-    ++ control-behind "00 04 00 07 01 05 07 01 04" (fault 0x0108 12) ("07 01 05" ∷ [])
-    ++ control-behind "00 04 00 07 01 05 21 01 00" (fault 0x0108 12) ("07 01 06" ∷ [])
-    ++ control-behind "00 04 00 07 08 FF FF FF FF FF FF FF FF" (fault 0x0104 16) ("07 01 3F" ∷ [])
+    ++ control-behind "00 04 00 07 01 05" (fault (coded 0x0104) 9) ("07 01 05" ∷ "07 01 04" ∷ "07 01 00" ∷ [])
+    ++ control-behind "00 04 00 07 01 05" (fault (coded 0x0104) 10) ("07 02 40 05" ∷ [])
+    ++ control-behind "00 04 00 07 01 05" (fault (coded 0x0108) 9) ("07 01 06" ∷ "07 01 3F" ∷ [])
+    ++ control-behind "00 04 00 07 01 05" (fault (coded 0x0108) 16) ("07 08 C0 00 00 00 00 00 00 06" ∷ "07 08 FF FF FF FF FF FF FF FF" ∷ [])
+    ++ control-behind "00 04 00 07 01 05 07 01 04" (fault (coded 0x0104) 12) ("07 01 04" ∷ [])
+    ++ control-behind "00 04 00 07 01 05 07 01 04" (fault (coded 0x0108) 12) ("07 01 05" ∷ [])
+    ++ control-behind "00 04 00 07 01 05 21 01 00" (fault (coded 0x0108) 12) ("07 01 06" ∷ [])
+    ++ control-behind "00 04 00 07 08 FF FF FF FF FF FF FF FF" (fault (coded 0x0104) 16) ("07 01 3F" ∷ [])
     -- a MAX_PUSH_ID below an earlier one
-    ++ control-behind "00 04 00 0D 01 05" (fault 0x0104 9) ("0D 01 05" ∷ "0D 01 06" ∷ [])
-    ++ control-behind "00 04 00 0D 01 05" (fault 0x0104 10) ("0D 02 40 05" ∷ [])
-    ++ control-behind "00 04 00 0D 01 05" (fault 0x0108 9) ("0D 01 04" ∷ "0D 01 00" ∷ [])
-    ++ control-behind "00 04 00 0D 01 05 0D 01 06" (fault 0x0108 12) ("0D 01 05" ∷ [])
-    ++ control-behind "00 04 00 0D 01 05 0D 01 06" (fault 0x0104 12) ("0D 01 06" ∷ [])
-    ++ control-behind "00 04 00 0D 08 FF FF FF FF FF FF FF FF" (fault 0x0108 16) ("0D 01 3F" ∷ [])
+    ++ control-behind "00 04 00 0D 01 05" (fault (coded 0x0104) 9) ("0D 01 05" ∷ "0D 01 06" ∷ [])
+    ++ control-behind "00 04 00 0D 01 05" (fault (coded 0x0104) 10) ("0D 02 40 05" ∷ [])
+    ++ control-behind "00 04 00 0D 01 05" (fault (coded 0x0108) 9) ("0D 01 04" ∷ "0D 01 00" ∷ [])
+    ++ control-behind "00 04 00 0D 01 05 0D 01 06" (fault (coded 0x0108) 12) ("0D 01 05" ∷ [])
+    ++ control-behind "00 04 00 0D 01 05 0D 01 06" (fault (coded 0x0104) 12) ("0D 01 06" ∷ [])
+    ++ control-behind "00 04 00 0D 08 FF FF FF FF FF FF FF FF" (fault (coded 0x0108) 16) ("0D 01 3F" ∷ [])
     -- each is compared with its own kind
-    ++ control-behind "00 04 00 07 01 05" (fault 0x0104 9) ("0D 01 04" ∷ "0D 01 06" ∷ [])
-    ++ control-behind "00 04 00 0D 01 05" (fault 0x0104 9) ("07 01 04" ∷ "07 01 06" ∷ [])
-    ++ control-behind "00 04 00 07 01 05 0D 01 09" (fault 0x0108 12) ("07 01 06" ∷ "0D 01 08" ∷ "03 01 00" ∷ [])
+    ++ control-behind "00 04 00 07 01 05" (fault (coded 0x0104) 9) ("0D 01 04" ∷ "0D 01 06" ∷ [])
+    ++ control-behind "00 04 00 0D 01 05" (fault (coded 0x0104) 9) ("07 01 04" ∷ "07 01 06" ∷ [])
+    ++ control-behind "00 04 00 07 01 05 0D 01 09" (fault (coded 0x0108) 12) ("07 01 06" ∷ "0D 01 08" ∷ "03 01 00" ∷ [])
     -- 0x0106 before 0x0108
-    ++ control-behind "00 04 00 07 01 05" (fault 0x0106 8) ("07 00" ∷ "07 09" ∷ [])
-    ++ control-behind "00 04 00 07 01 05" (fault 0x0106 10) ("07 02 06 00" ∷ [])
-    ++ control-behind "00 04 00 0D 01 05" (fault 0x0106 8) ("0D 00" ∷ "0D 09" ∷ [])
-    ++ control-behind "00 04 00 0D 01 05" (fault 0x0106 10) ("0D 02 04 00" ∷ [])
+    ++ control-behind "00 04 00 07 01 05" (fault (coded 0x0106) 8) ("07 00" ∷ "07 09" ∷ [])
+    ++ control-behind "00 04 00 07 01 05" (fault (coded 0x0106) 10) ("07 02 06 00" ∷ [])
+    ++ control-behind "00 04 00 0D 01 05" (fault (coded 0x0106) 8) ("0D 00" ∷ "0D 09" ∷ [])
+    ++ control-behind "00 04 00 0D 01 05" (fault (coded 0x0106) 10) ("0D 02 04 00" ∷ [])
 
 -- ---- SETTINGS
 
 -- a control stream that begins with SETTINGS of each of these payloads, and their verdict at the last payload byte
 abbrev settings : (code : ℕ) → (payloads : List String) → List Worked
-settings code payloads = map (λ p. control-of (0 ∷ 4 ∷ length (hex p) ∷ hex p) (fault code (3 + length (hex p)))) payloads
+settings code payloads = map (λ p. control-of (0 ∷ 4 ∷ length (hex p) ∷ hex p) (fault (coded code) (3 + length (hex p)))) payloads
 
 abbrev tell : String → List Told → Worked
 tell bytes told = asks (one-way-tells (hex bytes)) (tells told)
@@ -676,7 +676,7 @@ abbrev faulty-before-cut : List String
 faulty-before-cut = "02 00 06" ∷ "06 01 06 01 06" ∷ "03 00 40" ∷ "00 00 00 00 02" ∷ []
 
 unfoldable pub settings-payloads : List Worked
-unfolding hex hexFrom nibble
+unfolding hex hexFrom nibble numberOf rows namedIn named codeIn coded
 settings-payloads =
     settings 0x0104 sound-payloads
     ++ settings 0x0106 cut-pairs
@@ -685,19 +685,19 @@ settings-payloads =
     ++ settings 0x0109 faulty-before-cut
 
 unfoldable pub settings-kept : List Worked
-unfolding hex hexFrom nibble
+unfolding hex hexFrom nibble numberOf rows namedIn named codeIn coded
 settings-kept =
     -- judged when complete
-    control "00 04 02 02" (fault 0x0104 4)
-    ∷ control "00 04 03 02 00" (fault 0x0104 5)
-    ∷ control "00 04 02 02 00 00 00" (fault 0x0109 5)
-    ∷ control "00 04 02 06 01 00 00" (fault 0x0105 7)
+    control "00 04 02 02" (fault (coded 0x0104) 4)
+    ∷ control "00 04 03 02 00" (fault (coded 0x0104) 5)
+    ∷ control "00 04 02 02 00 00 00" (fault (coded 0x0109) 5)
+    ∷ control "00 04 02 06 01 00 00" (fault (coded 0x0105) 7)
     -- 256 bytes, and one more
-    ∷ control "00 04 41 00" (fault 0x0104 4)
-    ∷ control "00 04 41 01" (fault 0x0107 4)
-    ∷ control "00 04 FF FF FF FF FF FF FF FF" (fault 0x0107 10)
-    ∷ control-of (hex "00 04 41 00" ++ long-settings) (fault 0x0104 260)
-    ∷ control-of (hex "00 04 41 01" ++ long-settings ++ hex "00") (fault 0x0107 4)
+    ∷ control "00 04 41 00" (fault (coded 0x0104) 4)
+    ∷ control "00 04 41 01" (fault (coded 0x0107) 4)
+    ∷ control "00 04 FF FF FF FF FF FF FF FF" (fault (coded 0x0107) 10)
+    ∷ control-of (hex "00 04 41 00" ++ long-settings) (fault (coded 0x0104) 260)
+    ∷ control-of (hex "00 04 41 01" ++ long-settings ++ hex "00") (fault (coded 0x0107) 4)
     ∷ asks (one-way-tells (hex "00 04 41 00" ++ long-settings)) (tells (told (some 5) 0 6 ∷ []))
     -- what is kept
     ∷ tell "00 04 00" (told none 0 0 ∷ [])
@@ -756,25 +756,25 @@ abbrev judges : Kept → Control → String → Next Control → Worked
 judges k c payload n = asks (control-judges k c (hex payload)) (control-leaves n)
 
 unfoldable pub control-judgements : List Worked
-unfolding hex hexFrom nibble
+unfolding hex hexFrom nibble numberOf rows namedIn named codeIn coded
 control-judgements =
     judges a-settings unset "06 05 01 07 07 09" (go (set client-settings none none))
     ∷ judges a-settings unset "" (go (set absent-settings none none))
     ∷ judges a-settings unset "00 05 21 06" (go (set absent-settings none none))
-    ∷ judges a-settings unset "06 05 02 00" (stop 0x0109)
+    ∷ judges a-settings unset "06 05 02 00" (stop (coded 0x0109))
     ∷ judges goaway (set client-settings none none) "05" (go (set client-settings (some 5) none))
     ∷ judges goaway (set client-settings (some 5) (some 9)) "04" (go (set client-settings (some 4) (some 9)))
     ∷ judges goaway (set client-settings (some 5) (some 4)) "40 05" (go (set client-settings (some 5) (some 4)))
-    ∷ judges goaway (set client-settings (some 5) (some 9)) "06" (stop 0x0108)
-    ∷ judges goaway (set client-settings (some 5) (some 9)) "06 00" (stop 0x0106)
+    ∷ judges goaway (set client-settings (some 5) (some 9)) "06" (stop (coded 0x0108))
+    ∷ judges goaway (set client-settings (some 5) (some 9)) "06 00" (stop (coded 0x0106))
     ∷ judges max-push-id (set client-settings none none) "09" (go (set client-settings none (some 9)))
     ∷ judges max-push-id (set client-settings (some 5) (some 9)) "0A" (go (set client-settings (some 5) (some 10)))
     ∷ judges max-push-id (set client-settings (some 10) (some 9)) "40 09" (go (set client-settings (some 10) (some 9)))
-    ∷ judges max-push-id (set client-settings (some 5) (some 9)) "08" (stop 0x0108)
-    ∷ judges max-push-id (set client-settings (some 5) (some 9)) "08 00" (stop 0x0106)
-    ∷ judges cancel-push (set client-settings none none) "00" (stop 0x0108)
-    ∷ judges cancel-push (set client-settings none none) "00 00" (stop 0x0106)
-    ∷ judges cancel-push (set client-settings none none) "40" (stop 0x0106)
+    ∷ judges max-push-id (set client-settings (some 5) (some 9)) "08" (stop (coded 0x0108))
+    ∷ judges max-push-id (set client-settings (some 5) (some 9)) "08 00" (stop (coded 0x0106))
+    ∷ judges cancel-push (set client-settings none none) "00" (stop (coded 0x0108))
+    ∷ judges cancel-push (set client-settings none none) "00 00" (stop (coded 0x0106))
+    ∷ judges cancel-push (set client-settings none none) "40" (stop (coded 0x0106))
     ∷ []
 
 -- ---- one-way streams
@@ -782,24 +782,24 @@ control-judgements =
 abbrev one-way : (seen : List ℕ) → OneWay → (streams : List String) → List Worked
 one-way seen o streams = map (λ s. asks (one-way-stream seen (hex s)) (one-way-is o)) streams
 
-abbrev closing : (seen : List ℕ) → Option ℕ → (streams : List String) → List Worked
+abbrev closing : (seen : List ℕ) → Option Code → (streams : List String) → List Worked
 closing seen code streams = map (λ s. asks (closes seen (hex s)) (closed-with code)) streams
 
 abbrev ended-control : (place : ℕ) → OneWay
-ended-control place = of-control (record { said = []; verdict = fault 0x0104 place })
+ended-control place = of-control (record { said = []; verdict = fault (coded 0x0104) place })
 
 unfoldable pub one-way-streams : List Worked
-unfolding hex hexFrom nibble
+unfolding hex hexFrom nibble numberOf rows namedIn named codeIn coded
 one-way-streams =
     -- the type, in each size
     one-way [] (ended-control 1) ("00" ∷ [])
     ++ one-way [] (ended-control 2) ("40 00" ∷ [])
     ++ one-way [] (ended-control 4) ("80 00 00 00" ∷ [])
     ++ one-way [] (ended-control 8) ("C0 00 00 00 00 00 00 00" ∷ [])
-    ++ one-way [] (one-way-refused 0x0103 1) ("01" ∷ "01 00" ∷ [])
-    ++ one-way [] (one-way-refused 0x0103 2) ("40 01" ∷ "40 01 04 00" ∷ [])
-    ++ one-way [] (one-way-refused 0x0103 4) ("80 00 00 01" ∷ [])
-    ++ one-way [] (one-way-refused 0x0103 8) ("C0 00 00 00 00 00 00 01" ∷ [])
+    ++ one-way [] (one-way-refused (coded 0x0103) 1) ("01" ∷ "01 00" ∷ [])
+    ++ one-way [] (one-way-refused (coded 0x0103) 2) ("40 01" ∷ "40 01 04 00" ∷ [])
+    ++ one-way [] (one-way-refused (coded 0x0103) 4) ("80 00 00 01" ∷ [])
+    ++ one-way [] (one-way-refused (coded 0x0103) 8) ("C0 00 00 00 00 00 00 01" ∷ [])
     ++ one-way [] (of-qpack encoder []) ("02" ∷ "40 02" ∷ "80 00 00 02" ∷ "C0 00 00 00 00 00 00 02" ∷ [])
     ++ one-way [] (of-qpack decoder []) ("03" ∷ "40 03" ∷ "80 00 00 03" ∷ "C0 00 00 00 00 00 00 03" ∷ [])
     ++ one-way [] passed-over ("04" ∷ "40 04" ∷ "80 00 00 04" ∷ "C0 00 00 00 00 00 00 04" ∷ [])
@@ -810,36 +810,36 @@ one-way-streams =
     ++ one-way [] (of-qpack encoder (hex "20 00 FF")) ("02 20 00 FF" ∷ "40 02 20 00 FF" ∷ [])
     ++ one-way [] (of-qpack decoder (hex "00")) ("03 00" ∷ [])
     ++ one-way [] passed-over ("21 00 00" ∷ "04 07 01" ∷ "3F 04 00" ∷ [])
-    ++ control-behind "40 00" (fault 0x010a 4) ("07 01" ∷ [])
-    ++ control-behind "C0 00 00 00 00 00 00 00" (fault 0x0105 12) ("04 00 04 00" ∷ [])
+    ++ control-behind "40 00" (fault (coded 0x010a) 4) ("07 01" ∷ [])
+    ++ control-behind "C0 00 00 00 00 00 00 00" (fault (coded 0x0105) 12) ("04 00 04 00" ∷ [])
     -- each once
-    ++ one-way (0 ∷ []) (one-way-refused 0x0103 1) ("00" ∷ "00 04 00" ∷ "00 07" ∷ "01" ∷ [])
-    ++ one-way (0 ∷ []) (one-way-refused 0x0103 2) ("40 00" ∷ "40 00 04" ∷ [])
+    ++ one-way (0 ∷ []) (one-way-refused (coded 0x0103) 1) ("00" ∷ "00 04 00" ∷ "00 07" ∷ "01" ∷ [])
+    ++ one-way (0 ∷ []) (one-way-refused (coded 0x0103) 2) ("40 00" ∷ "40 00 04" ∷ [])
     ++ one-way (0 ∷ []) (of-qpack encoder []) ("02" ∷ [])
     ++ one-way (0 ∷ []) (of-qpack decoder []) ("03" ∷ [])
-    ++ one-way (2 ∷ []) (one-way-refused 0x0103 1) ("02" ∷ "02 20" ∷ [])
+    ++ one-way (2 ∷ []) (one-way-refused (coded 0x0103) 1) ("02" ∷ "02 20" ∷ [])
     ++ one-way (2 ∷ []) (of-qpack decoder []) ("03" ∷ [])
     ++ one-way (2 ∷ []) (ended-control 1) ("00" ∷ [])
-    ++ one-way (3 ∷ []) (one-way-refused 0x0103 1) ("03" ∷ "03 00" ∷ [])
+    ++ one-way (3 ∷ []) (one-way-refused (coded 0x0103) 1) ("03" ∷ "03 00" ∷ [])
     ++ one-way (3 ∷ []) (of-qpack encoder []) ("02" ∷ [])
     ++ one-way (3 ∷ 2 ∷ []) (ended-control 3) ("00 04 00" ∷ [])
-    ++ one-way (3 ∷ 2 ∷ 0 ∷ []) (one-way-refused 0x0103 1) ("00" ∷ "01" ∷ "02" ∷ "03" ∷ [])
-    ++ one-way (3 ∷ 2 ∷ 0 ∷ []) (one-way-refused 0x0103 8) ("C0 00 00 00 00 00 00 00" ∷ "C0 00 00 00 00 00 00 03" ∷ [])
+    ++ one-way (3 ∷ 2 ∷ 0 ∷ []) (one-way-refused (coded 0x0103) 1) ("00" ∷ "01" ∷ "02" ∷ "03" ∷ [])
+    ++ one-way (3 ∷ 2 ∷ 0 ∷ []) (one-way-refused (coded 0x0103) 8) ("C0 00 00 00 00 00 00 00" ∷ "C0 00 00 00 00 00 00 03" ∷ [])
     ++ one-way (3 ∷ 2 ∷ 0 ∷ []) passed-over ("04" ∷ "21" ∷ "21 00" ∷ [])
     ++ one-way (3 ∷ 2 ∷ 0 ∷ []) untyped ("" ∷ "40" ∷ [])
     -- ended or reset
-    ++ closing [] (some 0x0104) ("00" ∷ "00 04" ∷ "00 04 00" ∷ "00 04 00 07 01" ∷ "40 00" ∷ "02" ∷ "02 20" ∷ "03" ∷ "40 03 00" ∷ [])
+    ++ closing [] (some (coded 0x0104)) ("00" ∷ "00 04" ∷ "00 04 00" ∷ "00 04 00 07 01" ∷ "40 00" ∷ "02" ∷ "02 20" ∷ "03" ∷ "40 03 00" ∷ [])
     ++ closing [] none ("" ∷ "40" ∷ "80 00 00" ∷ "C0 00 00 00 00 00 00" ∷ "04" ∷ "21" ∷ "21 00 00" ∷ "40 21" ∷ "FF FF FF FF FF FF FF FF" ∷ [])
     ++ closing (3 ∷ 2 ∷ 0 ∷ []) none ("" ∷ "40" ∷ "04" ∷ "21 00" ∷ [])
     -- after a connection fault a later call gives its code
-    ++ closing [] (some 0x010a) ("00 07 01" ∷ "00 21 00" ∷ "40 00 00 00" ∷ [])
-    ++ closing [] (some 0x0105) ("00 04 00 04 00" ∷ [])
-    ++ closing [] (some 0x0106) ("00 04 01 06" ∷ "00 04 00 07 00" ∷ [])
-    ++ closing [] (some 0x0107) ("00 04 41 01" ∷ [])
-    ++ closing [] (some 0x0108) ("00 04 00 03 01 00" ∷ [])
-    ++ closing [] (some 0x0109) ("00 04 02 02 00" ∷ [])
-    ++ closing [] (some 0x0103) ("01" ∷ "40 01" ∷ [])
-    ++ closing (0 ∷ 2 ∷ []) (some 0x0103) ("00" ∷ "02 20" ∷ [])
+    ++ closing [] (some (coded 0x010a)) ("00 07 01" ∷ "00 21 00" ∷ "40 00 00 00" ∷ [])
+    ++ closing [] (some (coded 0x0105)) ("00 04 00 04 00" ∷ [])
+    ++ closing [] (some (coded 0x0106)) ("00 04 01 06" ∷ "00 04 00 07 00" ∷ [])
+    ++ closing [] (some (coded 0x0107)) ("00 04 41 01" ∷ [])
+    ++ closing [] (some (coded 0x0108)) ("00 04 00 03 01 00" ∷ [])
+    ++ closing [] (some (coded 0x0109)) ("00 04 02 02 00" ∷ [])
+    ++ closing [] (some (coded 0x0103)) ("01" ∷ "40 01" ∷ [])
+    ++ closing (0 ∷ 2 ∷ []) (some (coded 0x0103)) ("00" ∷ "02 20" ∷ [])
 
 -- ---- byte classes (RFC 9110 section 5.6.2), and where the rules ask for them
 
@@ -1105,8 +1105,8 @@ malformed-there =
     ∷ []
 
 unfoldable pub malformed-headers : List Worked
-unfolding hex hexFrom nibble ascii
-malformed-headers = header-sections (bad-header 0x010e) (map get-with malformed) ++ header-sections (bad-header 0x010e) malformed-there
+unfolding hex hexFrom nibble ascii numberOf rows namedIn named codeIn coded
+malformed-headers = header-sections (bad-header (coded 0x010e)) (map get-with malformed) ++ header-sections (bad-header (coded 0x010e)) malformed-there
 
 -- what comes behind "these rules", each fault alone: 0x010b
 abbrev not-served : List Section
@@ -1181,11 +1181,11 @@ ill-addressed =
     ∷ []
 
 unfoldable pub refused-headers : List Worked
-unfolding hex hexFrom nibble ascii
+unfolding hex hexFrom nibble ascii numberOf rows namedIn named codeIn coded
 refused-headers =
-    header-sections (bad-header 0x010b) not-served
-    ++ header-sections (bad-header 0x010e) absent
-    ++ header-sections (bad-header 0x010e) ill-addressed
+    header-sections (bad-header (coded 0x010b)) not-served
+    ++ header-sections (bad-header (coded 0x010e)) absent
+    ++ header-sections (bad-header (coded 0x010e)) ill-addressed
 
 -- the size: `get` has 39 bytes, and 16,384 are accepted
 abbrev full : List Section
@@ -1270,18 +1270,18 @@ scheme-first =
 
 -- two faults: which comes first
 unfoldable pub header-order : List Worked
-unfolding hex hexFrom nibble ascii
+unfolding hex hexFrom nibble ascii numberOf rows namedIn named codeIn coded
 header-order =
     header-sections (good-header none) full
-    ++ header-sections (bad-header 0x010e) overfull
-    ++ header-sections (bad-header 0x010e) (map (λ more. asking "CONNECT" "https" "a" "/" ++ more) malformed)
-    ++ header-sections (bad-header 0x010e) (map (λ more. asking "GET" "ftp" "a" "/" ++ more) malformed)
-    ++ header-sections (bad-header 0x010e) malformed-first
-    ++ header-sections (bad-header 0x010b) connect-first
-    ++ header-sections (bad-header 0x010e) absent-first
-    ++ header-sections (bad-header 0x010b) scheme-first
+    ++ header-sections (bad-header (coded 0x010e)) overfull
+    ++ header-sections (bad-header (coded 0x010e)) (map (λ more. asking "CONNECT" "https" "a" "/" ++ more) malformed)
+    ++ header-sections (bad-header (coded 0x010e)) (map (λ more. asking "GET" "ftp" "a" "/" ++ more) malformed)
+    ++ header-sections (bad-header (coded 0x010e)) malformed-first
+    ++ header-sections (bad-header (coded 0x010b)) connect-first
+    ++ header-sections (bad-header (coded 0x010e)) absent-first
+    ++ header-sections (bad-header (coded 0x010b)) scheme-first
     -- the Content-Length limit last
-    ++ header-sections (bad-header 0x010e) (map (λ s. s ++ ("content-length" ⇒ "1048577" ∷ [])) ill-addressed)
+    ++ header-sections (bad-header (coded 0x010e)) (map (λ s. s ++ ("content-length" ⇒ "1048577" ∷ [])) ill-addressed)
 
 abbrev sound-trailers : List Section
 sound-trailers =
@@ -1318,11 +1318,11 @@ no-trailers =
     ∷ []
 
 unfoldable pub trailers-judged : List Worked
-unfolding hex hexFrom nibble ascii
+unfolding hex hexFrom nibble ascii numberOf rows namedIn named codeIn coded
 trailers-judged =
     trailer-sections good-trailer sound-trailers
-    ++ trailer-sections (bad-trailer 0x010e) malformed
-    ++ trailer-sections (bad-trailer 0x010e) no-trailers
+    ++ trailer-sections (bad-trailer (coded 0x010e)) malformed
+    ++ trailer-sections (bad-trailer (coded 0x010e)) no-trailers
 
 -- which byte may stand where
 abbrev header-passes : Header → Bool
@@ -1364,7 +1364,7 @@ abbrev with-sections : List Section → (bytes come : String) → Verdict → Wo
 with-sections sections bytes come v = asks (request-with sections (hex bytes)) (request-is (hex come) v)
 
 unfoldable pub judged-streams : List Worked
-unfolding hex hexFrom nibble ascii
+unfolding hex hexFrom nibble ascii numberOf rows namedIn named codeIn coded
 judged-streams =
     with-sections (get ∷ []) "01 01 00" "" whole
     ∷ with-sections (get ∷ []) "01 01 00 00 02 61 62" "61 62" whole
@@ -1372,39 +1372,39 @@ judged-streams =
     ∷ with-sections (get ∷ ("x" ⇒ "y" ∷ []) ∷ []) "01 00 01 00 21 00" "" whole
     -- the Content-Length that the section states
     ∷ with-sections (stating "3" ∷ []) "01 01 00 00 03 61 62 63" "61 62 63" whole
-    ∷ with-sections (stating "003" ∷ []) "01 01 00 00 04 61 62 63 64" "" (fault 0x010e 5)
-    ∷ with-sections (stating "3" ∷ []) "01 01 00 00 02 61 62" "61 62" (fault 0x010e 7)
-    ∷ with-sections (stating "3" ∷ [] ∷ []) "01 01 00 00 02 61 62 01 01 00" "61 62" (fault 0x010e 10)
+    ∷ with-sections (stating "003" ∷ []) "01 01 00 00 04 61 62 63 64" "" (fault (coded 0x010e) 5)
+    ∷ with-sections (stating "3" ∷ []) "01 01 00 00 02 61 62" "61 62" (fault (coded 0x010e) 7)
+    ∷ with-sections (stating "3" ∷ [] ∷ []) "01 01 00 00 02 61 62 01 01 00" "61 62" (fault (coded 0x010e) 10)
     ∷ with-sections (stating "0" ∷ []) "01 01 00" "" whole
-    ∷ with-sections (stating "1048576" ∷ []) "01 01 00 00 80 10 00 00" "" (fault 0x0106 8)
-    ∷ with-sections (stating "1048576" ∷ []) "01 01 00 00 80 10 00 01" "" (fault 0x010e 8)
-    ∷ with-sections (get ∷ []) "01 01 00 00 80 10 00 01" "" (fault 0x010c 8)
+    ∷ with-sections (stating "1048576" ∷ []) "01 01 00 00 80 10 00 00" "" (fault (coded 0x0106) 8)
+    ∷ with-sections (stating "1048576" ∷ []) "01 01 00 00 80 10 00 01" "" (fault (coded 0x010e) 8)
+    ∷ with-sections (get ∷ []) "01 01 00 00 80 10 00 01" "" (fault (coded 0x010c) 8)
     -- a refused section, at the last byte of its frame
-    ∷ with-sections ([] ∷ []) "01 01 00" "" (fault 0x010e 3)
-    ∷ with-sections (get-with ("te" ⇒ "gzip" ∷ []) ∷ []) "21 00 01 02 00 00 00 00" "" (fault 0x010e 6)
-    ∷ with-sections (asking "CONNECT" "https" "a" "/" ∷ []) "01 00 04 00" "" (fault 0x010b 2)
-    ∷ with-sections (asking "GET" "ftp" "a" "/" ∷ []) "01 01 00" "" (fault 0x010b 3)
-    ∷ with-sections (stating "1048577" ∷ []) "01 01 00" "" (fault 0x010b 3)
-    ∷ with-sections (get-with (raw (ascii "x") (long 16_345) ∷ []) ∷ []) "01 01 00" "" (fault 0x010e 3)
+    ∷ with-sections ([] ∷ []) "01 01 00" "" (fault (coded 0x010e) 3)
+    ∷ with-sections (get-with ("te" ⇒ "gzip" ∷ []) ∷ []) "21 00 01 02 00 00 00 00" "" (fault (coded 0x010e) 6)
+    ∷ with-sections (asking "CONNECT" "https" "a" "/" ∷ []) "01 00 04 00" "" (fault (coded 0x010b) 2)
+    ∷ with-sections (asking "GET" "ftp" "a" "/" ∷ []) "01 01 00" "" (fault (coded 0x010b) 3)
+    ∷ with-sections (stating "1048577" ∷ []) "01 01 00" "" (fault (coded 0x010b) 3)
+    ∷ with-sections (get-with (raw (ascii "x") (long 16_345) ∷ []) ∷ []) "01 01 00" "" (fault (coded 0x010e) 3)
     -- trailers are judged as trailers, whatever is behind them
-    ∷ with-sections (get ∷ get ∷ []) "01 01 00 01 01 00" "" (fault 0x010e 6)
-    ∷ with-sections (get ∷ (":status" ⇒ "200" ∷ []) ∷ []) "01 01 00 00 01 61 01 01 00 00 00" "61" (fault 0x010e 9)
-    ∷ with-sections (stating "3" ∷ ("content-length" ⇒ "3" ∷ []) ∷ []) "01 01 00 00 01 61 01 01 00" "61" (fault 0x010e 9)
+    ∷ with-sections (get ∷ get ∷ []) "01 01 00 01 01 00" "" (fault (coded 0x010e) 6)
+    ∷ with-sections (get ∷ (":status" ⇒ "200" ∷ []) ∷ []) "01 01 00 00 01 61 01 01 00 00 00" "61" (fault (coded 0x010e) 9)
+    ∷ with-sections (stating "3" ∷ ("content-length" ⇒ "3" ∷ []) ∷ []) "01 01 00 00 01 61 01 01 00" "61" (fault (coded 0x010e) 9)
     -- none is there
     ∷ with-sections [] "01 01 00 00 00" "" (waits 3)
     ∷ with-sections (get ∷ []) "01 01 00 01 01 00 00 00" "" (waits 6)
     -- a frame fault comes before any section that is due behind it
-    ∷ with-sections [] "04 00 01 00" "" (fault 0x0105 2)
-    ∷ with-sections (get ∷ []) "01 01 00 01 80 00 40 01" "" (fault 0x0107 8)
+    ∷ with-sections [] "04 00 01 00" "" (fault (coded 0x0105) 2)
+    ∷ with-sections (get ∷ []) "01 01 00 01 80 00 40 01" "" (fault (coded 0x0107) 8)
     ∷ []
 
 -- ---- numbers and what they leave
 
 abbrev has-row : ℕ → Severity → Leaves → Worked
-has-row n s l = asks (number n) (row-is (some (record { number = n; severity = s; leaves = l })))
+has-row n s l = asks (number n) (row-is n (some s) (some l))
 
 abbrev no-row : ℕ → Worked
-no-row n = asks (number n) (row-is none)
+no-row n = asks (number n) (row-is n none none)
 
 unfoldable pub number-rows : List Worked
 number-rows =
@@ -1455,7 +1455,7 @@ abbrev opening-into : (room : ℕ) → Write → Worked
 opening-into room w = asks (writes-opening room) (written-as w)
 
 unfoldable pub frames-written : List Worked
-unfolding hex hexFrom nibble
+unfolding hex hexFrom nibble numberOf rows namedIn named codeIn coded
 frames-written =
     -- a frame header, of any type
     header-into 2 0 0 (wrote (hex "00 00"))
@@ -1525,7 +1525,7 @@ frames-written =
     ∷ opening-into 100 (wrote (hex "00 04 09 01 00 06 80 00 40 00 07 00"))
     ∷ opening-into 11 (refused 7)
     ∷ opening-into 0 (refused 7)
-    ∷ control "00 04 09 01 00 06 80 00 40 00 07 00" (fault 0x0104 12)
+    ∷ control "00 04 09 01 00 06 80 00 40 00 07 00" (fault (coded 0x0104) 12)
     ∷ tell "00 04 09 01 00 06 80 00 40 00 07 00" (told (some 16_384) 0 0 ∷ [])
     ∷ []
 

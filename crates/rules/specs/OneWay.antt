@@ -4,6 +4,7 @@ use mathlib.Core.List.{List, [], _∷_}
 use mathlib.Core.Bool.{true, false}
 use mathlib.Core.Option.{Option, none, some}
 use lib.ListN.{length}
+use Rattle.rules.specs.Numbers.{Code, of-connection, stream-creation-error, closed-critical-stream}
 use Rattle.rules.specs.Text.{isOneOf, lookup}
 use Rattle.rules.specs.Integers.{Int, cut, got, integer}
 use Rattle.rules.specs.Reading.{Verdict, whole, fault, waits, Reading, readFrom}
@@ -18,18 +19,18 @@ pub data Kind : Type 0 where
   skipped : Kind
 
 pub data Typed : Type 0 where
-  refuse : (code : ℕ) → Typed
+  refuse : Code → Typed
   is : Kind → Typed
 
 -- a stream that a connection has once: `seen` are the types of those that came before
 unfoldable pub once : (seen : List ℕ) (type : ℕ) → Kind → Typed
-once seen t k = elim (isOneOf seen t) [ true ↦ refuse 0x0103 | false ↦ is k ]
+once seen t k = elim (isOneOf seen t) [ true ↦ refuse (of-connection stream-creation-error) | false ↦ is k ]
 
 unfoldable pub typeRule : (seen : List ℕ) (type : ℕ) → Typed
 typeRule seen t =
     lookup
     ((0, once seen 0 a-control)
-    ∷ (1, refuse 0x0103)
+    ∷ (1, refuse (of-connection stream-creation-error))
     ∷ (2, once seen 2 (a-qpack encoder))
     ∷ (3, once seen 3 (a-qpack decoder))
     ∷ [])
@@ -39,7 +40,7 @@ typeRule seen t =
 -- What such a stream means.
 pub data OneWay : Type 0 where
   untyped : OneWay  -- its type has not come whole
-  refused : (code place : ℕ) → OneWay  -- at the type's last byte
+  refused : Code → (place : ℕ) → OneWay  -- at the type's last byte
   of-control : Reading → OneWay  -- frames behind the type
   of-qpack : Qpack → (bytes : List ℕ) → OneWay  -- the bytes behind the type
   passed-over : OneWay
@@ -60,14 +61,14 @@ oneWay seen bytes = behind-type seen (length bytes) (integer 0 bytes)
 
 -- Control and QPACK streams may be neither ended nor reset: a control stream's reading says so itself, by its end. The others are freed
 -- without fault, even before their type.
-unfoldable pub faultIn : Verdict → Option ℕ
+unfoldable pub faultIn : Verdict → Option Code
 faultIn whole = none
 faultIn (fault code place) = some code
 faultIn (waits place) = none
 
-unfoldable pub closed : OneWay → Option ℕ
+unfoldable pub closed : OneWay → Option Code
 closed untyped = none
 closed (refused code place) = some code
 closed (of-control r) = faultIn (r .verdict)
-closed (of-qpack q bytes) = some 0x0104
+closed (of-qpack q bytes) = some (of-connection closed-critical-stream)
 closed passed-over = none

@@ -3,6 +3,7 @@
 use Prim.Native.Nat.{ℕ, _+_}
 use mathlib.Core.List.{List, [], _∷_, _++_, map}
 use lib.ListN.{length}
+use Rattle.rules.specs.Numbers.{Code}
 use Rattle.rules.specs.Block.{Section}
 use Rattle.rules.specs.Frames.{Header, Frames, Frames.none as no-more, in-header, in-payload, frame, framesFrom}
 
@@ -25,18 +26,18 @@ pub data Use : Type 0 where
 
 -- A header is refused with a code, or its payload has a use, and P is where the stream then stands.
 pub data Ruling (P : Type 0) : Type 0 where
-  refuse : (code : ℕ) → Ruling P
+  refuse : Code → Ruling P
   accept : Use → P → Ruling P
 
 -- What a judged section or payload leaves.
 pub data Next (P : Type 0) : Type 0 where
-  stop : (code : ℕ) → Next P
+  stop : Code → Next P
   go : P → Next P
 
 -- An end between two frames.
 pub data End : Type 0 where
   complete : End
-  lacking : (code : ℕ) → End
+  lacking : Code → End
 
 pub record Grammar : Type 1 where
   pub P : Type 0  -- where a stream stands between two frames
@@ -45,13 +46,13 @@ pub record Grammar : Type 1 where
   pub given : Part → P → Section → Next P  -- the section that was due
   pub judged : Kept → P → (payload : List ℕ) → Next P
   pub end : P → End  -- an end between two frames
-  pub cut : ℕ  -- the code of an end inside a frame, its header included
+  pub cut : Code  -- the code of an end inside a frame, its header included
 
 -- ---- a reading
 
 pub data Verdict : Type 0 where
   whole : Verdict
-  fault : (code place : ℕ) → Verdict  -- the place counts the bytes up to and including the deciding one
+  fault : Code → (place : ℕ) → Verdict  -- the place counts the bytes up to and including the deciding one
   waits : (place : ℕ) → Verdict  -- a section is due and none is left
 
 -- What a reading says, in order.
@@ -85,7 +86,7 @@ ended (lacking code) place = fault code place
 
 -- What follows a complete payload: a fault, a wait, or the stream goes on with the sections that are left.
 pub data Onward (P : Type 0) : Type 0 where
-  stops : (code : ℕ) → Onward P
+  stops : Code → Onward P
   waiting : Onward P
   on : P → List Section → List Saying → Onward P
 

@@ -5,6 +5,7 @@ use mathlib.Core.Bool.{true, false}
 use mathlib.Core.Option.{Option}
 use lib.Dec.{ltb}
 use Rattle.rules.specs.Text.{lookup}
+use Rattle.rules.specs.Numbers.{Code, of-stream, request-cancelled, request-incomplete, message-error, of-connection, frame-unexpected, frame-error, excessive-load}
 use Rattle.rules.specs.Block.{Section}
 use Rattle.rules.specs.Section.{Judgement, refused, sound, Head, header-section as judge-header-section, trailers as judge-trailers, codeOf as section-code}
 use Rattle.rules.specs.Reading.{Part, header-section, trailers, content, skipped, section, Ruling, refuse, accept, Next, stop, go, End, complete, lacking, Grammar}
@@ -14,11 +15,11 @@ use Rattle.rules.specs.Message.{Message, opening, body, trailed, Reason,
 
 -- What is asked of a section: a code, or for a header section the Content-Length that it states.
 pub data Header : Type 0 where
-  bad : (code : ℕ) → Header
+  bad : Code → Header
   good : (stated : Option ℕ) → Header
 
 pub data Trailer : Type 0 where
-  bad : (code : ℕ) → Trailer
+  bad : Code → Trailer
   good : Trailer
 
 pub record Rules : Type 0 where
@@ -63,18 +64,18 @@ column =
 unfoldable pub kindOf : (type : ℕ) → Kind
 kindOf t = lookup column unknown t
 
-unfoldable pub codeOf : Reason → ℕ
-codeOf out-of-place = 0x0105
-codeOf past-stated = 0x010e
-codeOf past-limit = 0x010c
-codeOf no-section = 0x010d
-codeOf unequal = 0x010e
+unfoldable pub codeOf : Reason → Code
+codeOf out-of-place = of-connection frame-unexpected
+codeOf past-stated = of-stream message-error
+codeOf past-limit = of-stream request-cancelled
+codeOf no-section = of-stream request-incomplete
+codeOf unequal = of-stream message-error
 
 unfoldable pub headers-limit : ℕ
 headers-limit = 16_384
 
 unfoldable pub within-limit : (len : ℕ) → Ruling Message → Ruling Message
-within-limit len r = elim (ltb headers-limit len) [ true ↦ refuse 0x0107 | false ↦ r ]
+within-limit len r = elim (ltb headers-limit len) [ true ↦ refuse (of-connection excessive-load) | false ↦ r ]
 
 unfoldable pub data-rule : Step → Ruling Message
 data-rule (goes m) = accept content m
@@ -89,7 +90,7 @@ headers-rule len (trailed stated sum) = refuse (codeOf out-of-place)
 unfoldable pub ruleFor : Kind → Message → (len : ℕ) → Ruling Message
 ruleFor data· m len = data-rule (carries len m)
 ruleFor headers m len = headers-rule len m
-ruleFor forbidden m len = refuse 0x0105
+ruleFor forbidden m len = refuse (of-connection frame-unexpected)
 ruleFor unknown m len = accept skipped m
 
 unfoldable pub rule : Message → (type len : ℕ) → Ruling Message
@@ -126,5 +127,5 @@ request R = record {
   given = given R;
   judged = λ k m payload. go m;
   end = λ m. end-of (ends m);
-  cut = 0x0106;
+  cut = of-connection frame-error;
 }

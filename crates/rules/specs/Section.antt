@@ -7,6 +7,7 @@ use mathlib.Core.Option.{Option, none, some}
 use lib.Dec.{ltb, eqb}
 use lib.ListN.{length}
 use Rattle.rules.specs.Text.{ascii, any, all, same}
+use Rattle.rules.specs.Numbers.{Code, of-stream, request-rejected, message-error}
 use Rattle.rules.specs.Integers.{largest}
 use Rattle.rules.specs.Block.{Line, Section}
 use Rattle.rules.specs.Classes.{isDigit, isToken, isName, isValue, isBlank}
@@ -252,31 +253,31 @@ trailer-checks =
     ∷ repeated-host-check
     ∷ []
 
-unfoldable pub codeOf : Reason → ℕ
-codeOf too-large = 0x010e
-codeOf bad-bytes = 0x010e
-codeOf unknown-pseudo = 0x010e
-codeOf repeated-pseudo = 0x010e
-codeOf late-pseudo = 0x010e
-codeOf pseudo-in-trailers = 0x010e
-codeOf connection-field = 0x010e
-codeOf other-te = 0x010e
-codeOf bad-method = 0x010e
-codeOf no-method = 0x010e
-codeOf repeated-length = 0x010e
-codeOf length-in-trailers = 0x010e
-codeOf no-digits = 0x010e
-codeOf length-above = 0x010e
-codeOf repeated-host = 0x010e
-codeOf connect = 0x010b
-codeOf no-scheme-or-path = 0x010e
-codeOf other-scheme = 0x010b
-codeOf bad-path = 0x010e
-codeOf no-authority = 0x010e
-codeOf empty-authority = 0x010e
-codeOf authorities-differ = 0x010e
-codeOf at-in-authority = 0x010e
-codeOf length-past-limit = 0x010b
+unfoldable pub codeOf : Reason → Code
+codeOf too-large = of-stream message-error
+codeOf bad-bytes = of-stream message-error
+codeOf unknown-pseudo = of-stream message-error
+codeOf repeated-pseudo = of-stream message-error
+codeOf late-pseudo = of-stream message-error
+codeOf pseudo-in-trailers = of-stream message-error
+codeOf connection-field = of-stream message-error
+codeOf other-te = of-stream message-error
+codeOf bad-method = of-stream message-error
+codeOf no-method = of-stream message-error
+codeOf repeated-length = of-stream message-error
+codeOf length-in-trailers = of-stream message-error
+codeOf no-digits = of-stream message-error
+codeOf length-above = of-stream message-error
+codeOf repeated-host = of-stream message-error
+codeOf connect = of-stream request-rejected
+codeOf no-scheme-or-path = of-stream message-error
+codeOf other-scheme = of-stream request-rejected
+codeOf bad-path = of-stream message-error
+codeOf no-authority = of-stream message-error
+codeOf empty-authority = of-stream message-error
+codeOf authorities-differ = of-stream message-error
+codeOf at-in-authority = of-stream message-error
+codeOf length-past-limit = of-stream request-rejected
 
 -- ---- the judgement
 

@@ -18,7 +18,7 @@ use Rattle.rules.specs.Request as R
 use Rattle.rules.specs.Request.{document, all-sound, request}
 use Rattle.rules.specs.Control as C
 use Rattle.rules.specs.OneWay.{OneWay, untyped, refused, of-control, of-qpack, passed-over, once, typeRule, typed, behind-type, oneWay, faultIn, closed}
-use Rattle.rules.specs.Numbers.{Row, numbers, rowIn, rowOf}
+use Rattle.rules.specs.Numbers.{Code, houseNumber, codeNumber, numberOf, rows as number-rows, namedIn, named, codeIn, coded, Severity, severity, Leaves, houseLeaves, leaves}
 use Rattle.rules.specs.Writer.{Write, wrote, refused as no-write, into, both, write-integer, header-bytes, write-header, integer-frame, write-integer-frame, opening, write-opening, isHigher, badGoaway, write-goaway}
 
 pub data Question : Type 0 where
@@ -59,12 +59,12 @@ pub data Answer : Type 0 where
   one-way-is : OneWay → Answer
   tells : List C.Told → Answer
   control-leaves : Next C.Control → Answer
-  closed-with : Option ℕ → Answer
+  closed-with : Option Code → Answer
   bytes-are : List ℕ → Answer
   header-is : R.Header → Answer
   trailer-is : R.Trailer → Answer
   reason-is : Option S.Reason → Answer
-  row-is : Option Row → Answer
+  row-is : (number : ℕ) → Option Severity → Option Leaves → Answer
 
 -- so many sections, of which nothing is asked
 unfoldable pub sectionsFor : ℕ → List Section
@@ -105,7 +105,7 @@ those test (ℕ.suc n) b = elim (test b) [ true ↦ b ∷ those test n (ℕ.suc 
 
 -- THE RULES' ANSWER
 unfoldable pub answer : Question → Answer
-unfolding ascii nibble hexFrom hex between isOneOf lookup any all same more extra integer rows low inRow inFirst written largest little fields record-of before linesFrom lines isDigit isCapital isSmall isMark isToken isName isValue isBlank S.isEmpty S.begins S.ends S.named S.lineWith S.has S.repeated S.valueOf S.holds S.decimalFrom S.decimal S.pseudo-fields S.connection-fields S.isPseudo S.lineSize S.size S.size-limit S.size-check S.badName S.badValue S.bytes-check S.unknown-check S.repeated-check S.pseudoBehindPlain S.late-check S.in-trailers-check S.connection-check S.te-check S.method-check S.no-method-check S.repeated-length-check S.length-in-trailers-check S.digits-check S.length-above-check S.repeated-host-check S.connect-check S.present-check S.scheme-check S.goodPath S.path-check S.authority-check S.empty-check S.differ-check S.at-check S.length-limit S.length-check S.header-checks S.trailer-checks S.codeOf S.firstBroken S.unless S.methodOf S.statedIn S.header-section S.trailers framesUpTo framesFrom put told ended left-by completed judge readFrom read contents content-limit heads sum-to carries trails tally ends R.header-by R.trailer-by R.document R.all-sound R.column R.kindOf R.codeOf R.headers-limit R.within-limit R.data-rule R.headers-rule R.ruleFor R.rule R.next-of R.headed-by R.trailed-by R.given R.end-of C.no-settings C.set-to C.reserved-identifiers C.pairs C.settings-of C.settings-limit C.column C.ruleFor C.first-rule C.rule C.only C.above C.below C.after-goaway C.after-max-push C.after-integer C.after-settings C.judged C.settings-in C.id-in C.tells once typeRule typed behind-type oneWay faultIn closed numbers rowIn rowOf into both write-integer header-bytes write-header integer-frame write-integer-frame opening write-opening isHigher badGoaway write-goaway sectionBytes headerBytes accepted sectionsFor request-answer verdict-alone tellings said-by those
+unfolding ascii nibble hexFrom hex between isOneOf lookup any all same more extra integer rows low inRow inFirst written largest little fields record-of before linesFrom lines isDigit isCapital isSmall isMark isToken isName isValue isBlank S.isEmpty S.begins S.ends S.named S.lineWith S.has S.repeated S.valueOf S.holds S.decimalFrom S.decimal S.pseudo-fields S.connection-fields S.isPseudo S.lineSize S.size S.size-limit S.size-check S.badName S.badValue S.bytes-check S.unknown-check S.repeated-check S.pseudoBehindPlain S.late-check S.in-trailers-check S.connection-check S.te-check S.method-check S.no-method-check S.repeated-length-check S.length-in-trailers-check S.digits-check S.length-above-check S.repeated-host-check S.connect-check S.present-check S.scheme-check S.goodPath S.path-check S.authority-check S.empty-check S.differ-check S.at-check S.length-limit S.length-check S.header-checks S.trailer-checks S.codeOf S.firstBroken S.unless S.methodOf S.statedIn S.header-section S.trailers framesUpTo framesFrom put told ended left-by completed judge readFrom read contents content-limit heads sum-to carries trails tally ends R.header-by R.trailer-by R.document R.all-sound R.column R.kindOf R.codeOf R.headers-limit R.within-limit R.data-rule R.headers-rule R.ruleFor R.rule R.next-of R.headed-by R.trailed-by R.given R.end-of C.no-settings C.set-to C.reserved-identifiers C.pairs C.settings-of C.settings-limit C.column C.ruleFor C.first-rule C.rule C.only C.above C.below C.after-goaway C.after-max-push C.after-integer C.after-settings C.judged C.settings-in C.id-in C.tells once typeRule typed behind-type oneWay faultIn closed numberOf number-rows namedIn named severity houseLeaves leaves into both write-integer header-bytes write-header integer-frame write-integer-frame opening write-opening isHigher badGoaway write-goaway sectionBytes headerBytes accepted sectionsFor request-answer verdict-alone tellings said-by those
 answer (reads bytes) = read-as (integer 0 bytes)
 answer (writes room value) = written-as (write-integer room value)
 answer (writes-header room type len) = written-as (write-header room type len)
@@ -130,7 +130,7 @@ answer (header-section s) = header-is (document .header s)
 answer (trailers s) = trailer-is (document .trailer s)
 answer (header-reason s) = reason-is (S.firstBroken S.header-checks s)
 answer (trailer-reason s) = reason-is (S.firstBroken S.trailer-checks s)
-answer (number n) = row-is (rowOf n)
+answer (number n) = row-is (numberOf (named n)) (severity (named n)) (leaves (named n))
 
 pub record Worked : Type 0 where
   pub question : Question
@@ -149,7 +149,7 @@ abbrev pub control : (bytes : String) → Verdict → Worked
 control bytes v = record { question = one-way-stream [] (hex bytes); says = one-way-is (of-control (record { said = []; verdict = v })) }
 
 unfoldable pub starred : List Worked
-unfolding hex hexFrom nibble
+unfolding hex hexFrom nibble numberOf number-rows namedIn named codeIn coded
 starred =
     reads-as "25" 37
     ∷ reads-as "40 25" 37
@@ -158,19 +158,19 @@ starred =
     ∷ writes-as 16_384 "80 00 40 00"
     ∷ writes-as 4_611_686_018_427_387_903 "FF FF FF FF FF FF FF FF"
     ∷ record { question = writes 8 4_611_686_018_427_387_904; says = written-as (no-write 8) }
-    ∷ stream none "" "" (fault 0x010d 0)
-    ∷ stream none "00 00" "" (fault 0x0105 2)
+    ∷ stream none "" "" (fault (coded 0x010d) 0)
+    ∷ stream none "00 00" "" (fault (coded 0x0105) 2)
     ∷ stream none "01 01 00" "" whole
-    ∷ stream none "01 01 00 00 03 61 62" "61 62" (fault 0x0106 7)
+    ∷ stream none "01 01 00 00 03 61 62" "61 62" (fault (coded 0x0106) 7)
     ∷ stream (some 3) "01 01 00 00 03 61 62 63" "61 62 63" whole
-    ∷ stream (some 4) "01 01 00 00 03 61 62 63" "61 62 63" (fault 0x010e 8)
-    ∷ stream (some 2) "01 01 00 00 03 61 62 63" "" (fault 0x010e 5)
+    ∷ stream (some 4) "01 01 00 00 03 61 62 63" "61 62 63" (fault (coded 0x010e) 8)
+    ∷ stream (some 2) "01 01 00 00 03 61 62 63" "" (fault (coded 0x010e) 5)
     ∷ stream (some 3) "01 01 00 00 03 61 62 63 00 00 21 00" "61 62 63" whole
-    ∷ stream none "01 01 00 01 01 00 00 00" "" (fault 0x0105 8)
-    ∷ control "00 07 01" (fault 0x010a 3)
-    ∷ control "00 04 04 06 01 06 01" (fault 0x0109 7)
-    ∷ control "00 04 02 03 00" (fault 0x0109 5)
-    ∷ control "00 04 01 06" (fault 0x0106 4)
+    ∷ stream none "01 01 00 01 01 00 00 00" "" (fault (coded 0x0105) 8)
+    ∷ control "00 07 01" (fault (coded 0x010a) 3)
+    ∷ control "00 04 04 06 01 06 01" (fault (coded 0x0109) 7)
+    ∷ control "00 04 02 03 00" (fault (coded 0x0109) 5)
+    ∷ control "00 04 01 06" (fault (coded 0x0106) 4)
     ∷ []
 
 abbrev pub asked : List Worked → List Answer

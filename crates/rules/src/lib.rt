@@ -1,1 +1,44 @@
-// The rules of document 01 are definitions, in specs/. This crate has no code.
+// The rules stand in specs/. Here are the names that the code has for document 01's numbers (specs/Numbers, in the same order).
+pub const ACCEPTED: u64 = 0;
+
+pub const NOT_OPEN: u64 = 1;
+
+pub const NOT_NEXT: u64 = 2;
+
+pub const NO_RECORD: u64 = 3;
+
+pub const SECTION_DUE: u64 = 4;
+
+pub const NONE_DUE: u64 = 5;
+
+pub const UNREADABLE: u64 = 6;
+
+pub const SHORT_ROOM: u64 = 7;
+
+pub const BAD_VALUE: u64 = 8;
+
+pub const NOT_24: u64 = 9;
+
+pub const STREAM_CREATION_ERROR: u64 = 0x0103;
+
+pub const CLOSED_CRITICAL_STREAM: u64 = 0x0104;
+
+pub const FRAME_UNEXPECTED: u64 = 0x0105;
+
+pub const FRAME_ERROR: u64 = 0x0106;
+
+pub const EXCESSIVE_LOAD: u64 = 0x0107;
+
+pub const ID_ERROR: u64 = 0x0108;
+
+pub const SETTINGS_ERROR: u64 = 0x0109;
+
+pub const MISSING_SETTINGS: u64 = 0x010a;
+
+pub const REQUEST_REJECTED: u64 = 0x010b;
+
+pub const REQUEST_CANCELLED: u64 = 0x010c;
+
+pub const REQUEST_INCOMPLETE: u64 = 0x010d;
+
+pub const MESSAGE_ERROR: u64 = 0x010e;

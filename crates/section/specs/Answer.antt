@@ -3,6 +3,7 @@ use Prim.Native.Nat.{ℕ}
 use mathlib.Core.Path.{_≡_, refl, sym, ap, _∙_}
 use mathlib.Core.List.{List}
 use mathlib.Core.Option.{Option, none, some}
+use Rattle.rules.specs.Numbers.{codeNumber}
 use Rattle.rules.specs.Block.{Line, Section, Lines, readable}
 use Rattle.rules.specs.Block as block
 use Rattle.rules.specs.Section as rules
@@ -87,17 +88,17 @@ readTrailers trailer.Sound = judged (sound tt)
 
 unfoldable pub toldNumber : {A : Type 0} → Told A → ℕ
 toldNumber unreadable = 6
-toldNumber (judged (refused r)) = codeOf r
+toldNumber (judged (refused r)) = codeNumber (codeOf r)
 toldNumber (judged (sound a)) = 0
 
 unfoldable pub headerNumber : HeaderAnswer → ℕ
 headerNumber header.Unreadable = 6
-headerNumber (header.Refused r) = codeOf (reasonOf r)
+headerNumber (header.Refused r) = codeNumber (codeOf (reasonOf r))
 headerNumber (header.Sound method end s) = 0
 
 unfoldable pub trailerNumber : TrailerAnswer → ℕ
 trailerNumber trailer.Unreadable = 6
-trailerNumber (trailer.Refused r) = codeOf (reasonOf r)
+trailerNumber (trailer.Refused r) = codeNumber (codeOf (reasonOf r))
 trailerNumber trailer.Sound = 0
 
 pub header-number : (block : List ℕ) (a : HeaderAnswer) → headerNumber a ≡ toldNumber (readHeader block a)

@@ -11,6 +11,7 @@ ghost use lib.Dec.{T};
 ghost use lib.ListN.{length};
 ghost use Rattle.rules.specs.Text.{same, all};
 ghost use Rattle.rules.specs.Block.{lines};
+ghost use Rattle.rules.specs.Numbers.{codeNumber};
 ghost use Rattle.rules.specs.Section.{isEmpty, holds, valueOf, firstBroken, length-check, header-checks, statedIn, sound, codeOf};
 ghost use Rattle.fields.specs.Bytes.{isIn};
 ghost use Rattle.fields.specs.Table.{allRight};
@@ -478,7 +479,7 @@ pub enum Reason {
 
 // The code of a refusal.
 pub fn code(reason: Reason) -> u64
-    ensures { λ r. ⌜ r ≡ codeOf (reasonOf reason) ⌝ }
+    ensures { λ r. ⌜ r ≡ codeNumber (codeOf (reasonOf reason)) ⌝ }
 {
     match reason {
         Reason::Connect | Reason::OtherScheme | Reason::LengthPastLimit => 0x010b,

@@ -2,8 +2,8 @@
 use mathlib.Core.Path.{_≡_, refl, ap, _∙_}
 use Prim.Native.Nat.{ℕ}
 use mathlib.Core.Option.{Option, none, some}
-use Rattle.rules.specs.Reading.{Next, stop, go}
 use Rattle.rules.specs.Control.{Settings}
+use Rattle.meaning.specs.NumberLaws.{Numbered, stops, goes}
 use Rattle.settings.specs.declared.SectionSize.{SectionSize}
 use Rattle.settings.specs.declared.SectionSize.the-variants.{Unlimited, AtMost}
 use Rattle.settings.specs.declared.Settings as kept
@@ -19,9 +19,9 @@ sizeIs (AtMost n) = some n
 abbrev pub settingsIs : kept.Settings → Settings
 settingsIs s = record { section-size = sizeIs (s .size); table-capacity = s .capacity; blocked-streams = s .blocked }
 
-abbrev pub judgedIs : Judged → Next Settings
-judgedIs (Refused code) = stop code
-judgedIs (Kept s) = go (settingsIs s)
+abbrev pub judgedIs : Judged → Numbered Settings
+judgedIs (Refused number) = stops number
+judgedIs (Kept s) = goes (settingsIs s)
 
 abbrev pub singleIs : Single → Option ℕ
 singleIs (Is v) = some v

@@ -10,6 +10,7 @@ use Rattle.rules.specs.Text.{isOneOf}
 use Rattle.rules.specs.Integers.{cut, got, integer}
 use Rattle.rules.specs.Reading.{Next}
 use Rattle.rules.specs.Control.{Settings, pairs}
+use Rattle.meaning.specs.NumberLaws.{numbered}
 use Rattle.settings.specs.declared.Judged.{Judged}
 use Rattle.settings.specs.declared.Found.{Found}
 use Rattle.settings.specs.declared.Found.the-variants as found
@@ -67,4 +68,4 @@ rest seen s bs = pairs (length bs) seen s bs
 
 -- the answer at a place that is reached with s kept
 abbrev pub Walked : List ℕ → (at : ℕ) → Settings → Judged → Type 0
-Walked l at s r = (seen : List ℕ) → Passed l 0 at [] seen → judgedIs r ≡ rest seen s (drop at l)
+Walked l at s r = (seen : List ℕ) → Passed l 0 at [] seen → judgedIs r ≡ numbered (rest seen s (drop at l))

@@ -8,6 +8,7 @@ use mathlib.Core.Bool.{Bool, true, false, _||_}
 use lib.Dec.{eqb, lit≤}
 use lib.ListN.{length, drop, length-drop, drop-of-length-le}
 use borrow.Author.Tests.{eq-eqb, ne-eqb, eqb-true}
+use Rattle.rules.specs.Numbers.{FRAME-ERROR, SETTINGS-ERROR, of-connection, frame-error, settings-error, codeNumber}
 use Rattle.rules.specs.Text.{isOneOf}
 use Rattle.rules.specs.Integers.{Int, cut, got, more, extra, integer}
 use Rattle.rules.specs.Reading.{Next, stop}
@@ -18,6 +19,7 @@ use Rattle.settings.specs.declared.Settings as kept
 use Rattle.settings.specs.declared.Judged.{Judged}
 use Rattle.settings.specs.declared.Judged.the-variants.{Refused, Kept}
 use Rattle.settings.specs.Answers.{judgedIs, settingsIs}
+use Rattle.meaning.specs.NumberLaws.{numbered}
 use Rattle.settings.specs.Walk.{IsPair, IsCut, identifier-cut, value-cut, Passed, nothing, pair, Looked, made, chosen, rest, Walked}
 
 -- ---- an integer read further on is the same, its place further on
@@ -83,7 +85,7 @@ not-both l {i = i} {v = v} {to = to} p (value-cut {identifier = j} {middle = m} 
     omega arith
 
 -- the rule goes by one pair
-pairs-cut : (l : List ℕ) (at : ℕ) (seen : List ℕ) (s : Settings) (bs : List ℕ) → drop at l ≡ bs → at < length l → IsCut l at → rest seen s bs ≡ stop 0x0106
+pairs-cut : (l : List ℕ) (at : ℕ) (seen : List ℕ) (s : Settings) (bs : List ℕ) → drop at l ≡ bs → at < length l → IsCut l at → rest seen s bs ≡ stop (of-connection frame-error)
 unfolding pairs
 pairs-cut l at seen s [] d h c = let n = length-drop at l in let z : length (drop at l) ≡ 0 = ap length d in absurd (omega arith)
 pairs-cut l at seen s (b ∷ bs) d h (identifier-cut e) =
@@ -95,7 +97,7 @@ pairs-cut l at seen s (b ∷ bs) d h (value-cut {middle = m} e f) =
     rw (x .is, pairs) (rw y)
 
 pairs-pair : (l : List ℕ) (at : ℕ) (seen : List ℕ) (s : Settings) {i v to : ℕ} (bs : List ℕ) → drop at l ≡ bs → IsPair l at i v to
-    → rest seen s bs ≡ elim (isOneOf reserved-identifiers i || isOneOf seen i) [ true ↦ stop 0x0109 | false ↦ rest (i ∷ seen) (set-to i v s) (drop to l) ]
+    → rest seen s bs ≡ elim (isOneOf reserved-identifiers i || isOneOf seen i) [ true ↦ stop (of-connection settings-error) | false ↦ rest (i ∷ seen) (set-to i v s) (drop to l) ]
 unfolding pairs
 pairs-pair l at seen s {i} {v} {to} [] d p =
     let n = pair-shortens l p in let m = length-drop at l in let z : length (drop at l) ≡ 0 = ap length d in absurd (omega arith)
@@ -105,7 +107,7 @@ pairs-pair l at seen s {i} {v} {to} (b ∷ bs) d p =
     let n = integer-length at (drop at l) (p .identifies) in
     let m = integer-length (p .middle) (drop (p .middle) l) (p .holds) in
     let k : length (drop at l) ≡ suc (length bs) = ap length d in
-    rw (x .is, pairs) (rw (y .is) (ap (λ (r : Next Settings). elim (isOneOf reserved-identifiers i || isOneOf seen i) [ true ↦ stop 0x0109 | false ↦ r ])
+    rw (x .is, pairs) (rw (y .is) (ap (λ (r : Next Settings). elim (isOneOf reserved-identifiers i || isOneOf seen i) [ true ↦ stop (of-connection settings-error) | false ↦ r ])
     (pairs-enough (length bs) (length (drop to l)) (i ∷ seen) (set-to i v s) (drop to l) (omega arith) (omega arith))))
 
 -- ---- looking again
@@ -163,22 +165,24 @@ module _ (l : List ℕ) where
 
 module _ (l : List ℕ) (at : ℕ) (s : Settings) where
   pub walk-end : (k : kept.Settings) → length l ≤ at → settingsIs k ≡ s → Walked l at s (Kept k)
-  unfolding pairs
+  unfolding pairs numbered
   walk-end k h e seen q = rw (drop-of-length-le l h, e)
 
-  pub walk-cut : at < length l → IsCut l at → Walked l at s (Refused 0x0106)
-  walk-cut h c seen q = sym (pairs-cut l at seen s (drop at l) refl h c)
+  pub walk-cut : at < length l → IsCut l at → Walked l at s (Refused FRAME-ERROR)
+  unfolding numbered
+  walk-cut h c seen q = sym (ap numbered (pairs-cut l at seen s (drop at l) refl h c))
 
-  pub walk-reserved : {i v to : ℕ} → IsPair l at i v to → isOneOf reserved-identifiers i ≡ true → Walked l at s (Refused 0x0109)
-  walk-reserved p e seen q = sym (pairs-pair l at seen s (drop at l) refl p ∙ rw e refl)
+  pub walk-reserved : {i v to : ℕ} → IsPair l at i v to → isOneOf reserved-identifiers i ≡ true → Walked l at s (Refused SETTINGS-ERROR)
+  unfolding numbered
+  walk-reserved p e seen q = sym (ap numbered (pairs-pair l at seen s (drop at l) refl p) ∙ rw e refl)
 
-  pub walk-seen : {i v to : ℕ} → IsPair l at i v to → isOneOf reserved-identifiers i ≡ false → Looked l 0 at i true → Walked l at s (Refused 0x0109)
-  unfolding isOneOf
-  walk-seen p e k seen q = let f = k [] seen q in sym (pairs-pair l at seen s (drop at l) refl p ∙ rw (e, f) refl)
+  pub walk-seen : {i v to : ℕ} → IsPair l at i v to → isOneOf reserved-identifiers i ≡ false → Looked l 0 at i true → Walked l at s (Refused SETTINGS-ERROR)
+  unfolding isOneOf numbered
+  walk-seen p e k seen q = let f = k [] seen q in sym (ap numbered (pairs-pair l at seen s (drop at l) refl p) ∙ rw (e, f) refl)
 
   pub walk-on : {i v to : ℕ} (r : Judged) (u : Settings) → IsPair l at i v to → isOneOf reserved-identifiers i ≡ false → Looked l 0 at i false → u ≡ set-to i v s → Walked l to u r → Walked l at s r
   unfolding isOneOf
-  walk-on {i = i} r u p e k a w seen q = let f = k [] seen q in w (i ∷ seen) (passed-more l q p) ∙ sym (pairs-pair l at seen s (drop at l) refl p ∙ rw (e, f, a) refl)
+  walk-on {i = i} r u p e k a w seen q = let f = k [] seen q in w (i ∷ seen) (passed-more l q p) ∙ sym (ap numbered (pairs-pair l at seen s (drop at l) refl p) ∙ rw (e, f, a) refl)
 
 -- identifiers 2 to 5
 pub is-reserved : (i : ℕ) → 2 ≤ i → i ≤ 5 → true ≡ isOneOf reserved-identifiers i
@@ -210,6 +214,6 @@ pub set-made : (i v : ℕ) (limited : Bool) (n c b : ℕ) {size capacity blocked
 set-made i v limited n c b e f g = rw (e, f, g) (set-by i v limited n c b (eqb i 6) (eqb i 1) (eqb i 7) refl refl refl)
 
 -- from the beginning, with nothing kept
-pub judge-is : (l : List ℕ) (r : Judged) → Walked l 0 (made false 0 0 0) r → judgedIs r ≡ settings-of l
+pub judge-is : (l : List ℕ) (r : Judged) → Walked l 0 (made false 0 0 0) r → judgedIs r ≡ numbered (settings-of l)
 unfolding settings-of no-settings
 judge-is l r w = w [] nothing

@@ -3,6 +3,7 @@ ghost use mathlib.Core.Path.{_≡_};
 ghost use Rattle.rules.specs.Text.{isOneOf};
 ghost use Rattle.rules.specs.Integers.{integer};
 ghost use Rattle.rules.specs.Control.{reserved-identifiers, settings-of, only as the-only};
+ghost use Rattle.meaning.specs.NumberLaws.{numbered};
 ghost use Rattle.settings.specs.Answers.{judgedIs, singleIs, settingsIs};
 ghost use Rattle.settings.specs.Walk.{FoundAt, Looked, Walked, chosen, made};
 
@@ -158,7 +159,7 @@ fn walk(payload: &[u8], at: usize, limited: bool, size: u64, capacity: u64, bloc
 
 // A complete SETTINGS payload.
 pub fn judge(payload: &[u8]) -> Judged
-    ensures { λ r. ⌜ judgedIs r ≡ settings-of (now (payload .entry)) ⌝ }
+    ensures { λ r. ⌜ judgedIs r ≡ numbered (settings-of (now (payload .entry))) ⌝ }
 {
     walk(payload, 0, false, 0, 0, 0)
 }

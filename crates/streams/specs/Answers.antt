@@ -6,6 +6,7 @@ use mathlib.Core.List.{List, [], _++_}
 use mathlib.Core.Bool.{true, false}
 use mathlib.Core.Logic.{_⊎_}
 use lib.ListN.{length, take, drop}
+use Rattle.rules.specs.Numbers.{codeNumber, coded}
 use Rattle.rules.specs.Reading.{header-section, trailers, Kept, settings, goaway, max-push-id, cancel-push, content, skipped, section, kept}
 use Rattle.meaning.specs.Machine.{State, in-type, in-length, in-payload, due, lives, dies, over}
 use Rattle.meaning.specs.Feed.{quiet, section-bytes, content-bytes, Feeding, halt, over-event, feed}
@@ -72,7 +73,7 @@ answerAt zero start len used heads c p k s = record { used = used; heads = heads
 answerAt (suc zero) start len used heads c p k s = record { used = used; heads = heads; event = content-bytes len; after = lives (stateOf c p k) }
 answerAt (suc (suc zero)) start len used heads c p k s = record { used = used; heads = heads; event = section-bytes len false; after = lives (stateOf c p k) }
 answerAt (suc (suc (suc zero))) start len used heads c p k s = record { used = used; heads = heads; event = section-bytes len true; after = lives (stateOf c p k) }
-answerAt (suc (suc (suc (suc zero)))) start len used heads c p k s = record { used = used; heads = heads; event = quiet; after = dies len }
+answerAt (suc (suc (suc (suc zero)))) start len used heads c p k s = record { used = used; heads = heads; event = quiet; after = dies (coded len) }
 answerAt (suc (suc (suc (suc (suc zero))))) start len used heads c p k s = past used heads (judgedAs both 0 p (keptAt (c .mode)) (k ++ take len (drop start s)))
 answerAt (suc (suc (suc (suc (suc (suc e)))))) start len used heads c p k s =
     record { used = used; heads = heads; event = quiet; after = lives (stateOf c p (k ++ take len (drop start s))) }
@@ -109,6 +110,7 @@ pub record Answers (c : Cells) (s : List ℕ) (fresh : ℕ) (want : (rest : ℕ)
   pub phase : r .cells .phase ≡ c .phase
   pub known : r .event ≤ 6
   pub held : r .event ≡ 6 → 8 ≤ r .cells .mode  -- a part is kept of a kept payload alone
+  pub listed : r .event ≡ 4 → codeNumber (coded (r .len)) ≡ r .len  -- a fault's number is a code's
 
 -- ---- a payload that is handed on or kept, by its mode
 

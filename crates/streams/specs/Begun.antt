@@ -4,7 +4,7 @@ use Prim.Native.Nat.{ℕ, zero, suc, _+_, _-_, _≤_, _<_, _^_, zero-le}
 use native.Mathlib.Nat.{add-zero, sub-zero}
 use native.Mathlib.Omega.{arith}
 use mathlib.Core.List.{List, []}
-use mathlib.Core.Logic.{inl}
+use mathlib.Core.Logic.{inl, inr}
 use lib.ListN.{length, drop, drop-of-length-le}
 use Rattle.rules.specs.Integers.{Int, cut, got, integer}
 use Rattle.rules.specs.Reading.{skipped}
@@ -20,7 +20,7 @@ use Rattle.streams.specs.declared.Start.{Start}
 use Rattle.streams.specs.Both.{Place, rule, both}
 use Rattle.streams.specs.Uses.{placeOf, numberOf, rulingAt, ruling-back, number-stands}
 use Rattle.streams.specs.Heads.{headState, goesOn, headGoes, GoodHead, HeadRead}
-use Rattle.streams.specs.Stops.{headerOf, payloadOf, stopOf, not-header, Unready, Lawful}
+use Rattle.streams.specs.Stops.{headerOf, payloadOf, stopOf, not-header, Unready, Lawful, nothing-lawful}
 use Rattle.streams.specs.Answers.{stateAt, stateOf, placeIn, StandsIn, answerAt, Sane, Numbers, Answers, place-same, answer}
 use Rattle.streams.specs.Handed.{behind}
 use Rattle.streams.specs.Stopped.{moreSum, fromStop}
@@ -119,6 +119,7 @@ cut-answer c s to heads r d w g u h q =
       phase = refl;
       known = omega arith;
       held = λ e. absurd (omega arith);
+      listed = λ e. absurd (omega arith);
     })
 
 pub stop-cut : (c : Cells) (s : List ℕ) (to heads number len rest : ℕ) {r : Answer} → number ≡ 9 → (rest ≡ 0 → ⊥) → Answers c s 1 (fromCut s to heads) r → Answers c s 1 (fromStop s to heads number len rest) r
@@ -133,6 +134,7 @@ stop-cut c s to heads number len rest e n0 a =
       phase = a .phase;
       known = a .known;
       held = a .held;
+      listed = a .listed;
     }
 
 pub numbers-more : (c d : Cells) (len : ℕ) → d ≡ moreSum c len → c .sum + len ≤ 2 ^ 62 → c .stated ≤ 2 ^ 62 → Numbers d
@@ -186,7 +188,7 @@ module _ (c : Cells) (s : List ℕ) (allow : ℕ) (sane : Sane c) where
         sane = sane;
         place = λ p. refl;
         phase = refl;
-        lawful = λ e. absurd (omega arith);
+        lawful = nothing-lawful (c .phase) (c .sum) (c .acc) (inl refl);
       }
 
   pub begin-fresh : c .mode ≡ 0 → c .due ≡ 0 → Started c s allow (start 0 0 0 0 c)
@@ -200,7 +202,7 @@ module _ (c : Cells) (s : List ℕ) (allow : ℕ) (sane : Sane c) where
     sane = sane;
     place = λ p. refl;
     phase = refl;
-    lawful = λ e. absurd (omega arith);
+    lawful = nothing-lawful (c .phase) (c .sum) 0 (inl refl);
   }
 
   head-held : (mode a d t : ℕ) (p : Place) → mode < 2 → feed both 0 (headState mode a d t p) s ≡ halt quiet (lives (headState mode a d t p))
@@ -219,7 +221,7 @@ module _ (c : Cells) (s : List ℕ) (allow : ℕ) (sane : Sane c) where
     sane = sane;
     place = λ p. refl;
     phase = refl;
-    lawful = λ e. absurd (omega arith);
+    lawful = nothing-lawful (c .phase) (c .sum) 0 (inr refl);
   }
 
   abbrev pub cellsHead : Head
@@ -249,7 +251,7 @@ module _ (c : Cells) (s : List ℕ) (allow : ℕ) (sane : Sane c) where
         sane = head-sane (r .head) c (h .good) q (sane .sums, sane .stateds);
         place = λ p. refl;
         phase = refl;
-        lawful = λ x. absurd (omega arith);
+        lawful = nothing-lawful (c .phase) (c .sum) 0 (inr refl);
       })
 
   whole-goes : (n mode a d t : ℕ) (p : Place) (bs : List ℕ) → mode ≡ 2 → goesOn n mode a d t p bs ≡ past 0 1 (behind-header both a (rule p t a) (λ x. feed both n x bs))

@@ -3,6 +3,7 @@
 use mathlib.Core.Path.{_≡_, refl}
 use Prim.Native.Nat.{ℕ}
 use mathlib.Core.List.{List}
+use Rattle.rules.specs.Numbers.{of-connection, frame-error}
 use Rattle.rules.specs.Reading.{Kept, Ruling, Next, go, complete, Grammar}
 use Rattle.rules.specs.Message.{Message, opening}
 use Rattle.rules.specs.Request.{Rules, request, rule as request-rule}
@@ -24,7 +25,7 @@ judged k (of-request m) payload = go (of-request m)
 judged k (of-control c) payload = map-next of-control (control-judged k c payload)
 
 abbrev pub both : Grammar
-both = record { P = Place; start = of-request opening; rule = rule; given = λ t p s. go p; judged = judged; end = λ p. complete; cut = 0 }
+both = record { P = Place; start = of-request opening; rule = rule; given = λ t p s. go p; judged = judged; end = λ p. complete; cut = of-connection frame-error }
 
 request-carries : (R : Rules) → Carries (request R) both of-request
 unfolding rule judged map-next

@@ -4,6 +4,7 @@ use Prim.Native.Nat.{ℕ, zero, suc, _≤_, _<_}
 use native.Mathlib.Omega.{arith}
 use mathlib.Core.List.{List}
 use borrow.Author.Tests.{eq-eqb, ne-eqb}
+use Rattle.rules.specs.Numbers.{CLOSED-CRITICAL-STREAM, FRAME-ERROR, REQUEST-INCOMPLETE, MESSAGE-ERROR, of-connection, closed-critical-stream, codeNumber}
 use Rattle.rules.specs.Reading.{End, complete, lacking, Verdict, whole, fault, waits, ended}
 use Rattle.rules.specs.Message.{Message, unequal, all-come, lacks, ends, tally}
 use Rattle.rules.specs.Request.{Rules, request, end-of, codeOf}
@@ -22,21 +23,21 @@ use Rattle.streams.specs.Answers.{stateAt, stateOf, StandsIn}
 -- 0 whole, 4 a section is due, else the code
 unfoldable pub verdictNumber : Verdict → ℕ
 verdictNumber whole = 0
-verdictNumber (fault code place) = code
+verdictNumber (fault code place) = codeNumber code
 verdictNumber (waits place) = 4
 
 unfoldable pub endNumber : End → ℕ
 endNumber complete = 0
-endNumber (lacking code) = code
+endNumber (lacking code) = codeNumber code
 
 -- between two frames, and inside one
 unfoldable pub endAt : Place → End
 endAt (of-request m) = end-of (ends m)
-endAt (of-control c) = lacking 0x0104
+endAt (of-control c) = lacking (of-connection closed-critical-stream)
 
 unfoldable pub cutAt : Place → ℕ
-cutAt (of-request m) = 0x0106
-cutAt (of-control c) = 0x0104
+cutAt (of-request m) = FRAME-ERROR
+cutAt (of-control c) = CLOSED-CRITICAL-STREAM
 
 unfoldable pub endOf : State Place → ℕ
 endOf (in-type fresh p) = endNumber (endAt p)
@@ -79,7 +80,7 @@ abbrev pub tallyOf : (phase has stated sum : ℕ) → ℕ
 tallyOf phase has stated sum = endNumber (endAt (placeOf phase has stated sum))
 
 module _ (h n m : ℕ) where
-  pub tally-control : (phase : ℕ) → 2 < phase → 0x0104 ≡ tallyOf phase h n m
+  pub tally-control : (phase : ℕ) → 2 < phase → CLOSED-CRITICAL-STREAM ≡ tallyOf phase h n m
   unfolding endNumber endAt placeOf
   tally-control zero l = absurd (omega arith)
   tally-control (suc zero) l = absurd (omega arith)
@@ -87,7 +88,7 @@ module _ (h n m : ℕ) where
   tally-control (suc (suc (suc zero))) l = refl
   tally-control (suc (suc (suc (suc k)))) l = refl
 
-  pub tally-opening : (phase : ℕ) → phase ≡ 0 → 0x010d ≡ tallyOf phase h n m
+  pub tally-opening : (phase : ℕ) → phase ≡ 0 → REQUEST-INCOMPLETE ≡ tallyOf phase h n m
   unfolding endNumber endAt placeOf end-of ends codeOf
   tally-opening phase e = rw e refl
 
@@ -126,7 +127,7 @@ equal-tally : (n m : ℕ) → m ≡ n → 0 ≡ endNumber (end-of (tally (stated
 unfolding endNumber end-of
 equal-tally n m e = sym (ap (λ t. endNumber (end-of t)) (equal-all n m e))
 
-unequal-tally : (n m : ℕ) → (m ≡ n → ⊥) → 0x010e ≡ endNumber (end-of (tally (statedOf 1 n) m))
+unequal-tally : (n m : ℕ) → (m ≡ n → ⊥) → MESSAGE-ERROR ≡ endNumber (end-of (tally (statedOf 1 n) m))
 unfolding endNumber end-of codeOf
 unequal-tally n m e = sym (ap (λ t. endNumber (end-of t)) (unequal-lacks n m e))
 
@@ -134,7 +135,7 @@ module _ (h n m : ℕ) (z : h ≡ 0 → ⊥) (phase : ℕ) (b : Behind h n m pha
   pub tally-equal : m ≡ n → 0 ≡ tallyOf phase h n m
   tally-equal e = equal-tally n m e ∙ stated-some h n m z ∙ tally-behind h n m phase (b .0) (b .1)
 
-  pub tally-unequal : (m ≡ n → ⊥) → 0x010e ≡ tallyOf phase h n m
+  pub tally-unequal : (m ≡ n → ⊥) → MESSAGE-ERROR ≡ tallyOf phase h n m
   tally-unequal e = unequal-tally n m e ∙ stated-some h n m z ∙ tally-behind h n m phase (b .0) (b .1)
 
 -- ---- laws: the cells
@@ -199,7 +200,7 @@ cut-end (suc (suc (suc (suc (suc (suc zero)))))) a d t p k z s v = absurd (s ref
 cut-end (suc (suc (suc (suc (suc (suc (suc zero))))))) a d t p k z s v = absurd (v refl)
 cut-end (suc (suc (suc (suc (suc (suc (suc (suc m)))))))) a d t p k z s v = refl
 
-pub cut-control : (phase : ℕ) → 2 < phase → 0x0104 ≡ cutOf phase
+pub cut-control : (phase : ℕ) → 2 < phase → CLOSED-CRITICAL-STREAM ≡ cutOf phase
 unfolding cutAt placeOf
 cut-control zero l = absurd (omega arith)
 cut-control (suc zero) l = absurd (omega arith)
@@ -207,7 +208,7 @@ cut-control (suc (suc zero)) l = absurd (omega arith)
 cut-control (suc (suc (suc zero))) l = refl
 cut-control (suc (suc (suc (suc k)))) l = refl
 
-pub cut-request : (phase : ℕ) → (2 < phase → ⊥) → 0x0106 ≡ cutOf phase
+pub cut-request : (phase : ℕ) → (2 < phase → ⊥) → FRAME-ERROR ≡ cutOf phase
 unfolding cutAt placeOf
 cut-request zero l = refl
 cut-request (suc zero) l = refl

@@ -17,7 +17,7 @@ use Rattle.varint.specs.Whole.{Ended, Valued}
 use Rattle.streams.specs.Both.{Place, rule, both}
 use Rattle.streams.specs.Uses.{placeOf, numberOf, not-nine, passes-skip, passes-data, data-lawful}
 use borrow.Author.Tests.{ne-eqb, le-leb}
-use Rattle.streams.specs.Stops.{stopOf, Stop, stop-here, header-stop, pass-stop, found}
+use Rattle.streams.specs.Stops.{stopOf, Stop, stop-here, header-stop, pass-stop, found, ruling-lawful}
 use Rattle.streams.specs.Answers.{stateAt, stateOf, answerAt, Sane, Held, Answers, fromPayload, some-coming, place-same, Content, goes-on, is-over, Hands, answer}
 use Rattle.streams.specs.Stopped.{moreSum, fromStop, stop-content}
 use Rattle.streams.specs.Begun.{Started, begin-fresh}
@@ -62,6 +62,7 @@ module _ (c : Cells) (s : List ℕ) (allow : ℕ) where
     phase = a .phase;
     known = a .known;
     held = a .held;
+    listed = a .listed;
   }
 
   due-state : (mode a d t : ℕ) (p : Place) (k : List ℕ) → 6 ≤ mode → mode < 8 → feed both allow (stateAt mode a d t p k) s ≡ halt quiet (lives (stateAt mode a d t p k))
@@ -87,6 +88,7 @@ module _ (c : Cells) (s : List ℕ) (allow : ℕ) where
     phase = refl;
     known = omega arith;
     held = λ e. absurd (omega arith);
+    listed = λ e. absurd (omega arith);
   }
 
   -- nowhere
@@ -100,6 +102,7 @@ module _ (c : Cells) (s : List ℕ) (allow : ℕ) where
     phase = q .phase;
     known = omega arith;
     held = λ e. absurd (omega arith);
+    listed = λ e. absurd (omega arith);
   }
 
   fresh-held : (mode : ℕ) (k : List ℕ) → mode < 3 → Held (8 - mode) k → Held 1 k
@@ -125,6 +128,7 @@ module _ (c : Cells) (s : List ℕ) (allow : ℕ) where
     phase = a .phase;
     known = a .known;
     held = a .held;
+    listed = a .listed;
   }
 
   -- content that goes on
@@ -148,7 +152,7 @@ module _ (c : Cells) (s : List ℕ) (allow : ℕ) where
       data-stop : Stop s (c .phase) (c .has) (c .stated) (c .sum) 0 allow (stopOf s 0 0 allow 0) m l (allow - 1) k
       data-stop =
           let p = c .phase in
-          let here = stop-here s p (c .has) (c .stated) (c .sum) m l (allow - 1) k (g .within) (sym (passes-data l k (length s - m) one) ∙ ne-eqb l 0 l0) nine (v .small) (λ e. data-law) in
+          let here = stop-here s p (c .has) (c .stated) (c .sum) m l (allow - 1) k (g .within) (sym (passes-data l k (length s - m) one) ∙ ne-eqb l 0 l0) nine (v .small) (ruling-lawful k p (c .has) (c .stated) (c .sum) t l (sane .stateds) known) in
           pass-stop s p (c .has) (c .stated) (c .sum) 0 0 0 allow (sym (passes-skip 0 0 (length s - 0) refl) ∙ le-leb 0 (length s - 0) zero-le)
           (header-stop s p (c .has) (c .stated) (c .sum) 0 allow t n l m k (found s 0 n t h n0 u) (found s n m l g m1 v) some known nine zero-le here)
 

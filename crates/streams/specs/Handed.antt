@@ -73,6 +73,12 @@ content-past c tells-header q e = absurd (omega arith)
 content-past c tells-trailers q e = absurd (omega arith)
 content-past c (tells-kept m h) q e = absurd (omega arith)
 
+no-fault : {mode : ℕ} {t : Telling} → Tells mode t → (t .last ≡ 4 → ⊥) × (t .part ≡ 4 → ⊥)
+no-fault tells-content = ((λ e. omega arith), (λ e. omega arith))
+no-fault tells-header = ((λ e. omega arith), (λ e. omega arith))
+no-fault tells-trailers = ((λ e. omega arith), (λ e. omega arith))
+no-fault (tells-kept m h) = ((λ e. omega arith), (λ e. omega arith))
+
 module _ (c : Cells) (s : List ℕ) (at heads : ℕ) (w : at ≤ length s) (g : Numbers c) (fresh : ℕ) where
   -- the piece ends where the payload begins or goes on
   pub none-here : (left mode : ℕ) {r : Cells} → 0 < left → left < 2 ^ 62 → HandedMode mode → length s - at ≡ 0 → r ≡ inMode c mode left → Answers c s fresh (fromPayload c s at heads mode left) (answer 0 at 0 at heads r)
@@ -89,6 +95,7 @@ module _ (c : Cells) (s : List ℕ) (at heads : ℕ) (w : at ≤ length s) (g : 
         phase = refl;
         known = omega arith;
         held = λ e. absurd (omega arith);
+        listed = λ e. absurd (omega arith);
       })
 
   -- ---- all of it is there
@@ -147,6 +154,7 @@ module _ (c : Cells) (s : List ℕ) (at heads : ℕ) (w : at ≤ length s) (g : 
     phase = refl;
     known = last-known h;
     held = λ e. absurd (last-whole h e);
+    listed = λ e. absurd (no-fault h .0 e);
   })
 
   -- ---- some of it is there
@@ -190,6 +198,7 @@ module _ (c : Cells) (s : List ℕ) (at heads : ℕ) (w : at ≤ length s) (g : 
       phase = refl;
       known = part-known h;
       held = part-held h;
+      listed = λ e. absurd (no-fault h .1 e);
     })
 
 -- ---- how parts are told

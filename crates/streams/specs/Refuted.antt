@@ -8,6 +8,7 @@ use mathlib.Core.List.{List, [], _∷_, _++_, map}
 use mathlib.Core.Logic.{_⊎_, ⊎-elim, ⊎-map}
 use lib.Dec.{eqb}
 use borrow.Author.Tests.{eq-eqb}
+use Rattle.rules.specs.Numbers.{FRAME-UNEXPECTED, codeNumber, numberOf as answerNumber, rows as answers, namedIn, named as namedOf, codeIn, coded}
 use Rattle.rules.specs.Text.{same, between, hex, hexFrom, nibble, lookup}
 use Rattle.rules.specs.Integers.{extra}
 use Rattle.rules.specs.Reading.{header-section, trailers}
@@ -50,7 +51,7 @@ stateNumbers (due trailers p) = 4 ∷ placeNumbers p
 
 unfoldable afterNumbers : Outcome Place → List ℕ
 afterNumbers (lives s) = stateNumbers s
-afterNumbers (dies code) = 5 ∷ code ∷ []
+afterNumbers (dies code) = 5 ∷ codeNumber code ∷ []
 
 unfoldable eventNumbers : Event → List ℕ
 eventNumbers quiet = 0 ∷ []
@@ -129,10 +130,10 @@ rows =
     ∷ sectioned (answer 3 2 1 3 2 (inMode begins 6 0))
     ∷ row begins (hex "01") 9 (answer 0 1 0 1 0 (behind 0x01)) (answer 0 1 0 1 1 (behind 0x01))
     -- gives an event after a fault: reads on behind DATA that comes first, to a HEADERS; takes the fault for none
-    ∷ row begins (hex "00 00 01 00") 9 (answer 4 2 0x0105 2 1 begins) (answer 3 4 0 4 2 (inMode begins 6 0))
-    ∷ row begins (hex "00 00") 9 (answer 4 2 0x0105 2 1 begins) (answer 0 2 0 2 1 begins)
+    ∷ row begins (hex "00 00 01 00") 9 (answer 4 2 FRAME-UNEXPECTED 2 1 begins) (answer 3 4 0 4 2 (inMode begins 6 0))
+    ∷ row begins (hex "00 00") 9 (answer 4 2 FRAME-UNEXPECTED 2 1 begins) (answer 0 2 0 2 1 begins)
     -- gives a fault after an event, which is lost: reads on behind a HEADERS, to a PUSH_PROMISE
-    ∷ row begins (hex "01 00 05 00") 9 (answer 3 2 0 2 1 (inMode begins 6 0)) (answer 4 4 0x0105 4 2 begins)
+    ∷ row begins (hex "01 00 05 00") 9 (answer 3 2 0 2 1 (inMode begins 6 0)) (answer 4 4 FRAME-UNEXPECTED 4 2 begins)
     -- marks a wrong part: one with a byte to come behind it, and not the last one
     ∷ row begins (hex "01 02 00") 9 (answer 2 2 1 3 1 (inMode begins 4 1)) (answer 3 2 1 3 1 (inMode begins 4 1))
     ∷ sectioned (answer 2 2 1 3 1 (inMode begins 6 0))
@@ -155,7 +156,7 @@ abbrev verdicts : Row → List Bool
 verdicts q = fits (q .cells) (q .piece) (q .allow) (q .asked) ∷ fits (q .cells) (q .piece) (q .allow) (q .wrong) ∷ []
 
 computed : map verdicts rows ≡ map (λ q. true ∷ false ∷ []) rows
-unfolding rows between hex hexFrom nibble fits same numbers eventNumbers afterNumbers stateNumbers placeNumbers keptNumber useNumber statedOf placeOf placeAt answerAt stateAt headState prog feed also halt onward behind-header left-event over-event named taking typed fed after extra over with-left rule map-ruling request-rule ruleFor kindOf column lookup data-rule carries sum-to content-limit codeOf headers-rule within-limit headers-limit control-rule first-rule settings-limit keptAt
+unfolding rows between hex hexFrom nibble fits same numbers eventNumbers afterNumbers stateNumbers placeNumbers keptNumber useNumber statedOf placeOf placeAt answerAt stateAt headState prog feed also halt onward behind-header left-event over-event named taking typed fed after extra over with-left rule map-ruling request-rule ruleFor kindOf column lookup data-rule carries sum-to content-limit codeOf headers-rule within-limit headers-limit control-rule first-rule settings-limit keptAt coded codeIn namedOf namedIn answers answerNumber
 computed = refl
 
 unfoldable pub Every : (Row → Type 0) → List Row → Type 0

@@ -6,6 +6,7 @@ use mathlib.Core.Bool.{Bool, true, false, _||_}
 use mathlib.Core.Option.{none, some}
 use lib.Dec.{ltb, eqb}
 use borrow.Author.Tests.{lt-ltb, le-ltb, ne-eqb}
+use Rattle.rules.specs.Numbers.{FRAME-UNEXPECTED, FRAME-ERROR, EXCESSIVE-LOAD, MISSING-SETTINGS, REQUEST-CANCELLED, MESSAGE-ERROR, of-stream, of-connection, request-cancelled, message-error, frame-unexpected, frame-error, excessive-load, missing-settings}
 use Rattle.rules.specs.Reading.{Kept, refuse, accept, Ruling}
 use Rattle.rules.specs.Message.{content-limit, Message, opening, body, trailed}
 use Rattle.rules.specs.Request.{headers-limit, rule as request-rule}
@@ -41,17 +42,17 @@ stated-some zero stated n = absurd (n refl)
 stated-some (suc h) stated n = refl
 
 module _ (has stated sum len : ℕ) where
-  pub past-limit : has ≡ 0 → 1_048_576 < sum + len → 0x010c ≡ numberOf (rule (placeOf 1 has stated sum) 0 len)
+  pub past-limit : has ≡ 0 → 1_048_576 < sum + len → REQUEST-CANCELLED ≡ numberOf (rule (placeOf 1 has stated sum) 0 len)
   unfolding placeOf numberOf content-limit
-  past-limit z h = let e = stated-none has stated z in rw e (request-number (body none sum) 0 len (refuse 0x010c) (rule-past-limit sum len h))
+  past-limit z h = let e = stated-none has stated z in rw e (request-number (body none sum) 0 len (refuse (of-stream request-cancelled)) (rule-past-limit sum len h))
 
   pub in-limit : has ≡ 0 → sum + len ≤ 1_048_576 → 1 ≡ numberOf (rule (placeOf 1 has stated sum) 0 len)
   unfolding placeOf numberOf useNumber content-limit Fits
   in-limit z h = let e = stated-none has stated z in rw e (request-number (body none sum) 0 len _ (rule-data (body none sum) len (carry-goes none sum len h)))
 
-  pub past-stated : (has ≡ 0 → ⊥) → stated < sum + len → 0x010e ≡ numberOf (rule (placeOf 1 has stated sum) 0 len)
+  pub past-stated : (has ≡ 0 → ⊥) → stated < sum + len → MESSAGE-ERROR ≡ numberOf (rule (placeOf 1 has stated sum) 0 len)
   unfolding placeOf numberOf
-  past-stated n h = let e = stated-some has stated n in rw e (request-number (body (some stated) sum) 0 len (refuse 0x010e) (rule-past-stated stated sum len h))
+  past-stated n h = let e = stated-some has stated n in rw e (request-number (body (some stated) sum) 0 len (refuse (of-stream message-error)) (rule-past-stated stated sum len h))
 
   pub in-stated : (has ≡ 0 → ⊥) → sum + len ≤ stated → 1 ≡ numberOf (rule (placeOf 1 has stated sum) 0 len)
   unfolding placeOf numberOf useNumber Fits
@@ -70,22 +71,22 @@ abbrev Number : (phase has stated sum t len number : ℕ) → Type 0
 Number phase has stated sum t len number = number ≡ numberOf (rule (placeOf phase has stated sum) t len)
 
 module _ (has stated sum len : ℕ) where
-  pub not-data : (phase t : ℕ) → phase < 3 → t ≡ 0 → (phase ≡ 1 → ⊥) → Number phase has stated sum t len 0x0105
+  pub not-data : (phase t : ℕ) → phase < 3 → t ≡ 0 → (phase ≡ 1 → ⊥) → Number phase has stated sum t len FRAME-UNEXPECTED
   unfolding placeOf numberOf
-  not-data phase t h z n = rw z (phases (λ x. (x ≡ 1 → ⊥) → Number x has stated sum 0 len 0x0105)
-      (λ n. request-number opening 0 len (refuse 0x0105) (rule-early-data len))
+  not-data phase t h z n = rw z (phases (λ x. (x ≡ 1 → ⊥) → Number x has stated sum 0 len FRAME-UNEXPECTED)
+      (λ n. request-number opening 0 len (refuse (of-connection frame-unexpected)) (rule-early-data len))
       (λ n. absurd (n refl))
-      (λ n. request-number (trailed (statedOf has stated) sum) 0 len (refuse 0x0105) (rule-late-data (statedOf has stated) sum len)) phase h n)
+      (λ n. request-number (trailed (statedOf has stated) sum) 0 len (refuse (of-connection frame-unexpected)) (rule-late-data (statedOf has stated) sum len)) phase h n)
 
-  pub third : (phase t : ℕ) → phase ≡ 2 → t ≡ 1 → Number phase has stated sum t len 0x0105
+  pub third : (phase t : ℕ) → phase ≡ 2 → t ≡ 1 → Number phase has stated sum t len FRAME-UNEXPECTED
   unfolding placeOf numberOf
-  third phase t e z = rw (e, z) (request-number (trailed (statedOf has stated) sum) 1 len (refuse 0x0105) (rule-third (statedOf has stated) sum len))
+  third phase t e z = rw (e, z) (request-number (trailed (statedOf has stated) sum) 1 len (refuse (of-connection frame-unexpected)) (rule-third (statedOf has stated) sum len))
 
-  pub too-long : (phase t : ℕ) → phase < 3 → t ≡ 1 → (phase ≡ 2 → ⊥) → 16_384 < len → Number phase has stated sum t len 0x0107
+  pub too-long : (phase t : ℕ) → phase < 3 → t ≡ 1 → (phase ≡ 2 → ⊥) → 16_384 < len → Number phase has stated sum t len EXCESSIVE-LOAD
   unfolding placeOf numberOf headers-limit
-  too-long phase t h z n l = rw z (phases (λ x. (x ≡ 2 → ⊥) → Number x has stated sum 1 len 0x0107)
-      (λ n. request-number opening 1 len (refuse 0x0107) (rule-long-header len l))
-      (λ n. request-number (body (statedOf has stated) sum) 1 len (refuse 0x0107) (rule-long-trailers (statedOf has stated) sum len l))
+  too-long phase t h z n l = rw z (phases (λ x. (x ≡ 2 → ⊥) → Number x has stated sum 1 len EXCESSIVE-LOAD)
+      (λ n. request-number opening 1 len (refuse (of-connection excessive-load)) (rule-long-header len l))
+      (λ n. request-number (body (statedOf has stated) sum) 1 len (refuse (of-connection excessive-load)) (rule-long-trailers (statedOf has stated) sum len l))
       (λ n. absurd (n refl)) phase h n)
 
   pub a-section : (phase t : ℕ) → phase < 3 → t ≡ 1 → (phase ≡ 2 → ⊥) → len ≤ 16_384 → Number phase has stated sum t len (phase + 2)
@@ -100,13 +101,13 @@ module _ (has stated sum len : ℕ) where
   unfolding placeOf
   any-request t number f = phases (λ x. Number x has stated sum t len number) (f opening) (f (body (statedOf has stated) sum)) (f (trailed (statedOf has stated) sum))
 
-  pub low : (phase t : ℕ) → phase < 3 → (t ≡ 0 → ⊥) → (t ≡ 1 → ⊥) → t < 10 → Number phase has stated sum t len 0x0105
+  pub low : (phase t : ℕ) → phase < 3 → (t ≡ 0 → ⊥) → (t ≡ 1 → ⊥) → t < 10 → Number phase has stated sum t len FRAME-UNEXPECTED
   unfolding numberOf
-  low phase t h n0 n1 l = any-request t 0x0105 (λ m. request-number m t len (refuse 0x0105) (rule-forbidden m t len (omega arith) l)) phase h
+  low phase t h n0 n1 l = any-request t FRAME-UNEXPECTED (λ m. request-number m t len (refuse (of-connection frame-unexpected)) (rule-forbidden m t len (omega arith) l)) phase h
 
-  pub thirteen : (phase t : ℕ) → phase < 3 → t ≡ 13 → Number phase has stated sum t len 0x0105
+  pub thirteen : (phase t : ℕ) → phase < 3 → t ≡ 13 → Number phase has stated sum t len FRAME-UNEXPECTED
   unfolding numberOf
-  thirteen phase t h e = rw e (any-request 13 0x0105 (λ m. request-number m 13 len (refuse 0x0105) (rule-thirteen m len)) phase h)
+  thirteen phase t h e = rw e (any-request 13 FRAME-UNEXPECTED (λ m. request-number m 13 len (refuse (of-connection frame-unexpected)) (rule-thirteen m len)) phase h)
 
   pub other : (phase t : ℕ) → phase < 3 → 10 ≤ t → (t ≡ 13 → ⊥) → Number phase has stated sum t len 0
   unfolding numberOf useNumber Unknown
@@ -115,13 +116,13 @@ module _ (has stated sum len : ℕ) where
 -- ---- the second column
 
 unfoldable pub oneOf : (len number : ℕ) → ℕ
-oneOf len number = elim (eqb len 0 || ltb 8 len) [ true ↦ 0x0106 | false ↦ number ]
+oneOf len number = elim (eqb len 0 || ltb 8 len) [ true ↦ FRAME-ERROR | false ↦ number ]
 
-pub one-empty : (len number : ℕ) → len ≡ 0 → 0x0106 ≡ oneOf len number
+pub one-empty : (len number : ℕ) → len ≡ 0 → FRAME-ERROR ≡ oneOf len number
 unfolding oneOf
 one-empty len number e = rw e refl
 
-pub one-long : (len number : ℕ) → (len ≡ 0 → ⊥) → 8 < len → 0x0106 ≡ oneOf len number
+pub one-long : (len number : ℕ) → (len ≡ 0 → ⊥) → 8 < len → FRAME-ERROR ≡ oneOf len number
 unfolding oneOf
 one-long len number n h =
     let a = ne-eqb len 0 n in
@@ -146,20 +147,20 @@ module _ (len : ℕ) where
   set-place (suc (suc (suc zero))) h n = absurd (n refl)
   set-place (suc (suc (suc (suc k)))) h n = refl
 
-  pub first-long-number : (phase t : ℕ) → phase ≡ 3 → t ≡ 4 → 256 < len → Number phase 0 0 0 t len 0x0107
+  pub first-long-number : (phase t : ℕ) → phase ≡ 3 → t ≡ 4 → 256 < len → Number phase 0 0 0 t len EXCESSIVE-LOAD
   unfolding placeOf numberOf settings-limit
-  first-long-number phase t e z h = rw (e, z) (control-number unset 4 len (refuse 0x0107) (first-long len h))
+  first-long-number phase t e z h = rw (e, z) (control-number unset 4 len (refuse (of-connection excessive-load)) (first-long len h))
 
   pub first-number : (phase t : ℕ) → phase ≡ 3 → t ≡ 4 → len ≤ 256 → Number phase 0 0 0 t len 4
   unfolding placeOf numberOf useNumber keptNumber settings-limit
   first-number phase t e z h = rw (e, z) (control-number unset 4 len _ (first-fits len h))
 
-  pub not-settings : (phase t : ℕ) → phase ≡ 3 → (t ≡ 4 → ⊥) → Number phase 0 0 0 t len 0x010a
+  pub not-settings : (phase t : ℕ) → phase ≡ 3 → (t ≡ 4 → ⊥) → Number phase 0 0 0 t len MISSING-SETTINGS
   unfolding placeOf numberOf
-  not-settings phase t e n = rw e (control-number unset t len (refuse 0x010a) (first-is-settings t len (ne-eqb t 4 n)))
+  not-settings phase t e n = rw e (control-number unset t len (refuse (of-connection missing-settings)) (first-is-settings t len (ne-eqb t 4 n)))
 
   integer-number : (k : Kept) (c : Control) (number : ℕ) → number ≡ keptNumber k → (x : Bool)
-      → (elim x as (λ y. ℕ) [ true ↦ 0x0106 | false ↦ number ]) ≡ numberOf {P = Control} (elim x as (λ y. Ruling Control) [ true ↦ refuse 0x0106 | false ↦ accept (Rattle.rules.specs.Reading.kept k) c ])
+      → (elim x as (λ y. ℕ) [ true ↦ FRAME-ERROR | false ↦ number ]) ≡ numberOf {P = Control} (elim x as (λ y. Ruling Control) [ true ↦ refuse (of-connection frame-error) | false ↦ accept (Rattle.rules.specs.Reading.kept k) c ])
   unfolding numberOf useNumber
   integer-number k c number e true = refl
   integer-number k c number e false = e
@@ -173,11 +174,11 @@ module _ (len : ℕ) where
       rw (p, z) (integer-number k c number e (eqb len 0 || ltb 8 len)
       ∙ control-number c (typeOf k) len _ (control-integer no-settings none none len k ∙ ap (λ x. ruleFor x c len) ik))
 
-  pub control-low : (phase t : ℕ) → 3 ≤ phase → (phase ≡ 3 → ⊥) → (t ≡ 7 → ⊥) → (t ≡ 3 → ⊥) → t < 10 → Number phase 0 0 0 t len 0x0105
+  pub control-low : (phase t : ℕ) → 3 ≤ phase → (phase ≡ 3 → ⊥) → (t ≡ 7 → ⊥) → (t ≡ 3 → ⊥) → t < 10 → Number phase 0 0 0 t len FRAME-UNEXPECTED
   unfolding numberOf
   control-low phase t h n n7 n3 l =
       let p = set-place phase h n in
-      rw p (control-number (set no-settings none none) t len (refuse 0x0105) (control-forbidden no-settings none none len t l n3 n7))
+      rw p (control-number (set no-settings none none) t len (refuse (of-connection frame-unexpected)) (control-forbidden no-settings none none len t l n3 n7))
 
   pub control-other : (phase t : ℕ) → 3 ≤ phase → (phase ≡ 3 → ⊥) → 10 ≤ t → (t ≡ 13 → ⊥) → Number phase 0 0 0 t len 0
   unfolding numberOf useNumber Unknown

@@ -14,10 +14,10 @@ use Rattle.varint.specs.ByByte.{prog}
 use Rattle.streams.specs.declared.Cells.{Cells}
 use Rattle.streams.specs.declared.Answer.{Answer}
 use Rattle.streams.specs.Both.{Place, both}
-use Rattle.streams.specs.Uses.{placeOf, Stands, a-place, any-set, withData, rulingAt}
+use Rattle.streams.specs.Uses.{placeOf, Stands, a-place, any-set, withData, rulingAt, high-back}
 use Rattle.streams.specs.Heads.{headState}
 use Rattle.streams.specs.Parts.{Stopping, section-stops, kept-stops, over-stops}
-use Rattle.streams.specs.Stops.{headerOf, payloadOf, stopOf, not-header}
+use Rattle.streams.specs.Stops.{headerOf, payloadOf, stopOf, not-header, Lawful}
 use Rattle.streams.specs.Answers.{keptAt, stateAt, placeAt, placeIn, answerAt, Sane, Numbers, emptied, coming, Answers, fromPayload, some-coming, place-same, inMode, answer}
 use Rattle.streams.specs.Handed.{sane-in, behind}
 
@@ -46,31 +46,20 @@ behind-accept (suc l) q f h = let z : suc l - 1 ≡ l = omega arith in rw z refl
 module _ (c : Cells) (s : List ℕ) (to heads len rest : ℕ) (w : to ≤ length s) (g : Numbers c) (sane : Sane c) where
   -- ---- a fault
 
-  refused : (p : Place) (number : ℕ) → 8 ≤ number → rulingAt p number len ≡ refuse number
-  unfolding rulingAt
-  refused p zero h = absurd (omega arith)
-  refused p (suc zero) h = absurd (omega arith)
-  refused p (suc (suc zero)) h = absurd (omega arith)
-  refused p (suc (suc (suc zero))) h = absurd (omega arith)
-  refused p (suc (suc (suc (suc zero)))) h = absurd (omega arith)
-  refused p (suc (suc (suc (suc (suc zero))))) h = absurd (omega arith)
-  refused p (suc (suc (suc (suc (suc (suc zero)))))) h = absurd (omega arith)
-  refused p (suc (suc (suc (suc (suc (suc (suc zero))))))) h = absurd (omega arith)
-  refused p (suc (suc (suc (suc (suc (suc (suc (suc k)))))))) h = refl
-
-  pub stop-fault : (number : ℕ) → 8 ≤ number → (number ≡ 9 → ⊥) → Answers c s 1 (fromStop s to heads number len rest) (answer 4 to number to heads c)
+  pub stop-fault : (number : ℕ) → 8 ≤ number → (number ≡ 9 → ⊥) → Lawful number (c .phase) (c .sum) len → Answers c s 1 (fromStop s to heads number len rest) (answer 4 to number to heads c)
   unfolding answerAt payloadOf behind-header halt past
-  stop-fault number h n9 =
+  stop-fault number h n9 law =
       let u = add-zero to in
       let z = add-zero heads in
       record {
-        is = λ n p k hk st. ap (past to heads) (not-header s number len rest to p n9 ∙ ap (λ x. behind-header both len x (λ q. feed both rest q (drop to s))) (refused p number h)) ∙ rw (u, z) refl;
+        is = λ n p k hk st. ap (past to heads) (not-header s number len rest to p n9 ∙ ap (λ x. behind-header both len x (λ q. feed both rest q (drop to s))) (high-back p number len h)) ∙ rw (u, z) refl;
         within = w;
         part = inr refl;
         sane = λ x. sane;
         phase = refl;
         known = omega arith;
         held = λ e. absurd (omega arith);
+        listed = λ e. law .listed h n9;
       }
 
   -- ---- no more headers
@@ -88,6 +77,7 @@ module _ (c : Cells) (s : List ℕ) (to heads len rest : ℕ) (w : to ≤ length
         phase = refl;
         known = omega arith;
         held = λ e. absurd (omega arith);
+        listed = λ e. absurd (omega arith);
       })
 
   -- ---- a payload of some bytes
@@ -117,6 +107,7 @@ module _ (c : Cells) (s : List ℕ) (to heads len rest : ℕ) (w : to ≤ length
         phase = refl;
         known = omega arith;
         held = λ e. absurd (omega arith);
+        listed = λ e. absurd (omega arith);
       })
 
   -- ---- content: DATA moves the sum
@@ -140,6 +131,7 @@ module _ (c : Cells) (s : List ℕ) (to heads len rest : ℕ) (w : to ≤ length
         phase = a .phase;
         known = a .known;
         held = a .held;
+        listed = a .listed;
       }
 
   -- ---- a section or a kept payload
@@ -158,6 +150,7 @@ module _ (c : Cells) (s : List ℕ) (to heads len rest : ℕ) (w : to ≤ length
     phase = a .phase;
     known = a .known;
     held = a .held;
+    listed = a .listed;
   }
 
   pub stop-section : (number : ℕ) {r : Answer} → 2 ≤ number → number < 4 → Answers c s 0 (fromPayload c s to heads (number + 2) len) r → Answers c s 1 (fromStop s to heads number len rest) r

@@ -5,6 +5,7 @@ use native.Mathlib.Nat.{add-zero, sub-self}
 use native.Mathlib.Omega.{arith}
 use mathlib.Core.List.{List, []}
 use mathlib.Core.Bool.{true, false}
+use mathlib.Core.Logic.{_⊎_, inl, inr}
 use lib.Dec.{eqb}
 use lib.ListN.{length, drop, length-drop}
 use lib.Seq.{drop-drop}
@@ -17,7 +18,10 @@ use Rattle.meaning.specs.FeedLaws.{past, past-none, past-past, header-whole, sk
 use Rattle.meaning.specs.IntegerLaws.{integer-length, integer-rest}
 use Rattle.varint.specs.Whole.{wholeAt, endOf, wholeIs, Ended, Valued, read-value}
 use Rattle.streams.specs.Both.{Place, of-request, of-control, rule, both}
-use Rattle.streams.specs.Uses.{placeOf, Stands, withData, numberOf, rulingAt, ruling-back, number-stands, passesOf}
+use Rattle.streams.specs.Uses.{placeOf, Stands, withData, numberOf, rulingAt, ruling-back, number-stands, passesOf, use-small, data-lawful}
+use Rattle.rules.specs.Numbers.{codeNumber, coded}
+use Rattle.rules.specs.Reading.{Ruling, refuse, accept}
+use Rattle.meaning.specs.NumberLaws.{coded-back}
 
 -- what is to come behind a header of this use and length
 abbrev pub Coming : Type 0
@@ -38,9 +42,23 @@ stopOf s number len allow at p = elim (eqb number 9) [ true ↦ headerOf s allow
 unfoldable pub Unready : (s : List ℕ) (at : ℕ) → Type 0
 Unready s at = (t here len from : ℕ) (rest pay : List ℕ) → integer at (drop at s) ≡ got t here rest → integer here rest ≡ got len from pay → ⊥
 
--- DATA is accepted only behind the header section, and keeps the sum small
-abbrev pub Lawful : (number phase sum len : ℕ) → Type 0
-Lawful number phase sum len = number ≡ 1 → (phase ≡ 1) × (sum + len ≤ 2 ^ 62)
+-- DATA is accepted only behind the header section, and keeps the sum small; a refusal's number is a code's
+pub record Lawful (number phase sum len : ℕ) : Type 0 where
+  pub adds : number ≡ 1 → (phase ≡ 1) × (sum + len ≤ 2 ^ 62)
+  pub listed : 7 < number → (number ≡ 9 → ⊥) → codeNumber (coded number) ≡ number
+
+pub nothing-lawful : {number : ℕ} (phase sum len : ℕ) → (number ≡ 0 ⊎ number ≡ 9) → Lawful number phase sum len
+nothing-lawful phase sum len (inl e) = record { adds = λ x. absurd (omega arith); listed = λ h n. absurd (omega arith) }
+nothing-lawful phase sum len (inr e) = record { adds = λ x. absurd (omega arith); listed = λ h n. absurd (n e) }
+
+number-listed : {P : Type 0} (r : Ruling P) → 7 < numberOf r → codeNumber (coded (numberOf r)) ≡ numberOf r
+unfolding numberOf
+number-listed (refuse code) h = ap codeNumber (coded-back code)
+number-listed (accept u p) h = let l = use-small u in absurd (omega arith)
+
+-- A RULING'S NUMBER IS LAWFUL
+pub ruling-lawful : (number phase has stated sum t len : ℕ) → stated ≤ 2 ^ 62 → number ≡ numberOf (rule (placeOf phase has stated sum) t len) → Lawful number phase sum len
+ruling-lawful number phase has stated sum t len h e = rw e (record { adds = data-lawful phase has stated sum t len h; listed = λ l n. number-listed (rule (placeOf phase has stated sum) t len) l })
 
 -- a place where the readers have to stop
 pub record Stuck (s : List ℕ) (phase sum to len rest number : ℕ) : Type 0 where
@@ -76,7 +94,7 @@ module _ (s : List ℕ) (phase has stated sum : ℕ) where
     within = w;
     fewer = omega arith;
     small = omega arith;
-    stuck = record { lawful = λ e. absurd (omega arith); skips = λ e. absurd (omega arith); some = λ e. absurd (omega arith); short = λ e r. u r };
+    stuck = record { lawful = nothing-lawful phase sum 0 (inr refl); skips = λ e. absurd (omega arith); some = λ e. absurd (omega arith); short = λ e r. u r };
   }
 
   -- at a payload that is not passed

@@ -1,10 +1,11 @@
 -- Places and rulings in numbers, as the code holds them. Assumes nothing.
-use mathlib.Core.Path.{_≡_, refl, sym, ap}
-use Prim.Native.Nat.{ℕ, zero, suc, _+_, _≤_, _^_}
+use mathlib.Core.Path.{_≡_, refl, sym, ap, _∙_}
+use Prim.Native.Nat.{ℕ, zero, suc, _+_, _≤_, _<_, _^_}
 use native.Mathlib.Omega.{arith}
 use mathlib.Core.Bool.{Bool, true, false, _||_}
 use mathlib.Core.Option.{Option, none, some}
 use lib.Dec.{ltb, leb, eqb, lit≤}
+use Rattle.rules.specs.Numbers.{Code, of-connection, frame-error, codeNumber, coded}
 use Rattle.rules.specs.Text.{lookup}
 use Rattle.rules.specs.Reading.{header-section, trailers, Kept, settings, goaway, max-push-id, cancel-push, Use, content, skipped, section, kept, Ruling, refuse, accept}
 use Rattle.rules.specs.Message.{content-limit, Message, opening, body, trailed, Step, goes, carries}
@@ -13,6 +14,7 @@ use Rattle.meaning.specs.Hom.{map-ruling}
 use Rattle.meaning.specs.RequestLaws.{RuleView, r-refused, r-skipped, r-content, r-header, r-trailers, rule-view}
 use Rattle.meaning.specs.MessageLaws.{Fits, CarryView, c-refused, c-goes, carry-view}
 use Rattle.meaning.specs.ControlLaws.{ControlView, v-refused, v-skipped, v-kept, control-view}
+use Rattle.meaning.specs.NumberLaws.{coded-back, code-high}
 use Rattle.streams.specs.Both.{Place, of-request, of-control, rule}
 
 -- ---- a place
@@ -55,7 +57,7 @@ useNumber (section trailers) = 3
 useNumber (kept k) = keptNumber k
 
 unfoldable pub numberOf : {P : Type 0} → Ruling P → ℕ
-numberOf (refuse code) = code
+numberOf (refuse code) = codeNumber code
 numberOf (accept u p) = useNumber u
 
 -- where a place stands once a frame of this use is accepted
@@ -74,19 +76,22 @@ rulingAt p (suc (suc (suc (suc zero)))) len = accept (kept settings) p
 rulingAt p (suc (suc (suc (suc (suc zero))))) len = accept (kept goaway) p
 rulingAt p (suc (suc (suc (suc (suc (suc zero)))))) len = accept (kept max-push-id) p
 rulingAt p (suc (suc (suc (suc (suc (suc (suc zero))))))) len = accept (kept cancel-push) p
-rulingAt p (suc (suc (suc (suc (suc (suc (suc (suc k)))))))) len = refuse (suc (suc (suc (suc (suc (suc (suc (suc k))))))))
+rulingAt p (suc (suc (suc (suc (suc (suc (suc (suc k)))))))) len = refuse (coded (suc (suc (suc (suc (suc (suc (suc (suc k)))))))))
 
-refuse-back : (p : Place) (code len : ℕ) → 0x0103 ≤ code → rulingAt p code len ≡ refuse code
+pub high-back : (p : Place) (n len : ℕ) → 7 < n → rulingAt p n len ≡ refuse (coded n)
 unfolding rulingAt
-refuse-back p zero len h = absurd (omega arith)
-refuse-back p (suc zero) len h = absurd (omega arith)
-refuse-back p (suc (suc zero)) len h = absurd (omega arith)
-refuse-back p (suc (suc (suc zero))) len h = absurd (omega arith)
-refuse-back p (suc (suc (suc (suc zero)))) len h = absurd (omega arith)
-refuse-back p (suc (suc (suc (suc (suc zero))))) len h = absurd (omega arith)
-refuse-back p (suc (suc (suc (suc (suc (suc zero)))))) len h = absurd (omega arith)
-refuse-back p (suc (suc (suc (suc (suc (suc (suc zero))))))) len h = absurd (omega arith)
-refuse-back p (suc (suc (suc (suc (suc (suc (suc (suc k)))))))) len h = refl
+high-back p zero len h = absurd (omega arith)
+high-back p (suc zero) len h = absurd (omega arith)
+high-back p (suc (suc zero)) len h = absurd (omega arith)
+high-back p (suc (suc (suc zero))) len h = absurd (omega arith)
+high-back p (suc (suc (suc (suc zero)))) len h = absurd (omega arith)
+high-back p (suc (suc (suc (suc (suc zero))))) len h = absurd (omega arith)
+high-back p (suc (suc (suc (suc (suc (suc zero)))))) len h = absurd (omega arith)
+high-back p (suc (suc (suc (suc (suc (suc (suc zero))))))) len h = absurd (omega arith)
+high-back p (suc (suc (suc (suc (suc (suc (suc (suc k)))))))) len h = refl
+
+refuse-back : (p : Place) (code : Code) (len : ℕ) → rulingAt p (codeNumber code) len ≡ refuse code
+refuse-back p code len = high-back p (codeNumber code) len (let h = code-high code in omega arith) ∙ ap refuse (coded-back code)
 
 data-back : (len : ℕ) (m q : Message) → CarryView len m (goes q) → withData len (of-request m) ≡ of-request q
 unfolding withData
@@ -94,7 +99,7 @@ data-back len (body stated sum) q (c-goes f) = refl
 
 request-back : (t len : ℕ) (m : Message) {r : Ruling Message} → RuleView t len m r → map-ruling of-request r ≡ rulingAt (of-request m) (numberOf (map-ruling of-request r)) len
 unfolding numberOf useNumber rulingAt map-ruling
-request-back t len m (r-refused {code = code} h) = sym (refuse-back (of-request m) code len h)
+request-back t len m (r-refused {code = code}) = sym (refuse-back (of-request m) code len)
 request-back t len m (r-skipped u) = refl
 request-back t len m (r-content {q = q} z e) = ap (accept content) (sym (data-back len m q (rw e at (carry-view len m))))
 request-back t len m (r-header z l) = refl
@@ -109,7 +114,7 @@ kept-back cancel-push p len = refl
 
 control-back : (c : Control) (len : ℕ) {r : Ruling Control} → ControlView c r → map-ruling of-control r ≡ rulingAt (of-control c) (numberOf (map-ruling of-control r)) len
 unfolding numberOf useNumber rulingAt map-ruling
-control-back c len (v-refused {code = code} h) = sym (refuse-back (of-control c) code len h)
+control-back c len (v-refused {f = f}) = sym (refuse-back (of-control c) (of-connection f) len)
 control-back c len v-skipped = refl
 control-back c len (v-kept {k = k}) = sym (kept-back k (of-control c) len)
 
@@ -120,7 +125,7 @@ ruling-back (of-request m) t len = request-back t len m (rule-view m t len)
 ruling-back (of-control c) t len = control-back c len (control-view c t len)
 
 -- no ruling has the number 9
-use-small : (u : Use) → useNumber u ≤ 7
+pub use-small : (u : Use) → useNumber u ≤ 7
 unfolding useNumber keptNumber
 use-small content = lit≤ tt
 use-small skipped = lit≤ tt
@@ -133,7 +138,7 @@ use-small (kept cancel-push) = lit≤ tt
 
 request-not-nine : (t len : ℕ) (m : Message) {r : Ruling Message} → RuleView t len m r → numberOf (map-ruling of-request r) ≡ 9 → ⊥
 unfolding numberOf map-ruling
-request-not-nine t len m (r-refused h) e = omega arith
+request-not-nine t len m (r-refused {code = code}) e = let h = code-high code in omega arith
 request-not-nine t len m (r-skipped u) e = let h = use-small skipped in omega arith
 request-not-nine t len m (r-content z c) e = let h = use-small content in omega arith
 request-not-nine t len m (r-header z l) e = let h = use-small (section header-section) in omega arith
@@ -141,7 +146,7 @@ request-not-nine t len m (r-trailers z l) e = let h = use-small (section trailer
 
 control-not-nine : (c : Control) {r : Ruling Control} → ControlView c r → numberOf (map-ruling of-control r) ≡ 9 → ⊥
 unfolding numberOf map-ruling
-control-not-nine c (v-refused h) e = omega arith
+control-not-nine c (v-refused {f = f}) e = let h = code-high (of-connection f) in omega arith
 control-not-nine c v-skipped e = let h = use-small skipped in omega arith
 control-not-nine c (v-kept {k = k}) e = let h = use-small (kept k) in omega arith
 
@@ -152,7 +157,7 @@ not-nine (of-control c) t len e = control-not-nine c (control-view c t len) e
 
 -- behind SETTINGS the rule does not look at what was kept
 integer-same : (k : Kept) (c d : Control) (x : Bool)
-    → numberOf (map-ruling of-control (elim x [ true ↦ refuse 0x0106 | false ↦ accept (kept k) c ])) ≡ numberOf (map-ruling of-control (elim x [ true ↦ refuse 0x0106 | false ↦ accept (kept k) d ]))
+    → numberOf (map-ruling of-control (elim x [ true ↦ refuse (of-connection frame-error) | false ↦ accept (kept k) c ])) ≡ numberOf (map-ruling of-control (elim x [ true ↦ refuse (of-connection frame-error) | false ↦ accept (kept k) d ]))
 unfolding numberOf map-ruling
 integer-same k c d true = refl
 integer-same k c d false = refl
@@ -203,7 +208,7 @@ fits-move len a b f = rw (a, b) f
 
 data-request : (t len : ℕ) (m : Message) {r : Ruling Message} → RuleView t len m r → numberOf (map-ruling of-request r) ≡ 1 → (q : Message) × (carries len m ≡ goes q)
 unfolding numberOf useNumber map-ruling
-data-request t len m (r-refused h) e = absurd (omega arith)
+data-request t len m (r-refused {code = code}) e = let h = code-high code in absurd (omega arith)
 data-request t len m (r-skipped u) e = absurd (omega arith)
 data-request t len m (r-content {q = q} z c) e = (q, c)
 data-request t len m (r-header z l) e = absurd (omega arith)
@@ -218,7 +223,7 @@ kept-high cancel-push e = omega arith
 
 no-data : (c : Control) {r : Ruling Control} → ControlView c r → numberOf (map-ruling of-control r) ≡ 1 → ⊥
 unfolding numberOf useNumber map-ruling
-no-data c (v-refused h) e = omega arith
+no-data c (v-refused {f = f}) e = let h = code-high (of-connection f) in omega arith
 no-data c v-skipped e = omega arith
 no-data c (v-kept {k = k}) e = kept-high k e
 

@@ -5,7 +5,8 @@ use native.Mathlib.Decide.{ℕ-discrete}
 use native.Mathlib.Omega.{arith}
 use mathlib.Core.List.{List, [], _∷_, _++_}
 use mathlib.Core.Option.{Option, none, some, Option·none-ne-some, Option·some-ne-none, Option·some-injective}
-use Rattle.traces.specs.Stream.{ConnCode, Code, of-stream, of-connection, Gave, done, Left, Own, Out, refuse, step, leave, fault, Machine, act, mapOut}
+use Rattle.rules.specs.Numbers.{ConnectionFault, Code, of-stream, of-connection}
+use Rattle.traces.specs.Stream.{Gave, done, Left, Own, Out, refuse, step, leave, fault, Machine, act, mapOut}
 use Rattle.traces.specs.Board.{pick, Kind, request, one-way, kindOf, Stream, asking, telling, Slot, free, held, Row, Conn, Pair, Held, Call, start, open′, on, goaway, Answer, gave, left, house, code, Result, nextOf, spend, killed, keeping, limited, find, put, same, with, alive, faulted, actOn, settle, acting, fresh, first, call, run}
 use Rattle.traces.specs.Row.{Distinct, Seated, find-seat-same, find-put-same, find-put-other, find-free-other, find-free-same, find-seat-other, pick-yes, pick-no}
 use Rattle.traces.specs.Went.{Alive, pair, Went, restarted, still-dead, by-house, barring, faulting, dying, opening, stepping, leaving, sending, went}
@@ -107,7 +108,7 @@ module _ {M : Machine} where
   Later (goaway i room) = Unit {0}
 
   -- once dead, every call but start gives the code and leaves all as it was
-  pub dead-stays : (c : Call M) (p : Pair M) (k : ConnCode) → Later c → p .conn .dead ≡ some k → call c p ≡ record { answer = code (of-connection k) 0 0; after = p }
+  pub dead-stays : (c : Call M) (p : Pair M) (k : ConnectionFault) → Later c → p .conn .dead ≡ some k → call c p ≡ record { answer = code (of-connection k) 0 0; after = p }
   unfolding call alive same
   dead-stays start p k n e = absurd n
   dead-stays (open′ i) p k n e = rw e

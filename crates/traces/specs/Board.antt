@@ -6,7 +6,8 @@ use mathlib.Core.List.{List, [], _∷_, _++_}
 use mathlib.Core.Bool.{Bool, true, false}
 use mathlib.Core.Option.{Option, none, some}
 use lib.ListN.{length, replicate}
-use Rattle.traces.specs.Stream.{House, not-open, not-next, no-room, short-buffer, bad-goaway, not-24, StreamCode, rejected, ConnCode, Code, of-stream, of-connection, Gave, done, Left, Own, Out, refuse, step, leave, fault, Machine, act, act₁, either, mapOut}
+use Rattle.rules.specs.Numbers.{House, not-open, not-next, no-record, short-room, bad-value, not-24, StreamFault, request-rejected, ConnectionFault, Code, of-stream, of-connection}
+use Rattle.traces.specs.Stream.{Gave, done, Left, Own, Out, refuse, step, leave, fault, Machine, act, act₁, either, mapOut}
 
 unfoldable pub pick : {P X : Type 0} → Dec P → (ifSo ifNot : X) → X
 pick (yes p) a b = a
@@ -53,7 +54,7 @@ abbrev pub Row : Machine → Type 0
 Row M = List (Slot M)
 
 pub record Conn (M : Machine) : Type 0 where
-  pub dead : Option ConnCode  -- the code of a connection fault
+  pub dead : Option ConnectionFault  -- the code of a connection fault
   pub nextRequest : ℕ
   pub nextOneway : ℕ
   pub limit : Option ℕ  -- our last GOAWAY
@@ -96,7 +97,7 @@ module _ {M : Machine} where
   spend request c = record { dead = c .dead; nextRequest = c .nextRequest + 4; nextOneway = c .nextOneway; limit = c .limit; kept = c .kept }
   spend one-way c = record { dead = c .dead; nextRequest = c .nextRequest; nextOneway = c .nextOneway + 4; limit = c .limit; kept = c .kept }
 
-  unfoldable pub killed : ConnCode → Conn M → Conn M
+  unfoldable pub killed : ConnectionFault → Conn M → Conn M
   killed k c = record { dead = some k; nextRequest = c .nextRequest; nextOneway = c .nextOneway; limit = c .limit; kept = c .kept }
 
   unfoldable pub keeping : M .Kept → Conn M → Conn M
@@ -141,7 +142,7 @@ module _ {M : Machine} where
   with a c row = record { answer = a; after = record { conn = c; row = row } }
 
   -- a dead connection gives its code
-  unfoldable pub alive : Option ConnCode → Pair M → Result M → Result M
+  unfoldable pub alive : Option ConnectionFault → Pair M → Result M → Result M
   alive none p r = r
   alive (some k) p r = same (code (of-connection k) 0 0) p
 
@@ -160,7 +161,7 @@ module _ {M : Machine} where
   first one-way = telling (M .untyped)
 
   unfoldable pub seated : Kind → Pair M → Option (Row M) → Result M
-  seated k p none = same (house no-room) p
+  seated k p none = same (house no-record) p
   seated k p (some row) = with (gave done) (spend k (p .conn)) row
 
   unfoldable pub opening : ℕ → Option Kind → Pair M → Result M
@@ -169,7 +170,7 @@ module _ {M : Machine} where
       pick (ℕ-discrete id (nextOf k (p .conn)))
       (pick (decLt id (2 ^ 62))
       (either (barred k (p .conn) id)
-      (with (code (of-stream rejected) 0 0) (spend k (p .conn)) (p .row))
+      (with (code (of-stream request-rejected) 0 0) (spend k (p .conn)) (p .row))
       (seated k p (seat (held id (first k)) (p .row))))
       (same (house not-next) p))
       (same (house not-next) p)
@@ -200,8 +201,8 @@ module _ {M : Machine} where
   unfoldable pub sending : (id room : ℕ) → Pair M → Result M
   sending id room p =
       either (goodGoaway (p .conn .limit) id)
-      (pick (decLe (goawaySize id) room) (with (gave done) (limited id (p .conn)) (p .row)) (same (house short-buffer) p))
-      (same (house bad-goaway) p)
+      (pick (decLe (goawaySize id) room) (with (gave done) (limited id (p .conn)) (p .row)) (same (house short-room) p))
+      (same (house bad-value) p)
 
   -- ---- every call
 

@@ -7,7 +7,8 @@ use mathlib.Core.List.{List, [], _∷_, _++_, append-nil, append-assoc}
 use mathlib.Core.Bool.{Bool, true, false}
 use mathlib.Core.Option.{Option, none, some}
 use lib.ListN.{length, length-append, take}
-use Rattle.traces.specs.Stream.{StreamCode, Code, of-stream, of-connection, Fed, goes, faults, Given, sound, unsound, Ended, is-whole, broken, section-due, Own, end, Out, refuse, leave, fault, ofEnded, mapOut, whole, Machine, act, either}
+use Rattle.rules.specs.Numbers.{StreamFault, Code, of-stream, of-connection, section-due}
+use Rattle.traces.specs.Stream.{Fed, goes, faults, Given, sound, unsound, Ended, is-whole, broken, Own, end, Out, refuse, leave, fault, ofEnded, mapOut, whole, Machine, act, either}
 use Rattle.traces.specs.Board.{Kind, request, kindOf, asking, Pair, Call, on, Answer, gave, left, house, code, same, with, faulted, settle, find, fresh, call, run, trace}
 use Rattle.traces.specs.View.{Shown, Fate, unopened, spent, running, ended, dropped, refused, lost, View, plusFeed, plusBytes, plusSection, nothing, view}
 use Rattle.traces.specs.Went.{Alive}
@@ -64,7 +65,7 @@ pub record Reads {M : Machine} (R : Meaning M) : Type 0 where
   pub end-place : {s : Shown M} {r : M .Request} (k : Code) → Reached s r → M .due r ≡ false → R .verdict (s .bytes) (s .sections) ≡ bad k → R .place (s .bytes) (s .sections) ≡ length (s .bytes)
   pub in-feed : {s : Shown M} {r : M .Request} (allow u h : ℕ) (piece : List ℕ) (k : Code) → Reached s r → M .due r ≡ false → M .feed r allow piece ≡ faults k u h
       → Shows R (plusBytes u h piece s) × Struck R k (s .bytes ++ take u piece) (s .sections)
-  pub at-section : {s : Shown M} {r : M .Request} (b : M .Block) (k : StreamCode) → Reached s r → M .due r ≡ true → M .readable b ≡ true → M .give r b ≡ unsound k
+  pub at-section : {s : Shown M} {r : M .Request} (b : M .Block) (k : StreamFault) → Reached s r → M .due r ≡ true → M .readable b ≡ true → M .give r b ≡ unsound k
       → Shows R (plusSection b s) × Struck R (of-stream k) (s .bytes) (s .sections ++ (b ∷ []))
 
 -- ---- demand 2 over traces

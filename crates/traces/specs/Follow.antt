@@ -5,7 +5,8 @@ use Prim.Native.Nat.{ℕ}
 use native.Mathlib.Decide.{ℕ-discrete}
 use mathlib.Core.List.{List, [], _∷_}
 use mathlib.Core.Option.{Option, none, some, Option·none-ne-some, Option·some-ne-none, Option·some-injective}
-use Rattle.traces.specs.Stream.{House, ConnCode, Code, of-stream, of-connection, Own, feed, section, end, reset, Out, refuse, step, leave, fault, Machine}
+use Rattle.rules.specs.Numbers.{House, ConnectionFault, Code, of-stream, of-connection}
+use Rattle.traces.specs.Stream.{Own, feed, section, end, reset, Out, refuse, step, leave, fault, Machine}
 use Rattle.traces.specs.Board.{pick, Kind, kindOf, Stream, held, Conn, Pair, Held, Call, start, open′, on, goaway, Answer, gave, left, house, code, spend, killed, keeping, limited, find, same, with, fresh, first, faulted, actOn, settle, call, run, trace}
 use Rattle.traces.specs.View.{Shown, Fate, unopened, spent, running, ended, dropped, refused, lost, View, nothing, struck, elsewhere, mine, ifRunning, opened, unseen, restarted as anew, seen, viewFrom, view}
 use Rattle.traces.specs.Row.{Seated, find-put-same, find-free-same, find-seat-same, find-empty}
@@ -83,7 +84,7 @@ module _ {M : Machine} {k : Kind} {Open : Shown M → Stream M → Type 0} {Over
   moved id p p′ v d e (over t n) = over t (λ a. e ∙ n (sym d ∙ a))
 
   -- a connection that died, or is dead
-  in-the-end : (id : ℕ) (p p′ : Pair M) (k : ConnCode) (v : View M) → p′ .conn .dead ≡ some k → Agrees Open Over id p v → Agrees Open Over id p′ (record { fate = struck (v .fate); shown = v .shown })
+  in-the-end : (id : ℕ) (p p′ : Pair M) (k : ConnectionFault) (v : View M) → p′ .conn .dead ≡ some k → Agrees Open Over id p v → Agrees Open Over id p′ (record { fate = struck (v .fate); shown = v .shown })
   unfolding struck
   in-the-end id p p′ k v d (open-still a r f) = over (T .cut-off r) (λ b. absurd (Option·none-ne-some k (sym b ∙ d)))
   in-the-end id p p′ k v d (over t n) = rw (struck-shut _ (T .shut t)) (over t (λ b. absurd (Option·none-ne-some k (sym b ∙ d))))

@@ -7,7 +7,8 @@ use native.Mathlib.Omega.{arith}
 use mathlib.Core.List.{List, [], _∷_}
 use mathlib.Core.Bool.{Bool, true, false, true≢false}
 use mathlib.Core.Option.{Option, none, some, Option·none-ne-some, Option·some-ne-none, Option·some-injective}
-use Rattle.traces.specs.Stream.{ConnCode, Code, Event, Fed, goes, faults, Own, feed, section, end, reset, Gave, Out, refuse, step, leave, fault, ofFed, ofClosed, mapOut, Machine, act, act₁}
+use Rattle.rules.specs.Numbers.{ConnectionFault, Code}
+use Rattle.traces.specs.Stream.{Event, Fed, goes, faults, Own, feed, section, end, reset, Gave, Out, refuse, step, leave, fault, ofFed, ofClosed, mapOut, Machine, act, act₁}
 use Rattle.traces.specs.Board.{Kind, request, one-way, Stream, asking, telling, Slot, free, held, Row, Conn, Pair, Held, Call, Answer, spend, killed, keeping, limited, find, put, fresh, first, actOn, call, run}
 use Rattle.traces.specs.Row.{find-put-same, find-put-other, find-free-other, find-free-same, find-seat-same, find-seat-other, find-empty}
 use Rattle.traces.specs.Went.{Alive, pair, Went, restarted, still-dead, by-house, barring, faulting, dying, opening, stepping, leaving, sending, went}
@@ -45,7 +46,7 @@ module _ (M : Machine) (Mirror : Type 0) (mirror : M .Kept → Mirror) (claimed 
   fed-change k w allow piece g x (goes u h e y) q z = let c : record { stream = telling (y .state); kept = y .kept } ≡ x = cc in rw (← c) (of-oneway q)
   fed-change k w allow piece g x (faults c u h) q z = let o : _≡_ {A = ℕ} 0 1 = cc in absurd (omega arith)
 
-  closes : (k : M .Kept) (w : M .Oneway) (g : Gave) (x : Held M) (y : Option ConnCode) → mapOut (λ (x : Both M). record { stream = telling (x .state); kept = x .kept }) (ofClosed y) ≡ step g x → Change k (telling w) x
+  closes : (k : M .Kept) (w : M .Oneway) (g : Gave) (x : Held M) (y : Option ConnectionFault) → mapOut (λ (x : Both M). record { stream = telling (x .state); kept = x .kept }) (ofClosed y) ≡ step g x → Change k (telling w) x
   unfolding mapOut ofClosed
   closes k w g x none z = let o : _≡_ {A = ℕ} 0 1 = cc in absurd (omega arith)
   closes k w g x (some c) z = let o : _≡_ {A = ℕ} 0 1 = cc in absurd (omega arith)

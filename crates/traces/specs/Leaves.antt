@@ -4,7 +4,8 @@ use Prim.Native.Nat.{ℕ}
 use native.Mathlib.Decide.{ℕ-discrete}
 use mathlib.Core.Option.{Option, none, some}
 use lib.ListN.{length}
-use Rattle.traces.specs.Stream.{House, not-24, StreamCode, rejected, ConnCode, Code, of-stream, of-connection, Gave, Left, Own, Machine}
+use Rattle.rules.specs.Numbers.{House, not-24, StreamFault, request-rejected, ConnectionFault, Code, of-stream, of-connection}
+use Rattle.traces.specs.Stream.{Gave, Left, Own, Machine}
 use Rattle.traces.specs.Board.{pick, Kind, kindOf, Slot, free, Row, Conn, Pair, Call, start, open′, on, goaway, Answer, gave, left, house, code, same, spend, killed, call, rowed, lent}
 use Rattle.traces.specs.Row.{Replaced, put-replaces, pick-yes, pick-no}
 use Rattle.traces.specs.Went.{Alive, pair, Went, restarted, still-dead, by-house, barring, faulting, dying, opening, stepping, leaving, sending, went}
@@ -13,18 +14,18 @@ pub data Leaves {M : Machine} (p : Pair M) : Call M → Answer → Pair M → Ty
   -- 1 to 9: nothing altered
   nothing-altered : {c : Call M} {h : House} → Leaves p c (house h) p
   -- a stream fault: its record freed, no other slot and nothing of the connection record altered
-  record-freed : {id : ℕ} {o : Own M} {k : StreamCode} {u h : ℕ} {row : Row M} → Replaced id free (p .row) row
+  record-freed : {id : ℕ} {o : Own M} {k : StreamFault} {u h : ℕ} {row : Row M} → Replaced id free (p .row) row
       → Leaves p (on id o) (code (of-stream k) u h) (pair (p .conn) row)
   -- a barred opening: the ID is spent
-  only-spent : {id : ℕ} {k : Kind} → kindOf id ≡ some k → Leaves p (open′ id) (code (of-stream rejected) 0 0) (pair (spend k (p .conn)) (p .row))
+  only-spent : {id : ℕ} {k : Kind} → kindOf id ≡ some k → Leaves p (open′ id) (code (of-stream request-rejected) 0 0) (pair (spend k (p .conn)) (p .row))
   -- a connection fault, new or old: the code kept, all else as before
-  code-kept : {c : Call M} {k : ConnCode} {u h : ℕ} {p′ : Pair M} → p′ ≡ pair (killed k (p .conn)) (p .row) → Leaves p c (code (of-connection k) u h) p′
+  code-kept : {c : Call M} {k : ConnectionFault} {u h : ℕ} {p′ : Pair M} → p′ ≡ pair (killed k (p .conn)) (p .row) → Leaves p c (code (of-connection k) u h) p′
   -- accepted
   accepted : {c : Call M} {g : Gave} {p′ : Pair M} → Leaves p c (gave g) p′
   accepted-last : {c : Call M} {l : Left} {p′ : Pair M} → Leaves p c (left l) p′
 
 module _ {M : Machine} where
-  killed-again : (p : Pair M) (k : ConnCode) → p .conn .dead ≡ some k → p ≡ pair (killed k (p .conn)) (p .row)
+  killed-again : (p : Pair M) (k : ConnectionFault) → p .conn .dead ≡ some k → p ≡ pair (killed k (p .conn)) (p .row)
   unfolding killed
   killed-again p k e = λ i. record {
     conn = record { dead = e i; nextRequest = p .conn .nextRequest; nextOneway = p .conn .nextOneway; limit = p .conn .limit; kept = p .conn .kept };

@@ -5,11 +5,12 @@ use mathlib.Core.Path.{_≡_}
 use mathlib.Core.List.{List, [], _∷_}
 use mathlib.Core.Bool.{Bool, true, false}
 use mathlib.Core.Option.{Option, none, some}
-use Rattle.traces.specs.Stream.{ConnCode, Code, of-stream, of-connection, Own, Machine}
+use Rattle.rules.specs.Numbers.{ConnectionFault, Code, of-stream, of-connection}
+use Rattle.traces.specs.Stream.{Own, Machine}
 use Rattle.traces.specs.Board.{Kind, request, one-way, kindOf, over, Call, start, open′, on, goaway, Answer, gave, left, house, code, Entry}
 
 pub record Ledger : Type 0 where
-  pub dead : Option ConnCode
+  pub dead : Option ConnectionFault
   pub requests : ℕ  -- request IDs opened, barred ones among them
   pub oneways : ℕ
   pub limit : Option ℕ  -- our last GOAWAY
@@ -26,7 +27,7 @@ opens (some one-way) l = record { dead = l .dead; requests = l .requests; oneway
 unfoldable pub counts : (busy : ℕ) → Ledger → Ledger
 counts n l = record { dead = l .dead; requests = l .requests; oneways = l .oneways; limit = l .limit; busy = n }
 
-unfoldable pub dies : ConnCode → Ledger → Ledger
+unfoldable pub dies : ConnectionFault → Ledger → Ledger
 dies k l = record { dead = some k; requests = l .requests; oneways = l .oneways; limit = l .limit; busy = l .busy }
 
 unfoldable pub limits : ℕ → Ledger → Ledger

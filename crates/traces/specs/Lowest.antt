@@ -7,7 +7,8 @@ use native.Mathlib.Omega.{arith}
 use mathlib.Core.List.{List, [], _∷_}
 use mathlib.Core.Logic.{_↔_}
 use mathlib.Core.Option.{Option, none, some, Option·none-ne-some, Option·some-injective}
-use Rattle.traces.specs.Stream.{StreamCode, ConnCode, Code, of-stream, of-connection, Gave, Left, whole, freed, Own, feed, section, end, reset, Machine}
+use Rattle.rules.specs.Numbers.{StreamFault, ConnectionFault, Code, of-stream, of-connection}
+use Rattle.traces.specs.Stream.{Gave, Left, whole, freed, Own, feed, section, end, reset, Machine}
 use Rattle.traces.specs.Board.{pick, Kind, request, one-way, kindOf, Conn, Pair, Call, start, open′, on, goaway, Answer, gave, left, house, code, nextOf, spend, killed, keeping, limited, fresh, same, call, run, Entry, trace}
 use Rattle.traces.specs.View.{Shown, Fate, unopened, spent, running, ended, dropped, refused, lost, View, struck, elsewhere, mine, ifRunning, opened, unseen, restarted as anew, seen, viewFrom, view}
 use Rattle.traces.specs.Row.{pick-yes, pick-no}

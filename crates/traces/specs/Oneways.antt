@@ -4,7 +4,8 @@ use mathlib.Core.Path.{_≡_, refl, sym, ap, _∙_}
 use Prim.Native.Nat.{ℕ}
 use mathlib.Core.List.{List, [], _∷_}
 use mathlib.Core.Option.{Option, none, some}
-use Rattle.traces.specs.Stream.{ConnCode, creation, Code, of-stream, of-connection, Event, Fed, goes, faults, none-due, Own, feed, section, end, reset, Out, refuse, step, leave, fault, ofFed, ofClosed, mapOut, Left, freed, Machine, act₁}
+use Rattle.rules.specs.Numbers.{ConnectionFault, stream-creation-error, Code, of-stream, of-connection, none-due}
+use Rattle.traces.specs.Stream.{Event, Fed, goes, faults, Own, feed, section, end, reset, Out, refuse, step, leave, fault, ofFed, ofClosed, mapOut, Left, freed, Machine, act₁}
 use Rattle.traces.specs.Board.{Kind, one-way, kindOf, Stream, telling, first, actOn, Call, fresh, run, trace}
 use Rattle.traces.specs.View.{Shown, Fate, unopened, spent, running, ended, dropped, refused, lost, nothing, plusFeed, plusBytes, fedly, mine, view}
 use Rattle.traces.specs.Follow.{Shut, GoesOn, goes-on, Next, Tale, Agrees, agrees}
@@ -16,7 +17,7 @@ Both M = record { state : M .Oneway; kept : M .Kept }
 pub data Like (M : Machine) : Fed (M .Oneway) → Fed (Both M) → Type 0 where
   goes-alike : {u h : ℕ} {e : Event} {w : M .Oneway} {k : M .Kept} → Like M (goes u h e w) (goes u h e (record { state = w; kept = k }))
   faults-alike : {u h : ℕ} {c : Code} → Like M (faults c u h) (faults c u h)
-  second : {x : Fed (M .Oneway)} {u h : ℕ} → Like M x (faults (of-connection creation) u h)
+  second : {x : Fed (M .Oneway)} {u h : ℕ} → Like M x (faults (of-connection stream-creation-error) u h)
 
 pub record ByItself (M : Machine) : Type 0 where
   pub alone₁ : M .Oneway → (allow : ℕ) → (piece : List ℕ) → Fed (M .Oneway)
@@ -33,11 +34,11 @@ pub data Story₁ {M : Machine} (B : ByItself M) : Fate → Shown M → Type 0 w
   never : Story₁ B spent nothing
   cut-off : {s : Shown M} {w : M .Oneway} → Reached₁ B s w → Story₁ B lost s
   closed : {s : Shown M} {w : M .Oneway} → Reached₁ B s w → M .close w ≡ none → Story₁ B dropped s
-  closed-critical : {s : Shown M} {w : M .Oneway} {k : ConnCode} → Reached₁ B s w → M .close w ≡ some k → Story₁ B (refused (of-connection k)) s
+  closed-critical : {s : Shown M} {w : M .Oneway} {k : ConnectionFault} → Reached₁ B s w → M .close w ≡ some k → Story₁ B (refused (of-connection k)) s
   bad-feed : {s : Shown M} {w : M .Oneway} {allow u h : ℕ} {piece : List ℕ} {k : Code}
       → Reached₁ B s w → B .alone₁ w allow piece ≡ faults k u h → Story₁ B (refused k) (plusBytes u h piece s)
   second-of-type : {s : Shown M} {w : M .Oneway} {k : M .Kept} {allow u h : ℕ} {piece : List ℕ}
-      → Reached₁ B s w → M .feed₁ k w allow piece ≡ faults (of-connection creation) u h → Story₁ B (refused (of-connection creation)) (plusBytes u h piece s)
+      → Reached₁ B s w → M .feed₁ k w allow piece ≡ faults (of-connection stream-creation-error) u h → Story₁ B (refused (of-connection stream-creation-error)) (plusBytes u h piece s)
 
 pub data Says {M : Machine} (B : ByItself M) : Shown M → Stream M → Type 0 where
   says : {s : Shown M} {w : M .Oneway} → Reached₁ B s w → Says B s (telling w)
@@ -66,7 +67,7 @@ module _ {M : Machine} (B : ByItself M) where
     at-feed k allow piece x e y q faults-alike = bad-feed t e
     at-feed k allow piece x e y q second = second-of-type t q
 
-    at-close : (o : Option ConnCode) → M .close w ≡ o → Then end (ofClosed o) × Then reset (ofClosed o)
+    at-close : (o : Option ConnectionFault) → M .close w ≡ o → Then end (ofClosed o) × Then reset (ofClosed o)
     unfolding mapOut ofClosed mine
     at-close none e = (closed t e, closed t e)
     at-close (some k) e = (closed-critical t e, closed-critical t e)

@@ -8,7 +8,8 @@ use mathlib.Core.Bool.{Bool, true, false}
 use mathlib.Core.Logic.{_↔_}
 use mathlib.Core.Option.{Option, none, some, Option·none-ne-some}
 use lib.ListN.{length}
-use Rattle.traces.specs.Stream.{House, not-next, no-room, rejected, ConnCode, Code, of-stream, of-connection, Gave, done, Own, Machine, either}
+use Rattle.rules.specs.Numbers.{House, not-next, no-record, request-rejected, ConnectionFault, Code, of-stream, of-connection}
+use Rattle.traces.specs.Stream.{Gave, done, Own, Machine, either}
 use Rattle.traces.specs.Board.{pick, Kind, request, one-way, kindOf, over, Slot, free, held, Row, Conn, Pair, Call, start, open′, on, goaway, Answer, gave, left, house, code, Result, Entry, nextOf, spend, killed, keeping, limited, barred, find, put, seat, same, with, alive, fresh, first, seated, opening as opening-at, call, run, trace}
 use Rattle.traces.specs.Row.{Seated, Replaced, put-replaces, taken, taken-seat, taken-held, taken-free, taken-empty, room-before, seat-room, pick-yes}
 use Rattle.traces.specs.Went.{Alive, pair, Went, restarted, still-dead, by-house, barring, faulting, dying, opening, stepping, leaving, sending, went}
@@ -92,7 +93,7 @@ module _ {M : Machine} where
 
   -- what the conditions compute to, one after the other
   seats : (k : Kind) (id : ℕ) (p : Pair M) (row : Row M) → barred k (p .conn) id ≡ false → seat (held id (first k)) (p .row) ≡ some row
-      → either (barred k (p .conn) id) (with (code (of-stream rejected) 0 0) (spend k (p .conn)) (p .row)) (seated k p (seat (held id (first k)) (p .row))) ≡ with (gave done) (spend k (p .conn)) row
+      → either (barred k (p .conn) id) (with (code (of-stream request-rejected) 0 0) (spend k (p .conn)) (p .row)) (seated k p (seat (held id (first k)) (p .row))) ≡ with (gave done) (spend k (p .conn)) row
   unfolding either seated
   seats k id p row b q = rw (b, q)
 

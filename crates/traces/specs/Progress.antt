@@ -7,7 +7,8 @@ use mathlib.Core.List.{List, [], _∷_, _++_}
 use mathlib.Core.Bool.{Bool, true, false}
 use mathlib.Core.Option.{some}
 use lib.ListN.{length, take}
-use Rattle.traces.specs.Stream.{StreamCode, Code, of-stream, of-connection, Event, Fed, goes, faults, Given, sound, unsound, Ended, is-whole, broken, section-due, none-due, unreadable, Own, feed, section, refuse, ofFed, ofGiven, mapOut, done, fed, Machine, act, either}
+use Rattle.rules.specs.Numbers.{StreamFault, Code, of-stream, of-connection, section-due, none-due, unreadable}
+use Rattle.traces.specs.Stream.{Event, Fed, goes, faults, Given, sound, unsound, Ended, is-whole, broken, Own, feed, section, refuse, ofFed, ofGiven, mapOut, done, fed, Machine, act, either}
 use Rattle.traces.specs.Board.{request, kindOf, asking, Pair, Call, on, Answer, gave, house, code, same, with, faulted, settle, fresh, call, run, trace}
 use Rattle.traces.specs.View.{Shown, View, Fate, running, refused, plusFeed, plusBytes, plusSection, mine, fedly, view}
 use Rattle.traces.specs.Alone.{call-on-asking}
@@ -26,7 +27,7 @@ pub data Moves {M : Machine} (R : Meaning M) (s : Shown M) (allow : ℕ) (piece 
 pub data Takes {M : Machine} (R : Meaning M) (s : Shown M) (b : M .Block) : Answer → Type 0 where
   not-due : ¬ Waits R s → Takes R s b (house none-due)
   not-readable : Waits R s → M .readable b ≡ false → Takes R s b (house unreadable)
-  unfit : {k : StreamCode} → Waits R s → M .readable b ≡ true → Struck R (of-stream k) (s .bytes) (s .sections ++ (b ∷ [])) → Takes R s b (code (of-stream k) 0 0)
+  unfit : {k : StreamFault} → Waits R s → M .readable b ≡ true → Struck R (of-stream k) (s .bytes) (s .sections ++ (b ∷ [])) → Takes R s b (code (of-stream k) 0 0)
   taken : Waits R s → M .readable b ≡ true → NoFault R (s .bytes) (s .sections ++ (b ∷ [])) → Takes R s b (gave done)
 
 no-wait : (x : Ended) → verdictOf x ≡ waits → ⊥

@@ -4,7 +4,8 @@ use mathlib.Core.Path.{_≡_, refl}
 use Prim.Native.Nat.{ℕ}
 use mathlib.Core.List.{List, [], _∷_}
 use mathlib.Core.Bool.{Bool, true, false}
-use Rattle.traces.specs.Stream.{StreamCode, Code, of-stream, of-connection, Event, Fed, goes, faults, Given, sound, unsound, Ended, is-whole, broken, section-due, none-due, unreadable, Own, feed, section, end, reset, Out, refuse, step, leave, fault, ofFed, ofGiven, ofEnded, mapOut, Gave, done, Left, whole, freed, Machine, act, either}
+use Rattle.rules.specs.Numbers.{StreamFault, Code, of-stream, of-connection, section-due, none-due, unreadable}
+use Rattle.traces.specs.Stream.{Event, Fed, goes, faults, Given, sound, unsound, Ended, is-whole, broken, Own, feed, section, end, reset, Out, refuse, step, leave, fault, ofFed, ofGiven, ofEnded, mapOut, Gave, done, Left, whole, freed, Machine, act, either}
 use Rattle.traces.specs.Board.{Kind, request, Stream, asking, first, actOn}
 use Rattle.traces.specs.View.{Shown, Fate, unopened, spent, running, ended, dropped, refused, lost, nothing, plusFeed, plusBytes, plusSection, fedly, mine}
 use Rattle.traces.specs.Follow.{Shut, GoesOn, goes-on, Next, Tale}
@@ -26,7 +27,7 @@ pub data Story {M : Machine} : Fate → Shown M → Type 0 where
   cut-off : {s : Shown M} {r : M .Request} → Reached s r → Story lost s
   bad-feed : {s : Shown M} {r : M .Request} {allow u h : ℕ} {piece : List ℕ} {k : Code}
       → Reached s r → M .due r ≡ false → M .feed r allow piece ≡ faults k u h → Story (refused k) (plusBytes u h piece s)
-  bad-section : {s : Shown M} {r : M .Request} {b : M .Block} {k : StreamCode}
+  bad-section : {s : Shown M} {r : M .Request} {b : M .Block} {k : StreamFault}
       → Reached s r → M .due r ≡ true → M .readable b ≡ true → M .give r b ≡ unsound k → Story (refused (of-stream k)) (plusSection b s)
   bad-end : {s : Shown M} {r : M .Request} {k : Code} → Reached s r → M .due r ≡ false → M .finish r ≡ broken k → Story (refused k) s
 

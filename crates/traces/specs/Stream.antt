@@ -5,49 +5,7 @@ use mathlib.Core.List.{List, [], _∷_, _++_, map}
 use mathlib.Core.Bool.{Bool, true, false}
 use mathlib.Core.Option.{Option, none, some}
 use lib.ListN.{take, drop}
-
--- ---- numbers
-
--- document 01's house numbers
-pub data House : Type 0 where
-  not-open not-next no-room section-due none-due unreadable short-buffer bad-goaway not-24 : House
-
-unfoldable pub houseNumber : House → ℕ
-houseNumber not-open = 1
-houseNumber not-next = 2
-houseNumber no-room = 3
-houseNumber section-due = 4
-houseNumber none-due = 5
-houseNumber unreadable = 6
-houseNumber short-buffer = 7
-houseNumber bad-goaway = 8
-houseNumber not-24 = 9
-
--- stream faults: 0x010b, 0x010c, 0x010d, 0x010e
-pub data StreamCode : Type 0 where
-  rejected cancelled incomplete malformed : StreamCode
-
--- connection faults: 0x0103 to 0x010a
-pub data ConnCode : Type 0 where
-  creation critical unexpected frame-error excessive id-error settings-error missing : ConnCode
-
-pub data Code : Type 0 where
-  of-stream : StreamCode → Code
-  of-connection : ConnCode → Code
-
-unfoldable pub codeNumber : Code → ℕ
-codeNumber (of-stream rejected) = 0x010b
-codeNumber (of-stream cancelled) = 0x010c
-codeNumber (of-stream incomplete) = 0x010d
-codeNumber (of-stream malformed) = 0x010e
-codeNumber (of-connection creation) = 0x0103
-codeNumber (of-connection critical) = 0x0104
-codeNumber (of-connection unexpected) = 0x0105
-codeNumber (of-connection frame-error) = 0x0106
-codeNumber (of-connection excessive) = 0x0107
-codeNumber (of-connection id-error) = 0x0108
-codeNumber (of-connection settings-error) = 0x0109
-codeNumber (of-connection missing) = 0x010a
+use Rattle.rules.specs.Numbers.{House, section-due, none-due, unreadable, StreamFault, ConnectionFault, Code, of-stream, of-connection}
 
 -- ---- events
 
@@ -120,7 +78,7 @@ pub data Fed (X : Type 0) : Type 0 where
 -- a section
 pub data Given (X : Type 0) : Type 0 where
   sound : X → Given X
-  unsound : StreamCode → Given X
+  unsound : StreamFault → Given X
 
 -- an end
 pub data Ended : Type 0 where
@@ -143,7 +101,7 @@ pub record Machine : Type 1 where
   pub Oneway : Type 0
   pub untyped : Oneway
   pub feed₁ : Kept → Oneway → (allow : ℕ) → (piece : List ℕ) → Fed (record { state : Oneway; kept : Kept })
-  pub close : Oneway → Option ConnCode
+  pub close : Oneway → Option ConnectionFault
 
 -- ---- a call on one stream, and what may come of it
 
@@ -182,7 +140,7 @@ unfoldable pub ofEnded : {X : Type 0} → Ended → Out X
 ofEnded is-whole = leave whole
 ofEnded (broken code) = fault code 0 0
 
-unfoldable pub ofClosed : {X : Type 0} → Option ConnCode → Out X
+unfoldable pub ofClosed : {X : Type 0} → Option ConnectionFault → Out X
 ofClosed none = leave freed
 ofClosed (some code) = fault (of-connection code) 0 0
 

@@ -3,7 +3,8 @@ use Prim.Native.Nat.{ℕ, zero, suc, _+_}
 use native.Mathlib.Decide.{ℕ-discrete}
 use mathlib.Core.List.{List, [], _∷_, _++_}
 use lib.ListN.{take}
-use Rattle.traces.specs.Stream.{Code, of-stream, of-connection, Notice, Event, contentIn, sectionIn, noticesIn, qpackIn, Gave, done, fed, Left, whole, freed, Own, feed, section, end, reset, Machine}
+use Rattle.rules.specs.Numbers.{Code, of-stream, of-connection}
+use Rattle.traces.specs.Stream.{Notice, Event, contentIn, sectionIn, noticesIn, qpackIn, Gave, done, fed, Left, whole, freed, Own, feed, section, end, reset, Machine}
 use Rattle.traces.specs.Board.{pick, Call, start, open′, on, goaway, Answer, gave, left, house, code, Entry}
 
 -- bytes consumed, sections accepted, section bytes and content handed over, headers finished; and of a one-way stream what it told (settings,

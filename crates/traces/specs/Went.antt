@@ -5,7 +5,8 @@ use native.Mathlib.Decide.{ℕ-discrete, decLe, decLt}
 use mathlib.Core.List.{List, [], _∷_}
 use mathlib.Core.Bool.{Bool, true, false}
 use mathlib.Core.Option.{Option, none, some}
-use Rattle.traces.specs.Stream.{House, StreamCode, rejected, ConnCode, Code, of-stream, of-connection, Gave, done, Left, Own, Out, refuse, step, leave, fault, Machine, either}
+use Rattle.rules.specs.Numbers.{House, StreamFault, request-rejected, ConnectionFault, Code, of-stream, of-connection}
+use Rattle.traces.specs.Stream.{Gave, done, Left, Own, Out, refuse, step, leave, fault, Machine, either}
 use Rattle.traces.specs.Board.{pick, Kind, kindOf, Stream, Slot, free, held, Row, Conn, Pair, Held, Call, start, open′, on, goaway, Answer, gave, left, house, code, Result, nextOf, spend, killed, keeping, limited, barred, find, put, seat, same, with, alive, fresh, first, seated, faulted, actOn, settle, acting, goodGoaway, goawaySize, call}
 use Rattle.traces.specs.Board
 use Rattle.traces.specs.Row.{Seated, seat-is}
@@ -19,13 +20,13 @@ pair c row = record { conn = c; row = row }
 pub data Went {M : Machine} (p : Pair M) : Call M → Answer → Pair M → Type 0 where
   restarted : Went p start (gave done) fresh
   -- refusals
-  still-dead : {c : Call M} {k : ConnCode} → p .conn .dead ≡ some k → Went p c (code (of-connection k) 0 0) p
+  still-dead : {c : Call M} {k : ConnectionFault} → p .conn .dead ≡ some k → Went p c (code (of-connection k) 0 0) p
   by-house : {c : Call M} {h : House} → Alive p → Went p c (house h) p
   barring : {id : ℕ} {k : Kind} → Alive p → kindOf id ≡ some k → id ≡ nextOf k (p .conn) → id < 2 ^ 62 → barred k (p .conn) id ≡ true
-      → Went p (open′ id) (code (of-stream rejected) 0 0) (pair (spend k (p .conn)) (p .row))
-  faulting : {id : ℕ} {o : Own M} {s : Stream M} {k : StreamCode} {u h : ℕ} → Alive p → find id (p .row) ≡ some s
+      → Went p (open′ id) (code (of-stream request-rejected) 0 0) (pair (spend k (p .conn)) (p .row))
+  faulting : {id : ℕ} {o : Own M} {s : Stream M} {k : StreamFault} {u h : ℕ} → Alive p → find id (p .row) ≡ some s
       → Went p (on id o) (code (of-stream k) u h) (pair (p .conn) (put id free (p .row)))
-  dying : {id : ℕ} {o : Own M} {s : Stream M} {k : ConnCode} {u h : ℕ} → Alive p → find id (p .row) ≡ some s
+  dying : {id : ℕ} {o : Own M} {s : Stream M} {k : ConnectionFault} {u h : ℕ} → Alive p → find id (p .row) ≡ some s
       → Went p (on id o) (code (of-connection k) u h) (pair (killed k (p .conn)) (p .row))
   -- accepted
   opening : {id : ℕ} {k : Kind} {row : Row M} → Alive p → kindOf id ≡ some k → id ≡ nextOf k (p .conn) → id < 2 ^ 62 → barred k (p .conn) id ≡ false
@@ -45,7 +46,7 @@ module _ {M : Machine} where
   unfolding alive same
   went-alive p c r w = go (p .conn .dead) refl
     where
-      go : (d : Option ConnCode) → p .conn .dead ≡ d → Goes p c (alive d p r)
+      go : (d : Option ConnectionFault) → p .conn .dead ≡ d → Goes p c (alive d p r)
       go none e = w e
       go (some k) e = still-dead e
 
@@ -59,17 +60,17 @@ module _ {M : Machine} where
       last k e n l b (some row) q = opening a e n l b (seat-is (held id (first k)) (p .row) row q)
 
       bars : (k : Kind) → kindOf id ≡ some k → id ≡ nextOf k (p .conn) → id < 2 ^ 62 → (b : Bool) → barred k (p .conn) id ≡ b
-          → Goes p (open′ id) (either b (with (code (of-stream rejected) 0 0) (spend k (p .conn)) (p .row)) (seated k p (seat (held id (first k)) (p .row))))
+          → Goes p (open′ id) (either b (with (code (of-stream request-rejected) 0 0) (spend k (p .conn)) (p .row)) (seated k p (seat (held id (first k)) (p .row))))
       bars k e n l true q = barring a e n l q
       bars k e n l false q = last k e n l q (seat (held id (first k)) (p .row)) refl
 
       low : (k : Kind) → kindOf id ≡ some k → id ≡ nextOf k (p .conn) → (d : Dec (id < 2 ^ 62))
-          → Goes p (open′ id) (pick d (either (barred k (p .conn) id) (with (code (of-stream rejected) 0 0) (spend k (p .conn)) (p .row)) (seated k p (seat (held id (first k)) (p .row)))) (same (house House.not-next) p))
+          → Goes p (open′ id) (pick d (either (barred k (p .conn) id) (with (code (of-stream request-rejected) 0 0) (spend k (p .conn)) (p .row)) (seated k p (seat (held id (first k)) (p .row)))) (same (house House.not-next) p))
       low k e n (yes l) = bars k e n l (barred k (p .conn) id) refl
       low k e n (no l) = by-house a
 
       next : (k : Kind) → kindOf id ≡ some k → (d : Dec (id ≡ nextOf k (p .conn)))
-          → Goes p (open′ id) (pick d (pick (decLt id (2 ^ 62)) (either (barred k (p .conn) id) (with (code (of-stream rejected) 0 0) (spend k (p .conn)) (p .row)) (seated k p (seat (held id (first k)) (p .row)))) (same (house House.not-next) p)) (same (house House.not-next) p))
+          → Goes p (open′ id) (pick d (pick (decLt id (2 ^ 62)) (either (barred k (p .conn) id) (with (code (of-stream request-rejected) 0 0) (spend k (p .conn)) (p .row)) (seated k p (seat (held id (first k)) (p .row)))) (same (house House.not-next) p)) (same (house House.not-next) p))
       next k e (yes n) = low k e n (decLt id (2 ^ 62))
       next k e (no n) = by-house a
 
@@ -95,7 +96,7 @@ module _ {M : Machine} where
   went-sending id room p a = go (goodGoaway (p .conn .limit) id) refl (decLe (goawaySize id) room)
     where
       go : (b : Bool) → goodGoaway (p .conn .limit) id ≡ b → (d : Dec (goawaySize id ≤ room))
-          → Goes p (goaway id room) (either b (pick d (with (gave done) (limited id (p .conn)) (p .row)) (same (house House.short-buffer) p)) (same (house House.bad-goaway) p))
+          → Goes p (goaway id room) (either b (pick d (with (gave done) (limited id (p .conn)) (p .row)) (same (house House.short-room) p)) (same (house House.bad-value) p))
       go true e (yes l) = sending a e l
       go true e (no l) = by-house a
       go false e d = by-house a

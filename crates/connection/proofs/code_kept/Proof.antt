@@ -1,21 +1,18 @@
-use native.Mathlib.Omega.{arith}
-use Rattle.connection.specs.Faults.{code-in, no-code-in}
+use mathlib.Core.Path.{refl}
+use borrow.Author.Needs.{needs}
+use Rattle.connection.specs.Faults.{kept-so, kept-not}
 use Rattle.connection.proofs.code_kept.Statement.{statement}
 use Rattle.connection.proofs.code_kept.Tie as tie
-use Rattle.connection.proofs.code_kept.Reads as reads
-use Rattle.connection.proofs.code_kept.Lts as lts
+use Rattle.connection.proofs.keeps_code.Reads as keeps-code-reads
 
--- src/lib.rt:247:9
+keeps-code-requires : tie.Need-keeps-code-requires
+keeps-code-requires c κs = search needs
+
 returns : tie.Need-returns
-returns c = no-code-in _ _ (λ h. omega (arith, c .if1 .taken, h .0))
+returns c = kept-so _ _ (c .before .keeps-code .ensures) (c .if1 .taken) refl
 
--- src/lib.rt:250:9
 returns-2 : tie.Need-returns-2
-returns-2 c = no-code-in _ _ (λ h. omega (arith, c .if2 .taken, h .1))
-
--- src/lib.rt:243:1
-returns-3 : tie.Need-returns-3
-returns-3 c = code-in _ _ (omega (arith, c .before .if1 .left), omega (arith, c .if2 .left))
+returns-2 c = kept-not _ _ (c .before .keeps-code .ensures) (c .if1 .left)
 
 pub code-kept-spec : {M : Type 1} → statement M
-code-kept-spec = tie.close (tie.spec returns returns-2 returns-3)
+code-kept-spec = tie.close (tie.spec keeps-code-requires returns returns-2)

@@ -7,6 +7,7 @@ use mathlib.Core.Logic.{⊎-elim}
 use lib.Dec.{eqb}
 use types.Run.{OneOf}
 use denote.Enum.Declared.{tagOf}
+use Rattle.rules.specs.Numbers.{REQUEST-REJECTED, MESSAGE-ERROR, codeNumber}
 use Rattle.section.proofs.Reason.{the-type}
 use Rattle.rules.specs.Section.{codeOf, size-check, bytes-check, unknown-check, repeated-check, late-check, in-trailers-check, connection-check, te-check, method-check, no-method-check, repeated-length-check, length-in-trailers-check, digits-check, length-above-check, repeated-host-check, connect-check, present-check, scheme-check, path-check, authority-check, empty-check, differ-check, at-check, length-check}
 use Rattle.section.specs.declared.Reason.{Reason}
@@ -16,9 +17,9 @@ use Rattle.section.proofs.code.Statement.{statement}
 use Rattle.section.proofs.code.Tie as tie
 
 byTag : ℕ → ℕ
-byTag t = cond (eqb t 15 || eqb t 17 || eqb t 23) 0x010b 0x010e
+byTag t = cond (eqb t 15 || eqb t 17 || eqb t 23) REQUEST-REJECTED MESSAGE-ERROR
 
-by-tag : (r : Reason) → byTag (tagOf the-type r) ≡ codeOf (reasonOf r)
+by-tag : (r : Reason) → byTag (tagOf the-type r) ≡ codeNumber (codeOf (reasonOf r))
 unfolding byTag codeOf reasonOf size-check bytes-check unknown-check repeated-check late-check in-trailers-check connection-check te-check method-check no-method-check repeated-length-check length-in-trailers-check digits-check length-above-check repeated-host-check connect-check present-check scheme-check path-check authority-check empty-check differ-check at-check length-check
 by-tag TooLarge = refl
 by-tag BadBytes = refl
@@ -45,28 +46,28 @@ by-tag AuthoritiesDiffer = refl
 by-tag AtInAuthority = refl
 by-tag LengthPastLimit = refl
 
-coded : ℕ → List ℕ → List ℕ
-coded code [] = []
-coded code (k ∷ ks) = code ∷ coded code ks
+alike : ℕ → List ℕ → List ℕ
+alike code [] = []
+alike code (k ∷ ks) = code ∷ alike code ks
 
 -- a code that every tag of a list has
-one-of : (code : ℕ) (ks : List ℕ) (t : ℕ) → coded code ks ≡ map byTag ks → OneOf ks t → code ≡ byTag t
-unfolding coded
+one-of : (code : ℕ) (ks : List ℕ) (t : ℕ) → alike code ks ≡ map byTag ks → OneOf ks t → code ≡ byTag t
+unfolding alike
 one-of code [] t a h = absurd h
 one-of code (k ∷ []) t a h = let b : code ≡ byTag k = cc in rw h b
 one-of code (k ∷ j ∷ ks) t a h =
     let b : code ≡ byTag k = cc in
-    let rest : coded code (j ∷ ks) ≡ map byTag (j ∷ ks) = cc in
+    let rest : alike code (j ∷ ks) ≡ map byTag (j ∷ ks) = cc in
     ⊎-elim (λ e. rw e b) (λ l. one-of code (j ∷ ks) t rest l) h
 
 returns : tie.Need-returns
-unfolding coded byTag
-returns c = one-of 0x010b (15 ∷ 17 ∷ 23 ∷ []) _ refl (c .match .keys1) ∙ by-tag _
+unfolding alike byTag
+returns c = one-of REQUEST-REJECTED (15 ∷ 17 ∷ 23 ∷ []) _ refl (c .match .keys1) ∙ by-tag _
 
 returns-2 : tie.Need-returns-2
-unfolding coded byTag
+unfolding alike byTag
 returns-2 c =
-    one-of 0x010e (0 ∷ 1 ∷ 2 ∷ 3 ∷ 4 ∷ 5 ∷ 6 ∷ 7 ∷ 8 ∷ 9 ∷ 10 ∷ 11 ∷ 12 ∷ 13 ∷ 14 ∷ 16 ∷ 18 ∷ 19 ∷ 20 ∷ 21 ∷ 22 ∷ []) _
+    one-of MESSAGE-ERROR (0 ∷ 1 ∷ 2 ∷ 3 ∷ 4 ∷ 5 ∷ 6 ∷ 7 ∷ 8 ∷ 9 ∷ 10 ∷ 11 ∷ 12 ∷ 13 ∷ 14 ∷ 16 ∷ 18 ∷ 19 ∷ 20 ∷ 21 ∷ 22 ∷ []) _
     refl
     (c .match .keys2)
     ∙ by-tag _

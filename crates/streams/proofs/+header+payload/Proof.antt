@@ -3,8 +3,8 @@ use Prim.Native.Nat.{ℕ, _+_, _*_, _<_}
 use mathlib.Core.Path.{sym, _∙_}
 use borrow.Author.Needs.{needs}
 use denote.Ref.{now}
-use Rattle.streams.specs.Uses.{not-nine, data-lawful}
-use Rattle.streams.specs.Stops.{stop-header, stop-here, header-stop, passed-fits, pass-stop, found, unready-type, unready-length}
+use Rattle.streams.specs.Uses.{not-nine}
+use Rattle.streams.specs.Stops.{ruling-lawful, stop-header, stop-here, header-stop, passed-fits, pass-stop, found, unready-type, unready-length}
 use borrow.Fn.Kinds.{In}
 use borrow.Fn.PlainCycle.{Measures, is, falls, and}
 use Rattle.streams.proofs.header.Reads as header
@@ -96,7 +96,7 @@ header-sub-payload t c = omega (arith, c .before .before .before .before .before
 
 -- src/lib.rt:153:5
 header-payload-requires : (t : ℕ) → header-lts.Need-payload-requires (header-claims t) (header-at t) header.Post
-header-payload-requires t c κs = (omega (arith, c .before .before .before .before .before .before .before .before .before .before .if1 .left), (c .before .before .before .before .before .before .before .ends2 .ensures .within, c .before .before .before .before .before .before .before .before .before .before .before .before .pre .1 .1, c .before .before .before .before .before .before .before .before .before .before .before .before .pre .1 .2, (λ e. not-nine _ _ _ (sym (c .before .before .before .ruled .ensures) ∙ e)), c .before .before .before .before .before .value .ensures .small, λ e. data-lawful _ _ _ _ _ _ (c .before .before .before .before .before .before .before .before .before .before .before .before .pre .1 .2) (sym (c .before .before .before .ruled .ensures) ∙ e)))
+header-payload-requires t c κs = (omega (arith, c .before .before .before .before .before .before .before .before .before .before .if1 .left), (c .before .before .before .before .before .before .before .ends2 .ensures .within, c .before .before .before .before .before .before .before .before .before .before .before .before .pre .1 .1, c .before .before .before .before .before .before .before .before .before .before .before .before .pre .1 .2, (λ e. not-nine _ _ _ (sym (c .before .before .before .ruled .ensures) ∙ e)), c .before .before .before .before .before .value .ensures .small, ruling-lawful _ _ _ _ _ _ _ (c .before .before .before .before .before .before .before .before .before .before .before .before .pre .1 .2) (c .before .before .before .ruled .ensures)))
 
 -- src/lib.rt:116:1
 header-returns-4 : (t : ℕ) → header-lts.Need-returns-4 (header-claims t) (header-at t) header.Post

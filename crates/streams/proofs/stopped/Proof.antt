@@ -15,11 +15,11 @@ use Rattle.streams.proofs.quiet.Reads as quiet-reads
 
 -- src/lib.rt:463:31
 more-sum-requires : tie.Need-more-sum-requires
-more-sum-requires c κs = omega (arith, c .before .before .pre .3 .lawful (c .if1 .taken) .1)
+more-sum-requires c κs = omega (arith, c .before .before .pre .3 .lawful .adds (c .if1 .taken) .1)
 
 -- src/lib.rt:463:9
 handed-requires : tie.Need-handed-requires
-handed-requires c κs = let a = c .before .before .before in (a .pre .0, a .pre .1, numbers-more _ _ _ (c .more-sum .ensures) (omega (arith, a .pre .3 .lawful (c .before .if1 .taken) .1)) (a .pre .2 .stateds), (omega arith, omega arith, λ e. omega arith, λ e. omega arith), λ e. a .pre .3 .some (c .before .if1 .taken))
+handed-requires c κs = let a = c .before .before .before in (a .pre .0, a .pre .1, numbers-more _ _ _ (c .more-sum .ensures) (omega (arith, a .pre .3 .lawful .adds (c .before .if1 .taken) .1)) (a .pre .2 .stateds), (omega arith, omega arith, λ e. omega arith, λ e. omega arith), λ e. a .pre .3 .some (c .before .if1 .taken))
 
 -- src/lib.rt:465:21
 sub-room : tie.Need-sub-room
@@ -67,7 +67,7 @@ handed-requires-3 c κs = search needs
 
 -- src/lib.rt:458:1
 returns : tie.Need-returns
-returns c = let a = c .before .before .before .before in stop-content (a .args .c) (now (a .args .s)) (a .args .to) (a .args .heads) (a .args .len) (a .args .rest) (a .pre .0) (a .pre .2 .sums, a .pre .2 .stateds) (a .pre .2) (a .args .number) _ (c .before .before .if1 .taken) (a .pre .3 .some (c .before .before .if1 .taken)) (a .pre .3 .lawful (c .before .before .if1 .taken) .0) (c .before .more-sum .ensures) (c .handed .ensures .0)
+returns c = let a = c .before .before .before .before in stop-content (a .args .c) (now (a .args .s)) (a .args .to) (a .args .heads) (a .args .len) (a .args .rest) (a .pre .0) (a .pre .2 .sums, a .pre .2 .stateds) (a .pre .2) (a .args .number) _ (c .before .before .if1 .taken) (a .pre .3 .some (c .before .before .if1 .taken)) (a .pre .3 .lawful .adds (c .before .before .if1 .taken) .0) (c .before .more-sum .ensures) (c .handed .ensures .0)
 
 -- src/lib.rt:458:1
 returns-2 : tie.Need-returns-2
@@ -91,7 +91,7 @@ returns-6 c = let a = c .before .before .before .before .before .before .before 
 
 -- src/lib.rt:458:1
 returns-7 : tie.Need-returns-7
-returns-7 c = let a = c .before .before .before .before .before .before in stop-fault (a .args .c) (now (a .args .s)) (a .args .to) (a .args .heads) (a .args .len) (a .args .rest) (a .pre .0) (a .pre .2 .sums, a .pre .2 .stateds) (a .pre .2) (a .args .number) (c .if6 .left) (c .before .before .if3 .left)
+returns-7 c = let a = c .before .before .before .before .before .before in stop-fault (a .args .c) (now (a .args .s)) (a .args .to) (a .args .heads) (a .args .len) (a .args .rest) (a .pre .0) (a .pre .2 .sums, a .pre .2 .stateds) (a .pre .2) (a .args .number) (c .if6 .left) (c .before .before .if3 .left) (a .pre .3 .lawful)
 
 pub stopped-spec : {M : Type 1} → statement M
 stopped-spec =
