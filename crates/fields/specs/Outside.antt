@@ -32,7 +32,7 @@ module _ (table : List ℕ) (t : T (allRight table)) (class : Class) (v : List �
 
 -- ---- a line's bytes, by the tests in order
 
-outside-all : (class : Class) (v : List ℕ) → not (all (isIn class) v) ≡ any (passesByte (Outside class)) v
+pub outside-all : (class : Class) (v : List ℕ) → not (all (isIn class) v) ≡ any (passesByte (Outside class)) v
 outside-all class v = ap not (all-by-any (isIn class) v) ∙ twice (any (passesByte (Outside class)) v)
   where
     twice : (t : Bool) → not (not t) ≡ t

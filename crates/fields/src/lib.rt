@@ -451,7 +451,7 @@ pub fn bad_value(value: &[u8]) -> bool
 }
 
 // The same with the table of the caller, who reads it once for many names and values.
-fn any_outside<'a>(table: &'a [u8; 256], v: &'a [u8], class: Class) -> bool
+pub fn any_outside<'a>(table: &'a [u8; 256], v: &'a [u8], class: Class) -> bool
     requires { ⌜ T (allRight (now table)) ⌝ }
     ensures { λ r. ⌜ r ≡ any (passesByte (Byte.Outside class)) (now (v .entry)) ⌝ }
 {

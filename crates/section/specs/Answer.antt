@@ -4,6 +4,7 @@ use mathlib.Core.Path.{_≡_, refl, sym, ap, _∙_}
 use mathlib.Core.List.{List}
 use mathlib.Core.Option.{Option, none, some}
 use Rattle.rules.specs.Numbers.{codeNumber}
+use Rattle.rules.specs.Text.{ascii}
 use Rattle.rules.specs.Block.{Line, Section, Lines, readable}
 use Rattle.rules.specs.Block as block
 use Rattle.rules.specs.Section as rules
@@ -17,9 +18,15 @@ use Rattle.section.specs.declared.HeaderAnswer.{HeaderAnswer}
 use Rattle.section.specs.declared.HeaderAnswer.the-variants as header
 use Rattle.section.specs.declared.TrailerAnswer.{TrailerAnswer}
 use Rattle.section.specs.declared.TrailerAnswer.the-variants as trailer
-use Rattle.section.specs.Tests.{methodName, lengthName}
-use Rattle.section.specs.Finding.{first, valueFrom, valueTo}
-use Rattle.section.specs.Checks.{reasonOf}
+use Rattle.section.specs.Finding.{first, fromOf, toOf}
+use Rattle.section.specs.Checks.{checks, reasonOf}
+
+-- the two names whose values a sound header section tells
+abbrev pub methodName : List ℕ
+methodName = ascii ":method"
+
+abbrev pub lengthName : List ℕ
+lengthName = ascii "content-length"
 
 -- ---- what is told of a block: unreadable, or the judgement of its lines
 
@@ -32,14 +39,6 @@ pub record Headed : Type 0 where
   pub head : Head
   pub from : ℕ
   pub to : ℕ
-
-unfoldable pub fromOf : Option Line → ℕ
-fromOf none = 0
-fromOf (some l) = valueFrom l
-
-unfoldable pub toOf : Option Line → ℕ
-toOf none = 0
-toOf (some l) = valueTo l
 
 -- the line that names the method
 unfoldable pub methodLine : Section → Option Line
@@ -142,7 +141,7 @@ reasonBack rules.at-in-authority = AtInAuthority
 reasonBack rules.length-past-limit = LengthPastLimit
 
 reason-back : (r : Reason) → reasonBack (reasonOf r) ≡ r
-unfolding reasonBack reasonOf size-check bytes-check unknown-check repeated-check late-check in-trailers-check connection-check te-check method-check no-method-check repeated-length-check length-in-trailers-check digits-check length-above-check repeated-host-check connect-check present-check scheme-check path-check authority-check empty-check differ-check at-check length-check
+unfolding reasonBack reasonOf checks size-check bytes-check unknown-check repeated-check late-check in-trailers-check connection-check te-check method-check no-method-check repeated-length-check length-in-trailers-check digits-check length-above-check repeated-host-check connect-check present-check scheme-check path-check authority-check empty-check differ-check at-check length-check
 reason-back TooLarge = refl
 reason-back BadBytes = refl
 reason-back UnknownPseudo = refl

@@ -1,158 +1,163 @@
--- The rules' checks by their reasons, and the lists in which the code asks them. Assumes nothing.
-use Prim.Native.Nat.{ℕ, zero, suc, _+_, _<_, _≤_}
+-- The checks of document 01 in its order, the reason of each, and the lowest that is broken. Assumes nothing.
+use Prim.Native.Nat.{ℕ, zero, suc, _<_, _≤_}
 use mathlib.Core.Path.{_≡_, refl, sym, ap, _∙_}
-use mathlib.Core.List.{List, [], _∷_, map}
-use mathlib.Core.Bool.{Bool, true, false}
+use mathlib.Core.List.{List, [], _∷_}
+use mathlib.Core.Bool.{Bool, true, false, cond, not, _||_, _&&_}
 use mathlib.Core.Option.{Option, none, some}
-use native.Mathlib.Numerals.{add-one}
 use native.Mathlib.Omega.{arith}
-use lib.Dec.{lit≤}
-use lib.ListN.{length, drop, getD}
-use Rattle.rules.specs.Block.{Section}
+use lib.Dec.{ltb, leb·suc-zero, leb·suc-suc}
+use borrow.Author.Tests.{lt-ltb}
+use lib.ListN.{length, getD}
 use Rattle.rules.specs.Section as rules
-use Rattle.rules.specs.Section.{Check, size-check, bytes-check, unknown-check, repeated-check, late-check, in-trailers-check, connection-check, te-check, method-check, no-method-check, repeated-length-check, length-in-trailers-check, digits-check, length-above-check, repeated-host-check, connect-check, present-check, scheme-check, path-check, authority-check, empty-check, differ-check, at-check, length-check, header-checks, trailer-checks, firstBroken}
+use Rattle.rules.specs.Section.{Check, size-check, bytes-check, unknown-check, repeated-check, late-check, in-trailers-check, connection-check, te-check, method-check, no-method-check, repeated-length-check, length-in-trailers-check, digits-check, length-above-check, repeated-host-check, connect-check, present-check, scheme-check, path-check, authority-check, empty-check, differ-check, at-check, length-check}
 use Rattle.section.specs.declared.Reason.{Reason}
 use Rattle.section.specs.declared.Reason.the-variants.{TooLarge, BadBytes, UnknownPseudo, RepeatedPseudo, LatePseudo, PseudoInTrailers, ConnectionField, OtherTe, BadMethod, NoMethod, RepeatedLength, LengthInTrailers, NoDigits, LengthAbove, RepeatedHost, Connect, NoSchemeOrPath, OtherScheme, BadPath, NoAuthority, EmptyAuthority, AuthoritiesDiffer, AtInAuthority, LengthPastLimit}
-use Rattle.section.specs.declared.Kind.{Kind}
-use Rattle.section.specs.declared.Kind.the-variants.{Header, Trailers}
-use Rattle.section.specs.declared.Step.{Step}
-use Rattle.section.specs.declared.Step.the-variants as step
-use Rattle.section.specs.declared.Verdict.{Verdict}
-use Rattle.section.specs.declared.Verdict.the-variants as verdict
 
--- the check that a reason names
-abbrev pub checkOf : Reason → Check
-checkOf TooLarge = size-check
-checkOf BadBytes = bytes-check
-checkOf UnknownPseudo = unknown-check
-checkOf RepeatedPseudo = repeated-check
-checkOf LatePseudo = late-check
-checkOf PseudoInTrailers = in-trailers-check
-checkOf ConnectionField = connection-check
-checkOf OtherTe = te-check
-checkOf BadMethod = method-check
-checkOf NoMethod = no-method-check
-checkOf RepeatedLength = repeated-length-check
-checkOf LengthInTrailers = length-in-trailers-check
-checkOf NoDigits = digits-check
-checkOf LengthAbove = length-above-check
-checkOf RepeatedHost = repeated-host-check
-checkOf Connect = connect-check
-checkOf NoSchemeOrPath = present-check
-checkOf OtherScheme = scheme-check
-checkOf BadPath = path-check
-checkOf NoAuthority = authority-check
-checkOf EmptyAuthority = empty-check
-checkOf AuthoritiesDiffer = differ-check
-checkOf AtInAuthority = at-check
-checkOf LengthPastLimit = length-check
+-- of header sections and of trailers, in one list
+unfoldable pub checks : List Check
+checks =
+    size-check
+    ∷ bytes-check
+    ∷ unknown-check ∷ repeated-check ∷ late-check ∷ in-trailers-check
+    ∷ connection-check ∷ te-check
+    ∷ method-check ∷ no-method-check
+    ∷ repeated-length-check ∷ length-in-trailers-check ∷ digits-check ∷ length-above-check
+    ∷ repeated-host-check
+    ∷ connect-check
+    ∷ present-check
+    ∷ scheme-check
+    ∷ path-check
+    ∷ authority-check ∷ empty-check ∷ differ-check ∷ at-check
+    ∷ length-check
+    ∷ []
+
+-- a reason's number: the place of its check
+abbrev pub at : Reason → ℕ
+at TooLarge = 0
+at BadBytes = 1
+at UnknownPseudo = 2
+at RepeatedPseudo = 3
+at LatePseudo = 4
+at PseudoInTrailers = 5
+at ConnectionField = 6
+at OtherTe = 7
+at BadMethod = 8
+at NoMethod = 9
+at RepeatedLength = 10
+at LengthInTrailers = 11
+at NoDigits = 12
+at LengthAbove = 13
+at RepeatedHost = 14
+at Connect = 15
+at NoSchemeOrPath = 16
+at OtherScheme = 17
+at BadPath = 18
+at NoAuthority = 19
+at EmptyAuthority = 20
+at AuthoritiesDiffer = 21
+at AtInAuthority = 22
+at LengthPastLimit = 23
 
 -- the rules' name of a reason
 unfoldable pub reasonOf : Reason → rules.Reason
-reasonOf r = checkOf r .reason
+reasonOf r = getD checks (at r) size-check .reason
 
-unfoldable pub reasonsOf : Kind → List Reason
-reasonsOf Header =
-    TooLarge
-    ∷ BadBytes
-    ∷ UnknownPseudo ∷ RepeatedPseudo ∷ LatePseudo
-    ∷ ConnectionField ∷ OtherTe
-    ∷ BadMethod ∷ NoMethod
-    ∷ RepeatedLength ∷ NoDigits ∷ LengthAbove
-    ∷ RepeatedHost
-    ∷ Connect
-    ∷ NoSchemeOrPath
-    ∷ OtherScheme
-    ∷ BadPath
-    ∷ NoAuthority ∷ EmptyAuthority ∷ AuthoritiesDiffer ∷ AtInAuthority
-    ∷ LengthPastLimit
-    ∷ []
-reasonsOf Trailers =
-    TooLarge
-    ∷ BadBytes
-    ∷ UnknownPseudo ∷ RepeatedPseudo ∷ LatePseudo ∷ PseudoInTrailers
-    ∷ ConnectionField ∷ OtherTe
-    ∷ BadMethod
-    ∷ RepeatedLength ∷ LengthInTrailers ∷ NoDigits ∷ LengthAbove
-    ∷ RepeatedHost
-    ∷ []
+-- ---- the lowest of a row of tests
 
-abbrev pub checksOf : Kind → List Check
-checksOf Header = header-checks
-checksOf Trailers = trailer-checks
+unfoldable pub lowest : List Bool → ℕ
+lowest [] = 0
+lowest (t ∷ ts) = cond t 0 (suc (lowest ts))
 
--- the code's lists are the rules'
-pub same-checks : (k : Kind) → map checkOf (reasonsOf k) ≡ checksOf k
-unfolding reasonsOf header-checks trailer-checks
-same-checks Header = refl
-same-checks Trailers = refl
+-- with one more
+abbrev pub lowerOf : (first check : ℕ) (broken : Bool) → ℕ
+lowerOf n i t = cond (t && ltb i n) i n
 
-abbrev pub readVerdict : Verdict → Option rules.Reason
-readVerdict verdict.Passed = none
-readVerdict (verdict.Broken r) = some (reasonOf r)
+unfoldable pub put : ℕ → Bool → List Bool → List Bool
+put i t [] = []
+put zero t (b ∷ bs) = (t || b) ∷ bs
+put (suc i) t (b ∷ bs) = b ∷ put i t bs
 
--- the check at a place of a list
-abbrev pub stepAt : List Reason → ℕ → Step
-stepAt [] i = step.Done
-stepAt (r ∷ rs) zero = step.Check r
-stepAt (r ∷ rs) (suc i) = stepAt rs i
+pub put-is : (i : ℕ) (t : Bool) (bs : List Bool) → i < length bs → lowerOf (lowest bs) i t ≡ lowest (put i t bs)
+unfolding lowest put
+put-is i t [] h = absurd (omega arith)
+put-is zero true (true ∷ bs) h = refl
+put-is zero true (false ∷ bs) h = ap (λ u. cond u 0 (suc (lowest bs))) (lt-ltb 0 (suc (lowest bs)) (omega arith))
+put-is zero false (b ∷ bs) h = refl
+put-is (suc i) t (true ∷ bs) h = go t
+  where
+    go : (t : Bool) → lowerOf 0 (suc i) t ≡ 0
+    go true = ap (λ u. cond u (suc i) 0) (leb·suc-zero (suc i))
+    go false = refl
+put-is (suc i) t (false ∷ bs) h = go t (lowest bs) ∙ ap suc (put-is i t bs (omega arith))
+  where
+    go : (t : Bool) (m : ℕ) → lowerOf (suc m) (suc i) t ≡ suc (lowerOf m i t)
+    go false m = refl
+    go true m = ap (λ u. cond u (suc i) (suc m)) (leb·suc-suc (suc i) m) ∙ by (ltb i m)
+      where
+        by : (u : Bool) → cond u (suc i) (suc m) ≡ suc (cond u i m)
+        by true = refl
+        by false = refl
 
--- ---- laws
+pub push : {n : ℕ} (bs : List Bool) (i : ℕ) (u : Bool) {t : Bool} → n ≡ lowest bs → i < length bs → t ≡ u → lowerOf n i t ≡ lowest (put i u bs)
+push bs i u {t} e h f = ap (λ m. lowerOf m i t) e ∙ ap (λ v. lowerOf (lowest bs) i v) f ∙ put-is i u bs h
 
--- a check that was told of is the one asked for
-pub checked : {t u : Reason} (s : Section) {r : Bool} → t ≡ u → r ≡ checkOf u .broken s → r ≡ checkOf t .broken s
-checked s e p = p ∙ sym (ap (λ (x : Reason). checkOf x .broken s) e)
+-- a test in the place of one that said no
+unfoldable pub fill : ℕ → Bool → List Bool → List Bool
+fill i t [] = []
+fill zero t (b ∷ bs) = t ∷ bs
+fill (suc i) t (b ∷ bs) = b ∷ fill i t bs
 
-pub step-in : (rs : List Reason) (i : ℕ) (d : Reason) → i < length rs → stepAt rs i ≡ step.Check (getD rs i d)
-step-in [] i d h = absurd (omega arith)
-step-in (r ∷ rs) zero d h = refl
-step-in (r ∷ rs) (suc i) d h = step-in rs i d (omega arith)
+fill-is : (i : ℕ) (t : Bool) (bs : List Bool) → getD bs i true ≡ false → put i t bs ≡ fill i t bs
+unfolding put fill
+fill-is i t [] e = refl
+fill-is zero t (b ∷ bs) e = ap (λ u. u ∷ bs) (ap (λ u. t || u) e ∙ go t)
+  where
+    go : (t : Bool) → (t || false) ≡ t
+    go true = refl
+    go false = refl
+fill-is (suc i) t (b ∷ bs) e = ap (λ u. b ∷ u) (fill-is i t bs e)
 
-pub step-out : (rs : List Reason) (i : ℕ) → length rs ≤ i → stepAt rs i ≡ step.Done
-step-out [] i h = refl
-step-out (r ∷ rs) zero h = absurd (omega arith)
-step-out (r ∷ rs) (suc i) h = step-out rs i (omega arith)
+-- one check more, whose place was free
+pub and-then : {n : ℕ} (bs : List Bool) (i : ℕ) (u : Bool) {t : Bool} → n ≡ lowest bs → i < length bs → getD bs i true ≡ false → t ≡ u
+    → lowerOf n i t ≡ lowest (fill i u bs)
+and-then bs i u e h free f = push bs i u e h f ∙ ap lowest (fill-is i u bs free)
 
-pub few : (k : Kind) → length (reasonsOf k) ≤ 22
-unfolding reasonsOf
-few Header = lit≤ tt
-few Trailers = lit≤ tt
+-- ---- what a number tells
 
-pub step-below : (rs : List Reason) (i : ℕ) (r : Reason) → stepAt rs i ≡ step.Check r → i < length rs
-step-below [] i r e = let z : _≡_ {A = ℕ} 0 1 = cc in absurd (omega arith)
-step-below (x ∷ rs) zero r e = omega arith
-step-below (x ∷ rs) (suc i) r e = omega (arith, step-below rs i r e)
+unfoldable pub told : List Check → ℕ → Option rules.Reason
+told [] n = none
+told (c ∷ cs) zero = some (c .reason)
+told (c ∷ cs) (suc n) = told cs n
 
-module _ (s : Section) where
-  -- the checks from a place of the list on
-  unfoldable pub brokenFrom : List Reason → ℕ → Option rules.Reason
-  brokenFrom rs i = firstBroken (map checkOf (drop i rs)) s
+-- the first that is broken, by a row of what each says
+unfoldable pub firstIn : List Check → List Bool → Option rules.Reason
+firstIn [] bs = none
+firstIn (c ∷ cs) [] = none
+firstIn (c ∷ cs) (b ∷ bs) = elim b [ true ↦ some (c .reason) | false ↦ firstIn cs bs ]
 
-  pub none-left : (rs : List Reason) (i : ℕ) → stepAt rs i ≡ step.Done → brokenFrom rs i ≡ none
-  unfolding brokenFrom firstBroken
-  none-left [] zero e = refl
-  none-left [] (suc i) e = refl
-  none-left (r ∷ rs) zero e = let z : _≡_ {A = ℕ} 0 1 = cc in absurd (omega arith)
-  none-left (r ∷ rs) (suc i) e = none-left rs i e
+pub first-told : (cs : List Check) (bs : List Bool) → length cs ≡ length bs → firstIn cs bs ≡ told cs (lowest bs)
+unfolding firstIn told lowest
+first-told [] bs e = refl
+first-told (c ∷ cs) [] e = absurd (omega arith)
+first-told (c ∷ cs) (true ∷ bs) e = refl
+first-told (c ∷ cs) (false ∷ bs) e = first-told cs bs (omega arith)
 
-  now-at : (t : Bool) → Check → Option rules.Reason → Option rules.Reason
-  now-at t k rest = elim t [ true ↦ some (k .reason) | false ↦ rest ]
+told-in : (cs : List Check) (n : ℕ) (d : Check) → n < length cs → told cs n ≡ some (getD cs n d .reason)
+unfolding told
+told-in [] n d h = absurd (omega arith)
+told-in (c ∷ cs) zero d h = refl
+told-in (c ∷ cs) (suc n) d h = told-in cs n d (omega arith)
 
-  here : (rs : List Reason) (i : ℕ) (r : Reason) → stepAt rs i ≡ step.Check r
-      → brokenFrom rs i ≡ now-at (checkOf r .broken s) (checkOf r) (brokenFrom rs (suc i))
-  unfolding brokenFrom firstBroken now-at
-  here [] i r e = let z : _≡_ {A = ℕ} 0 1 = cc in absurd (omega arith)
-  here (x ∷ rs) zero r e = let f : x ≡ r = cc in ap (λ (y : Reason). now-at (checkOf y .broken s) (checkOf y) (firstBroken (map checkOf rs) s)) f
-  here (x ∷ rs) (suc i) r e = here rs i r e
+told-out : (cs : List Check) (n : ℕ) → length cs ≤ n → told cs n ≡ none
+unfolding told
+told-out [] n h = refl
+told-out (c ∷ cs) zero h = absurd (omega arith)
+told-out (c ∷ cs) (suc n) h = told-out cs n (omega arith)
 
-  pub broken-here : (rs : List Reason) (i : ℕ) (r : Reason) → stepAt rs i ≡ step.Check r → checkOf r .broken s ≡ true → brokenFrom rs i ≡ some (reasonOf r)
-  unfolding now-at reasonOf
-  broken-here rs i r e f = here rs i r e ∙ ap (λ t. now-at t (checkOf r) (brokenFrom rs (suc i))) f
+pub told-reason : (r : Reason) (n : ℕ) → at r ≡ n → n < 24 → told checks n ≡ some (reasonOf r)
+unfolding reasonOf checks
+told-reason r n e h = told-in checks n size-check h ∙ ap (λ (m : ℕ). some (getD checks m size-check .reason)) (sym e)
 
-  pub unbroken : (rs : List Reason) (i : ℕ) (r : Reason) → stepAt rs i ≡ step.Check r → checkOf r .broken s ≡ false → brokenFrom rs i ≡ brokenFrom rs (i + 1)
-  unfolding now-at
-  unbroken rs i r e f = here rs i r e ∙ ap (λ t. now-at t (checkOf r) (brokenFrom rs (suc i))) f ∙ ap (brokenFrom rs) (sym (add-one i))
-
-  pub from-first : (k : Kind) → firstBroken (checksOf k) s ≡ brokenFrom (reasonsOf k) 0
-  unfolding brokenFrom
-  from-first k = ap (λ (cs : List Check). firstBroken cs s) (sym (same-checks k))
+pub told-none : (n : ℕ) → 24 ≤ n → told checks n ≡ none
+unfolding checks
+told-none n h = told-out checks n h

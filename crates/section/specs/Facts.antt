@@ -1,78 +1,292 @@
--- What one walk of the lines collects, as a fold by one line; and each rule of document 01 by what was collected. Assumes nothing.
-use Prim.Native.Nat.{ℕ, zero, suc, _+_, _-_, _≤_, _<_}
-use mathlib.Core.Path.{_≡_, refl, sym, ap, _∙_, subst}
-use mathlib.Core.List.{List, [], _∷_}
+-- What one walk of the lines collects: what the rules say of the lines so far; and what one line more makes of it. Assumes nothing.
+use Prim.Native.Nat.{ℕ, _+_, _<_}
+use mathlib.Core.Path.{_≡_, refl, sym, ap, _∙_}
+use mathlib.Core.List.{List, [], _∷_, _++_, map}
 use mathlib.Core.Bool.{Bool, true, false, cond, not, _||_, _&&_}
 use mathlib.Core.Option.{Option, none, some}
 use native.Mathlib.Omega.{arith}
-use native.Mathlib.Nat.{zero-add, add-zero, add-assoc}
-use lib.Dec.{ltb, eqb}
-use lib.ListN.{length}
+use lib.Dec.{ltb, eqb, lit<}
+use lib.ListN.{length, getD, set}
 use borrow.Author.Tests.{ne-eqb}
 use Rattle.rules.specs.Text.{ascii, any, all, same}
 use Rattle.rules.specs.Integers.{largest}
 use Rattle.rules.specs.Classes.{isToken, isDigit}
 use Rattle.rules.specs.Block.{Line, Section, lines}
-use Rattle.rules.specs.Section.{isEmpty, begins, named, lineWith, has, repeated, valueOf, decimal, pseudo-fields, connection-fields, isPseudo, lineSize, size, badName, badValue, pseudoBehindPlain}
+use Rattle.rules.specs.Section.{isEmpty, begins, named, lineWith, has, repeated, valueOf, methodOf, decimal, decimalFrom, pseudo-fields, connection-fields, isPseudo, lineSize, size, badName, badValue, pseudoBehindPlain, bytes-check, unknown-check, repeated-check, late-check, connection-check, te-check, method-check, repeated-length-check, digits-check, length-above-check, repeated-host-check}
 use Rattle.fields.specs.Bytes.{badNameBytes, badValueBytes}
-use Rattle.fields.specs.Walk.{part, held, isReadable}
-use Rattle.section.specs.declared.Name.{Name}
-use Rattle.section.specs.declared.Name.the-variants.{Method, Scheme, Authority, Path, Host, ContentLength, Te, Connection, Unknown, Plain}
-use Rattle.section.specs.declared.Place.{Place}
+use Rattle.fields.specs.Decimal.{capped, past}
+use Rattle.fields.specs.Walk.{held, isReadable}
+use Rattle.section.specs.declared.Reason.the-variants.{BadBytes, UnknownPseudo, RepeatedPseudo, LatePseudo, ConnectionField, OtherTe, BadMethod, RepeatedLength, NoDigits, LengthAbove, RepeatedHost}
 use Rattle.section.specs.declared.Facts.{Facts}
 use Rattle.section.specs.declared.Walked.{Walked}
-use Rattle.section.specs.declared.Walked.the-variants as walked
-use Rattle.section.specs.Tests.{isOneName}
-use Rattle.section.specs.Names.{nameOf, nameIs, pseudoName, method-told, scheme-told, authority-told, path-told, host-told, length-told, te-told, connection-told, pseudo-told, unknown-told}
-use Rattle.section.specs.Finding.{first, valueFrom, valueTo}
-use Rattle.section.specs.Answer.{fromOf, toOf}
+use Rattle.section.specs.Checks.{at, lowest, lowerOf, put, push}
+use Rattle.section.specs.Names.{method, scheme, authority, path, host, content-length, te, connection, unknown, plain, by-kind, pseudoName, nameAt, isOneName, nameOf, ten, text-told, connection-told, pseudo-told, unknown-told}
+use Rattle.section.specs.Finding.{first, valueFrom, valueTo, fromOf, toOf}
 
--- ---- the first line of a name
+-- ---- of the lines so far
 
-abbrev pub noPlace : Place
-noPlace = record { from = 0; to = 0 }
+abbrev isPlain : Line → Bool
+isPlain l = not (isPseudo l)
 
-unfoldable pub seenAt : Place → (from to : ℕ) → Place
-seenAt p a b = cond (eqb (p .to) 0) (record { from = a; to = b }) p
+-- the checks that the lines settle by themselves, in their places
+unfoldable pub rowOf : Section → List Bool
+rowOf s =
+    false
+    ∷ bytes-check .broken s
+    ∷ unknown-check .broken s ∷ repeated-check .broken s ∷ late-check .broken s ∷ false
+    ∷ connection-check .broken s ∷ te-check .broken s
+    ∷ method-check .broken s ∷ false
+    ∷ repeated-length-check .broken s ∷ false ∷ digits-check .broken s ∷ length-above-check .broken s
+    ∷ repeated-host-check .broken s
+    ∷ false ∷ false ∷ false ∷ false ∷ false ∷ false ∷ false ∷ false ∷ false
+    ∷ []
 
-abbrev pub placeBy : Bool → Place → (from to : ℕ) → Place
-placeBy true p a b = seenAt p a b
-placeBy false p a b = p
+-- the six names whose first line is kept
+abbrev kept-names : List (List ℕ)
+kept-names = nameAt method ∷ nameAt scheme ∷ nameAt authority ∷ nameAt path ∷ nameAt host ∷ nameAt content-length ∷ []
 
-abbrev pub isThere : Place → Bool
-isThere p = not (eqb (p .to) 0)
+abbrev pub fromIn : Section → (name : List ℕ) → ℕ
+fromIn s name = fromOf (first (named name) s)
 
-abbrev pub valueIn : List ℕ → Place → Option (List ℕ)
-valueIn block p = cond (eqb (p .to) 0) none (some (part (p .from) (p .to) block))
+abbrev pub toIn : Section → (name : List ℕ) → ℕ
+toIn s name = toOf (first (named name) s)
 
--- ---- one line
+-- the value of the first line; nothing where there is none
+abbrev pub valueAt : Section → (k : ℕ) → List ℕ
+valueAt s k = methodOf (valueOf (nameAt k) s)
 
-abbrev pub noFacts : Facts
-noFacts = record {
-  size = 0;
-  bad = false;
-  unknown = false;
-  pseudo = false;
-  plain = false;
-  late = false;
-  connection = false;
-  te = false;
-  wrong = false;
-  digitless = false;
-  above = false;
-  methods = false;
-  schemes = false;
-  authorities = false;
-  paths = false;
-  hosts = false;
-  lengths = false;
-  method = noPlace;
-  scheme = noPlace;
-  authority = noPlace;
-  path = noPlace;
-  host = noPlace;
-  length = noPlace;
-}
+abbrev pub valueIn : Option Line → List ℕ
+valueIn none = []
+valueIn (some l) = l .value
+
+abbrev facts : (size first : ℕ) (pseudo plain : Bool) (stated : ℕ) (from to : List ℕ) → Facts
+facts z n p q d a b = record { size = z; first = n; pseudo = p; plain = q; stated = d; from = a; to = b }
+
+unfoldable pub factsOf : Section → Facts
+factsOf s =
+    facts (size s) (lowest (rowOf s)) (any isPseudo s) (any isPlain s) (capped (decimal (valueAt s content-length)))
+    (map (fromIn s) kept-names)
+    (map (toIn s) kept-names)
+
+unfoldable pub noFacts : Facts
+noFacts = facts 0 24 false false 0 (0 ∷ 0 ∷ 0 ∷ 0 ∷ 0 ∷ 0 ∷ []) (0 ∷ 0 ∷ 0 ∷ 0 ∷ 0 ∷ 0 ∷ [])
+
+-- ---- one line more, by what its name is
+
+-- what is there stays
+abbrev pub keptOf : (there old new : ℕ) → ℕ
+keptOf t old new = cond (eqb t 0) new old
+
+abbrev pub thereAt : Facts → (k : ℕ) → Bool
+thereAt f k = not (eqb (getD (f .to) k 0) 0)
+
+abbrev fromWith : Facts → (k from : ℕ) → List ℕ
+fromWith f k a = set (f .from) k (keptOf (getD (f .to) k 0) (getD (f .from) k 0) a)
+
+abbrev toWith : Facts → (k to : ℕ) → List ℕ
+toWith f k b = set (f .to) k (keptOf (getD (f .to) k 0) (getD (f .to) k 0) b)
+
+unfoldable pub keepAt : Facts → (k from to : ℕ) → Facts
+keepAt f k a b = facts (f .size) (f .first) (f .pseudo) (f .plain) (f .stated) (fromWith f k a) (toWith f k b)
+
+abbrev pub badMethod : List ℕ → Bool
+badMethod v = isEmpty v || not (all isToken v)
+
+abbrev pub noDigits : List ℕ → Bool
+noDigits v = isEmpty v || not (all isDigit v)
+
+abbrev pub otherTe : List ℕ → Bool
+otherTe v = not (same v (ascii "trailers"))
+
+abbrev knownFirst : Facts → (k : ℕ) → ℕ
+knownFirst f k = lowerOf (lowerOf (f .first) (at RepeatedPseudo) (thereAt f k)) (at LatePseudo) (f .plain)
+
+-- a request pseudo-field
+unfoldable pub knownBy : (k : ℕ) → Facts → (from to : ℕ) → Facts
+knownBy k f a b = facts (f .size) (knownFirst f k) true (f .plain) (f .stated) (fromWith f k a) (toWith f k b)
+
+-- another field
+unfoldable pub plainBy : Facts → (first : ℕ) → Facts
+plainBy f n = facts (f .size) n (f .pseudo) true (f .stated) (f .from) (f .to)
+
+unfoldable pub noteBy : (k : ℕ) → Facts → (value : List ℕ) (from to : ℕ) → Facts
+noteBy k f v a b =
+    cond (eqb k method)
+    (facts (f .size) (lowerOf (knownFirst f method) (at BadMethod) (badMethod v)) true (f .plain) (f .stated) (fromWith f method a) (toWith f method b))
+    (cond (ltb k host) (knownBy k f a b)
+    (cond (eqb k host)
+    (facts (f .size) (lowerOf (f .first) (at RepeatedHost) (thereAt f host)) (f .pseudo) true (f .stated) (fromWith f host a) (toWith f host b))
+    (cond (eqb k content-length)
+    (facts (f .size)
+    (lowerOf (lowerOf (lowerOf (f .first) (at RepeatedLength) (thereAt f content-length)) (at NoDigits) (noDigits v)) (at LengthAbove) (ltb largest (capped (decimal v))))
+    (f .pseudo) true (keptOf (getD (f .to) content-length 0) (f .stated) (capped (decimal v))) (fromWith f content-length a) (toWith f content-length b))
+    (cond (eqb k te) (plainBy f (lowerOf (f .first) (at OtherTe) (otherTe v)))
+    (cond (eqb k connection) (plainBy f (lowerOf (f .first) (at ConnectionField) true))
+    (cond (eqb k unknown)
+    (facts (f .size) (lowerOf (lowerOf (f .first) (at UnknownPseudo) true) (at LatePseudo) (f .plain)) true (f .plain) (f .stated) (f .from) (f .to))
+    (plainBy f (f .first))))))))
+
+-- the kind that was told of is the name's
+pub of-kind : (f : Facts) (v : List ℕ) (a b : ℕ) {k t : ℕ} {r : Facts} → k ≡ t → r ≡ noteBy t f v a b → r ≡ noteBy k f v a b
+of-kind f v a b e p = p ∙ sym (ap (λ (x : ℕ). noteBy x f v a b) e)
+
+-- its bytes and its size too
+abbrev withBytes : Facts → (name value : List ℕ) → (size : ℕ) → Facts
+withBytes g n v z = facts z (lowerOf (g .first) (at BadBytes) (badNameBytes n || badValueBytes v)) (g .pseudo) (g .plain) (g .stated) (g .from) (g .to)
+
+unfoldable pub lineStep : Facts → (name value : List ℕ) (from to : ℕ) → Facts
+lineStep f n v a b = withBytes (noteBy (nameOf n) f v a b) n v (f .size + length n + length v)
+
+-- ---- what the rules say of one line more
+
+four : (a b c d : Bool) → ((a || b) || (c || d)) ≡ ((a || c) || (b || d))
+four true b c d = refl
+four false true true d = refl
+four false true false d = refl
+four false false c d = refl
+
+-- some line has one of the names where one of the names has some line
+swap : (names : List (List ℕ)) (s : Section) → any (λ l. isOneName names (l .name)) s ≡ any (λ name. has name s) names
+unfolding any has named
+swap names [] = sym (none-has names)
+  where
+    none-has : (ns : List (List ℕ)) → any (λ name. has name []) ns ≡ false
+    none-has [] = refl
+    none-has (n ∷ ns) = none-has ns
+swap names (l ∷ s) = ap (λ t. isOneName names (l .name) || t) (swap names s) ∙ sym (split names)
+  where
+    split : (ns : List (List ℕ)) → any (λ name. has name (l ∷ s)) ns ≡ (isOneName ns (l .name) || any (λ name. has name s) ns)
+    split [] = refl
+    split (n ∷ ns) = ap (λ t. (same (l .name) n || has n s) || t) (split ns) ∙ four (same (l .name) n) (has n s) (isOneName ns (l .name)) (any (λ name. has name s) ns)
+
+abbrev keptBy : Bool → (there old new : ℕ) → ℕ
+keptBy true t old new = keptOf t old new
+keptBy false t old new = old
+
+map-same : {f g : List ℕ → ℕ} → ((x : List ℕ) → f x ≡ g x) → (xs : List (List ℕ)) → map f xs ≡ map g xs
+map-same e [] = refl
+map-same {f} {g} e (x ∷ xs) = ap (λ y. y ∷ map f xs) (e x) ∙ ap (λ ys. g x ∷ ys) (map-same e xs)
+
+same-facts : {z n m d e : ℕ} {p q : Bool} {a b : List ℕ} → n ≡ m → d ≡ e → facts z n p q d a b ≡ facts z m p q e a b
+same-facts {z} {m} {d} {p} {q} {a} {b} f g = ap (λ (x : ℕ). facts z x p q d a b) f ∙ ap (λ (x : ℕ). facts z m p q x a b) g
+
+-- a line is somewhere behind the block's first byte
+pub somewhere : (l : Line) → eqb (valueTo l) 0 ≡ false
+somewhere l = ne-eqb (valueTo l) 0 (λ e. omega arith)
+
+module _ (l : Line) where
+  abbrev more : Section → Section
+  more s = s ++ (l ∷ [])
+
+  any-more : (test : Line → Bool) (s : Section) → any test (more s) ≡ (test l || any test s)
+  unfolding any
+  any-more test [] = refl
+  any-more test (m ∷ s) = ap (λ t. test m || t) (any-more test s) ∙ go (test m) (test l) (any test s)
+    where
+      go : (a b c : Bool) → (a || (b || c)) ≡ (b || (a || c))
+      go true true c = refl
+      go true false c = refl
+      go false b c = refl
+
+  size-more : (s : Section) → size (more s) ≡ size s + length (l .name) + length (l .value)
+  unfolding size lineSize
+  size-more [] = omega arith
+  size-more (m ∷ s) = omega (arith, size-more s)
+
+  repeated-more : (name : List ℕ) (s : Section) → repeated name (more s) ≡ ((named name l && has name s) || repeated name s)
+  unfolding repeated has any
+  repeated-more name [] = go (named name l)
+    where
+      go : (t : Bool) → ((t && false) || false) ≡ ((t && false) || false)
+      go t = refl
+  repeated-more name (m ∷ s) =
+      ap (λ t. (named name m && t) || repeated name (more s)) (any-more (named name) s) ∙ ap (λ t. (named name m && (named name l || has name s)) || t) (repeated-more name s)
+      ∙ go (named name m) (named name l) (has name s) (repeated name s)
+    where
+      go : (m l h r : Bool) → ((m && (l || h)) || ((l && h) || r)) ≡ ((l && (m || h)) || ((m && h) || r))
+      go true true h r = refl
+      go true false h r = refl
+      go false true h r = refl
+      go false false h r = refl
+
+  -- of one of the names
+  one-more : (names : List (List ℕ)) (s : Section) → any (λ name. repeated name (more s)) names
+      ≡ (any (λ name. named name l && has name s) names || any (λ name. repeated name s) names)
+  unfolding any
+  one-more [] s = refl
+  one-more (n ∷ ns) s =
+      ap (λ t. t || any (λ name. repeated name (more s)) ns) (repeated-more n s) ∙ ap (λ t. ((named n l && has n s) || repeated n s) || t) (one-more ns s)
+      ∙ four (named n l && has n s) (repeated n s) (any (λ name. named name l && has name s) ns) (any (λ name. repeated name s) ns)
+
+  late-more : (s : Section) → pseudoBehindPlain (more s) ≡ ((isPseudo l && any isPlain s) || pseudoBehindPlain s)
+  unfolding pseudoBehindPlain any
+  late-more [] = go (isPseudo l)
+    where
+      go : (t : Bool) → ((not t && false) || false) ≡ ((t && false) || false)
+      go true = refl
+      go false = refl
+  late-more (m ∷ s) =
+      ap (λ t. (not (isPseudo m) && t) || pseudoBehindPlain (more s)) (any-more isPseudo s) ∙ ap (λ t. (not (isPseudo m) && (isPseudo l || any isPseudo s)) || t) (late-more s)
+      ∙ go (isPseudo m) (isPseudo l) (any isPseudo s) (any isPlain s) (pseudoBehindPlain s)
+    where
+      go : (m l p q r : Bool) → ((not m && (l || p)) || ((l && q) || r)) ≡ ((l && (not m || q)) || ((not m && p) || r))
+      go true true p q r = refl
+      go true false p q r = refl
+      go false true p q r = refl
+      go false false p q r = refl
+
+  has-more : (names : List (List ℕ)) (s : Section) → any (λ name. has name (more s)) names ≡ (isOneName names (l .name) || any (λ name. has name s) names)
+  has-more names s = sym (swap names (more s)) ∙ any-more (λ m. isOneName names (m .name)) s ∙ ap (λ t. isOneName names (l .name) || t) (swap names s)
+
+  -- the first line of a name, and what it gives
+  first-more : (test : Line → Bool) (s : Section) (get : Option Line → ℕ) → get none ≡ 0
+      → get (first test (more s)) ≡ keptBy (test l) (toOf (first test s)) (get (first test s)) (get (some l))
+  unfolding first toOf
+  first-more test [] get e = go (test l)
+    where
+      go : (t : Bool) → get (cond t (some l) none) ≡ keptBy t 0 (get none) (get (some l))
+      go true = refl
+      go false = refl
+  first-more test (m ∷ s) get e = go (test m) (first-more test s get e)
+    where
+      stays : (t : Bool) → get (some m) ≡ keptBy t (valueTo m) (get (some m)) (get (some l))
+      stays true = sym (ap (λ u. cond u (get (some l)) (get (some m))) (somewhere m))
+      stays false = refl
+
+      go : (t : Bool) → get (first test (more s)) ≡ keptBy (test l) (toOf (first test s)) (get (first test s)) (get (some l))
+          → get (cond t (some m) (first test (more s))) ≡ keptBy (test l) (toOf (cond t (some m) (first test s))) (get (cond t (some m) (first test s))) (get (some l))
+      go true ih = stays (test l)
+      go false ih = ih
+
+-- the value of a name is its first line's
+pub value-first : (name : List ℕ) (s : Section) → methodOf (valueOf name s) ≡ valueIn (first (named name) s)
+unfolding first valueOf methodOf
+value-first name [] = refl
+value-first name (l ∷ s) = go (named name l) (value-first name s)
+  where
+    go : (t : Bool) → methodOf (valueOf name s) ≡ valueIn (first (named name) s)
+        → methodOf (elim t [ true ↦ some (l .value) | false ↦ valueOf name s ]) ≡ valueIn (cond t (some l) (first (named name) s))
+    go true ih = refl
+    go false ih = ih
+
+-- a name is there where its line has a place
+pub there-is : (name : List ℕ) (s : Section) → not (eqb (toIn s name) 0) ≡ has name s
+unfolding first toOf has any
+there-is name [] = refl
+there-is name (l ∷ s) = go (named name l) (there-is name s)
+  where
+    go : (t : Bool) → not (eqb (toIn s name) 0) ≡ has name s → not (eqb (toOf (cond t (some l) (first (named name) s))) 0) ≡ (t || has name s)
+    go true ih = ap not (somewhere l)
+    go false ih = ih
+
+there-or : (name : List ℕ) (s : Section) → not (eqb (toIn s name) 0) ≡ (has name s || false)
+there-or name s = there-is name s ∙ go (has name s)
+  where
+    go : (t : Bool) → t ≡ (t || false)
+    go true = refl
+    go false = refl
+
+-- ---- so one line more is a step of what is collected
 
 -- what the rules ask of a name
 pub record Asked : Type 0 where
@@ -93,381 +307,150 @@ asks u p c t m s a h o l = record { unknown = u; pseudo = p; connection = c; te 
 -- in the rules' words, and by what the name is
 abbrev askedOf : List ℕ → Asked
 askedOf n =
-    asks (begins (eqb 0x3a) n && not (isOneName pseudo-fields n)) (begins (eqb 0x3a) n) (isOneName connection-fields n) (same n (ascii "te"))
-    (same n (ascii ":method")) (same n (ascii ":scheme")) (same n (ascii ":authority")) (same n (ascii ":path")) (same n (ascii "host"))
-    (same n (ascii "content-length"))
+    asks (begins (eqb 0x3a) n && not (isOneName pseudo-fields n)) (begins (eqb 0x3a) n) (isOneName connection-fields n) (same n (nameAt te))
+    (same n (nameAt method)) (same n (nameAt scheme)) (same n (nameAt authority)) (same n (nameAt path)) (same n (nameAt host)) (same n (nameAt content-length))
 
-abbrev askedBy : Name → Asked
+abbrev askedBy : ℕ → Asked
 askedBy k =
-    asks (nameIs Unknown k) (pseudoName k) (nameIs Connection k) (nameIs Te k)
-    (nameIs Method k) (nameIs Scheme k) (nameIs Authority k) (nameIs Path k) (nameIs Host k) (nameIs ContentLength k)
+    asks (eqb k unknown) (pseudoName k) (eqb k connection) (eqb k te) (eqb k method) (eqb k scheme) (eqb k authority) (eqb k path) (eqb k host) (eqb k content-length)
 
 asked-is : (n : List ℕ) → askedOf n ≡ askedBy (nameOf n)
 asked-is n =
-    rw (unknown-told, pseudo-told, connection-told, te-told, method-told, scheme-told, authority-told, path-told, host-told, length-told)
-
-abbrev badMethod : List ℕ → Bool
-badMethod v = isEmpty v || not (all isToken v)
-
-abbrev noDigits : List ℕ → Bool
-noDigits v = isEmpty v || not (all isDigit v)
+    rw (unknown-told n, pseudo-told n, connection-told n, text-told n te (lit< tt), text-told n method (lit< tt), text-told n scheme (lit< tt), text-told n authority (lit< tt), text-told n path (lit< tt), text-told n host (lit< tt), text-told n content-length (lit< tt))
 
 abbrev aboveLargest : List ℕ → Bool
 aboveLargest v = ltb largest (decimal v)
 
-abbrev otherTe : List ℕ → Bool
-otherTe v = not (same v (ascii "trailers"))
+module _ (s : Section) (l : Line) where
+  abbrev again : Asked → Bool
+  again q =
+      (q .method && has (nameAt method) s) || ((q .scheme && has (nameAt scheme) s) || ((q .authority && has (nameAt authority) s) || ((q .path && has (nameAt path) s) || false)))
 
-abbrev noteAs : (size : ℕ) (bad : Bool) → Asked → Facts → (value : List ℕ) (from to : ℕ) → Facts
-noteAs z x q f v a b = record {
-  size = z;
-  bad = x;
-  unknown = q .unknown || f .unknown;
-  pseudo = q .pseudo || f .pseudo;
-  plain = not (q .pseudo) || f .plain;
-  late = (q .pseudo && f .plain) || f .late;
-  connection = q .connection || f .connection;
-  te = (q .te && otherTe v) || f .te;
-  wrong = (q .method && badMethod v) || f .wrong;
-  digitless = (q .length && noDigits v) || f .digitless;
-  above = (q .length && aboveLargest v) || f .above;
-  methods = (q .method && isThere (f .method)) || f .methods;
-  schemes = (q .scheme && isThere (f .scheme)) || f .schemes;
-  authorities = (q .authority && isThere (f .authority)) || f .authorities;
-  paths = (q .path && isThere (f .path)) || f .paths;
-  hosts = (q .host && isThere (f .host)) || f .hosts;
-  lengths = (q .length && isThere (f .length)) || f .lengths;
-  method = placeBy (q .method) (f .method) a b;
-  scheme = placeBy (q .scheme) (f .scheme) a b;
-  authority = placeBy (q .authority) (f .authority) a b;
-  path = placeBy (q .path) (f .path) a b;
-  host = placeBy (q .host) (f .host) a b;
-  length = placeBy (q .length) (f .length) a b;
-}
+  abbrev rowBy : Asked → List Bool
+  rowBy q =
+      false
+      ∷ ((badName l || badValue l) || bytes-check .broken s)
+      ∷ (q .unknown || unknown-check .broken s) ∷ (again q || repeated-check .broken s) ∷ ((q .pseudo && any isPlain s) || late-check .broken s) ∷ false
+      ∷ (q .connection || connection-check .broken s) ∷ ((q .te && otherTe (l .value)) || te-check .broken s)
+      ∷ ((q .method && badMethod (l .value)) || method-check .broken s) ∷ false
+      ∷ ((q .length && has (nameAt content-length) s) || repeated-length-check .broken s) ∷ false
+      ∷ ((q .length && noDigits (l .value)) || digits-check .broken s) ∷ ((q .length && aboveLargest (l .value)) || length-above-check .broken s)
+      ∷ ((q .host && has (nameAt host) s) || repeated-host-check .broken s)
+      ∷ false ∷ false ∷ false ∷ false ∷ false ∷ false ∷ false ∷ false ∷ false
+      ∷ []
 
--- by what the name is, as the code goes
-unfoldable pub noteBy : Name → Facts → (value : List ℕ) (from to : ℕ) → Facts
-noteBy k f v a b = noteAs (f .size) (f .bad) (askedBy k) f v a b
+  row-more : rowOf (more l s) ≡ rowBy (askedOf (l .name))
+  unfolding rowOf bytes-check unknown-check repeated-check late-check connection-check te-check method-check repeated-length-check digits-check length-above-check repeated-host-check lineWith named isPseudo pseudo-fields any
+  row-more =
+      rw (any-more l (λ m. badName m || badValue m) s, any-more l (λ m. isPseudo m && not (any (λ name. named name m) pseudo-fields)) s, one-more l pseudo-fields s, late-more l s, has-more l connection-fields s, any-more l (λ m. named (nameAt te) m && otherTe (m .value)) s, any-more l (λ m. named (nameAt method) m && badMethod (m .value)) s, repeated-more l (nameAt content-length) s, any-more l (λ m. named (nameAt content-length) m && noDigits (m .value)) s, any-more l (λ m. named (nameAt content-length) m && aboveLargest (m .value)) s, repeated-more l (nameAt host) s)
 
-unfoldable pub notePlain : Facts → Facts
-notePlain f = noteBy Plain f [] 0 0
+  abbrev sixBy : (Bool → ℕ → ℕ) → Asked → List ℕ
+  sixBy by q = by (q .method) method ∷ by (q .scheme) scheme ∷ by (q .authority) authority ∷ by (q .path) path ∷ by (q .host) host ∷ by (q .length) content-length ∷ []
 
-unfoldable pub notePseudo : Facts → Facts
-notePseudo f = record {
-  size = f .size;
-  bad = f .bad;
-  unknown = f .unknown;
-  pseudo = true;
-  plain = f .plain;
-  late = f .plain || f .late;
-  connection = f .connection;
-  te = f .te;
-  wrong = f .wrong;
-  digitless = f .digitless;
-  above = f .above;
-  methods = f .methods;
-  schemes = f .schemes;
-  authorities = f .authorities;
-  paths = f .paths;
-  hosts = f .hosts;
-  lengths = f .lengths;
-  method = f .method;
-  scheme = f .scheme;
-  authority = f .authority;
-  path = f .path;
-  host = f .host;
-  length = f .length;
-}
+  abbrev after : Asked → Facts
+  after q =
+      facts (size s + length (l .name) + length (l .value)) (lowest (rowBy q)) (q .pseudo || any isPseudo s) (not (q .pseudo) || any isPlain s)
+      (keptBy (q .length) (toIn s (nameAt content-length)) (capped (decimal (valueAt s content-length))) (capped (decimal (l .value))))
+      (sixBy (λ t k. keptBy t (toIn s (nameAt k)) (fromIn s (nameAt k)) (valueFrom l)) q)
+      (sixBy (λ t k. keptBy t (toIn s (nameAt k)) (toIn s (nameAt k)) (valueTo l)) q)
 
--- a line more, in the rules' words
-unfoldable pub lineStep : Facts → (name value : List ℕ) (from to : ℕ) → Facts
-lineStep f n v a b = noteAs (f .size + length n + length v) ((badNameBytes n || badValueBytes v) || f .bad) (askedOf n) f v a b
+  number-more : capped (decimal (valueAt (more l s) content-length))
+      ≡ keptBy (named (nameAt content-length) l) (toIn s (nameAt content-length)) (capped (decimal (valueAt s content-length))) (capped (decimal (l .value)))
+  unfolding decimal decimalFrom capped
+  number-more =
+      ap (λ v. capped (decimal v)) (value-first (nameAt content-length) (more l s)) ∙ first-more l (named (nameAt content-length)) s (λ o. capped (decimal (valueIn o))) refl
+      ∙ ap (λ v. keptBy (named (nameAt content-length) l) (toIn s (nameAt content-length)) (capped (decimal v)) (capped (decimal (l .value)))) (sym (value-first (nameAt content-length) s))
 
-pub step-by-name : (f : Facts) (n v : List ℕ) (a b : ℕ)
-    → noteAs (f .size + length n + length v) ((badNameBytes n || badValueBytes v) || f .bad) (askedBy (nameOf n)) f v a b ≡ lineStep f n v a b
-unfolding lineStep
-step-by-name f n v a b = ap (λ (q : Asked). noteAs (f .size + length n + length v) ((badNameBytes n || badValueBytes v) || f .bad) q f v a b) (sym (asked-is n))
+  from-more : map (fromIn (more l s)) kept-names ≡ map (λ name. keptBy (named name l) (toIn s name) (fromIn s name) (valueFrom l)) kept-names
+  unfolding fromOf
+  from-more = map-same (λ name. first-more l (named name) s fromOf refl) kept-names
 
--- ---- the fold
+  to-more : map (toIn (more l s)) kept-names ≡ map (λ name. keptBy (named name l) (toIn s name) (toIn s name) (valueTo l)) kept-names
+  unfolding toOf
+  to-more = map-same (λ name. first-more l (named name) s toOf refl) kept-names
 
-unfoldable pub fold : {A : Type 0} → (A → Line → A) → A → Section → A
-fold add a [] = a
-fold add a (l ∷ s) = fold add (add a l) s
+  more-is : factsOf (more l s) ≡ after (askedOf (l .name))
+  unfolding factsOf named isPseudo
+  more-is = rw (size-more l s, row-more, any-more l isPseudo s, any-more l isPlain s, number-more, from-more, to-more)
 
-abbrev pub step : Facts → Line → Facts
-step f l = lineStep f (l .name) (l .value) (valueFrom l) (valueTo l)
+  -- by each of the ten kinds
+  abbrev Steps : ℕ → Type 0
+  Steps k = withBytes (noteBy k (factsOf s) (l .value) (valueFrom l) (valueTo l)) (l .name) (l .value) (size s + length (l .name) + length (l .value)) ≡ after (askedBy k)
 
-unfoldable pub factsFrom : Facts → Section → Facts
-factsFrom f s = fold step f s
+  -- the checks that a kind may break, and bad bytes
+  abbrev bad : Bool
+  bad = badNameBytes (l .name) || badValueBytes (l .value)
 
-unfoldable pub factsOf : Section → Facts
-factsOf s = factsFrom noFacts s
+  bad-too : {n : ℕ} (bs : List Bool) → n ≡ lowest bs → 1 < length bs → lowerOf n (at BadBytes) bad ≡ lowest (put (at BadBytes) bad bs)
+  bad-too bs e h = push bs (at BadBytes) bad e h refl
 
--- a part of what is collected is a fold of its own
-view : {A B : Type 0} (add : A → Line → A) (get : A → B) (more : B → Line → B) → ((a : A) (l : Line) → get (add a l) ≡ more (get a) l)
-    → (a : A) (s : Section) → get (fold add a s) ≡ fold more (get a) s
-unfolding fold
-view add get more e a [] = refl
-view add get more e a (l ∷ s) = view add get more e (add a l) s ∙ ap (λ b. fold more b s) (e a l)
+  -- a request pseudo-field
+  known-row : (u : Bool) → List Bool
+  known-row u = put (at LatePseudo) (any isPlain s) (put (at RepeatedPseudo) u (rowOf s))
 
--- a test of the lines
-any-fold : (test : Line → Bool) (t : Bool) (s : Section) → fold (λ b l. test l || b) t s ≡ (t || any test s)
-unfolding fold any
-any-fold test t [] = go t
-  where
-    go : (t : Bool) → t ≡ (t || false)
-    go true = refl
-    go false = refl
-any-fold test t (l ∷ s) = any-fold test (test l || t) s ∙ go (test l) t (any test s)
-  where
-    go : (a b c : Bool) → ((a || b) || c) ≡ (b || (a || c))
-    go true true c = refl
-    go true false c = refl
-    go false b c = refl
+  known : (u : Bool) {t : Bool} → t ≡ u → lowerOf (lowerOf (lowest (rowOf s)) (at RepeatedPseudo) t) (at LatePseudo) (any isPlain s) ≡ lowest (known-row u)
+  unfolding rowOf put known-row
+  known u e = push _ (at LatePseudo) (any isPlain s) (push (rowOf s) (at RepeatedPseudo) u refl (lit< tt) e) (lit< tt) refl
 
-size-fold : (n : ℕ) (s : Section) → fold (λ m l. m + length (l .name) + length (l .value)) n s ≡ n + size s
-unfolding fold size lineSize
-size-fold n [] = sym (add-zero n)
-size-fold n (l ∷ s) = size-fold (n + length (l .name) + length (l .value)) s ∙ omega arith
+  step-method : Steps method
+  unfolding factsOf noteBy rowOf put known-row badNameBytes badValueBytes badName badValue isPseudo
+  step-method = same-facts (bad-too _ (push _ (at BadMethod) (badMethod (l .value)) (known _ (there-or (nameAt method) s)) (lit< tt) refl) (lit< tt)) refl
 
--- the place of a name, and whether the name comes again
-unfoldable pub placeOf : (name : List ℕ) → Section → Place
-placeOf name s = record { from = fromOf (first (named name) s); to = toOf (first (named name) s) }
+  step-scheme : Steps scheme
+  unfolding factsOf noteBy knownBy rowOf put known-row badNameBytes badValueBytes badName badValue isPseudo
+  step-scheme = same-facts (bad-too _ (known _ (there-or (nameAt scheme) s)) (lit< tt)) refl
 
-pub record Seen : Type 0 where
-  pub place : Place
-  pub again : Bool
+  step-authority : Steps authority
+  unfolding factsOf noteBy knownBy rowOf put known-row badNameBytes badValueBytes badName badValue isPseudo
+  step-authority = same-facts (bad-too _ (known _ (there-or (nameAt authority) s)) (lit< tt)) refl
 
-abbrev seenOr : Option Line → (again : Bool) → Seen
-seenOr o t = record { place = record { from = fromOf o; to = toOf o }; again = t }
+  step-path : Steps path
+  unfolding factsOf noteBy knownBy rowOf put known-row badNameBytes badValueBytes badName badValue isPseudo
+  step-path = same-facts (bad-too _ (known _ (there-or (nameAt path) s)) (lit< tt)) refl
 
-abbrev unseen : Seen
-unseen = record { place = noPlace; again = false }
+  step-host : Steps host
+  unfolding factsOf noteBy rowOf put badNameBytes badValueBytes badName badValue isPseudo
+  step-host = same-facts (bad-too _ (push (rowOf s) (at RepeatedHost) _ refl (lit< tt) (there-is (nameAt host) s)) (lit< tt)) refl
 
-module _ (name : List ℕ) where
-  had : (s : Section) → (has name s || repeated name s) ≡ has name s
-  unfolding has repeated any
-  had [] = refl
-  had (l ∷ s) = go (named name l) (has name s) (repeated name s) (had s)
-    where
-      go : (t h r : Bool) → (h || r) ≡ h → ((t || h) || ((t && h) || r)) ≡ (t || h)
-      go true h r e = refl
-      go false h r e = e
+  step-length : Steps content-length
+  unfolding factsOf noteBy rowOf put badNameBytes badValueBytes badName badValue isPseudo largest
+  step-length =
+      same-facts
+      (bad-too _
+      (push _ (at LengthAbove) (aboveLargest (l .value))
+      (push _ (at NoDigits) (noDigits (l .value)) (push (rowOf s) (at RepeatedLength) _ refl (lit< tt) (there-is (nameAt content-length) s)) (lit< tt) refl)
+      (lit< tt)
+      (past largest (decimal (l .value)) (lit< tt)))
+      (lit< tt))
+      refl
 
-  abbrev putBy : Bool → Seen → Line → Seen
-  putBy b p l = record { place = placeBy b (p .place) (valueFrom l) (valueTo l); again = (b && isThere (p .place)) || p .again }
+  step-te : Steps te
+  unfolding factsOf noteBy plainBy rowOf put badNameBytes badValueBytes badName badValue isPseudo
+  step-te = same-facts (bad-too _ (push (rowOf s) (at OtherTe) (otherTe (l .value)) refl (lit< tt) refl) (lit< tt)) refl
 
-  abbrev put : Seen → Line → Seen
-  put p l = putBy (named name l) p l
+  step-connection : Steps connection
+  unfolding factsOf noteBy plainBy rowOf put badNameBytes badValueBytes badName badValue isPseudo
+  step-connection = same-facts (bad-too _ (push (rowOf s) (at ConnectionField) true refl (lit< tt) refl) (lit< tt)) refl
 
-  there : (l : Line) → eqb (valueTo l) 0 ≡ false
-  there l = ne-eqb (valueTo l) 0 (λ e. omega arith)
+  step-unknown : Steps unknown
+  unfolding factsOf noteBy rowOf put badNameBytes badValueBytes badName badValue isPseudo
+  step-unknown = same-facts (bad-too _ (push _ (at LatePseudo) (any isPlain s) (push (rowOf s) (at UnknownPseudo) true refl (lit< tt) refl) (lit< tt) refl) (lit< tt)) refl
 
-  -- once seen, it stays; what comes behind is a repetition
-  abbrev at : Line → Bool → Seen
-  at l t = record { place = record { from = valueFrom l; to = valueTo l }; again = t }
+  step-plain : Steps plain
+  unfolding factsOf noteBy plainBy rowOf put badNameBytes badValueBytes badName badValue isPseudo
+  step-plain = same-facts (bad-too (rowOf s) refl (lit< tt)) refl
 
-  seen-fold : (l : Line) (t : Bool) (s : Section) → fold put (at l t) s ≡ at l (t || has name s)
-  unfolding fold has any seenAt
-  seen-fold l t [] = go t
-    where
-      go : (t : Bool) → at l t ≡ at l (t || false)
-      go true = refl
-      go false = refl
-  seen-fold l t (m ∷ s) = go (named name m) (λ u. seen-fold l u s)
-    where
-      again : (t u : Bool) → at l (true || u) ≡ at l (t || true)
-      again true u = refl
-      again false u = refl
+  pub step-is : lineStep (factsOf s) (l .name) (l .value) (valueFrom l) (valueTo l) ≡ factsOf (s ++ (l ∷ []))
+  unfolding lineStep factsOf
+  step-is =
+      by-kind Steps step-method step-scheme step-authority step-path step-host step-length step-te step-connection step-unknown step-plain (nameOf (l .name)) (ten (l .name))
+      ∙ sym (more-is ∙ ap after (asked-is (l .name)))
 
-      go : (b : Bool) → ((u : Bool) → fold put (at l u) s ≡ at l (u || has name s))
-          → fold put (putBy b (at l t) m) s ≡ at l (t || (b || has name s))
-      go true ih =
-          ap (λ u. fold put (record { place = cond u (record { from = valueFrom m; to = valueTo m }) (record { from = valueFrom l; to = valueTo l }); again = not u || t }) s) (there l)
-          ∙ ih true ∙ again t (has name s)
-      go false ih = ih t
-
-  pub place-fold : (s : Section) → fold put unseen s ≡ record { place = placeOf name s; again = repeated name s }
-  unfolding fold placeOf first repeated seenAt fromOf toOf
-  place-fold [] = refl
-  place-fold (l ∷ s) = go (named name l) (place-fold s)
-    where
-      go : (b : Bool) → fold put unseen s ≡ seenOr (first (named name) s) (repeated name s) → fold put (putBy b unseen l) s
-          ≡ seenOr (cond b (some l) (first (named name) s)) ((b && has name s) || repeated name s)
-      go true ih = seen-fold l false s ∙ ap (λ t. seenOr (some l) t) (sym (had s))
-      go false ih = ih
-
--- a pseudo-field behind a plain one
-pub record Late : Type 0 where
-  pub plain : Bool
-  pub late : Bool
-
-abbrev lateStep : Late → Line → Late
-lateStep p l = record { plain = not (isPseudo l) || p .plain; late = (isPseudo l && p .plain) || p .late }
-
-late-any : (s : Section) → (any isPseudo s || pseudoBehindPlain s) ≡ any isPseudo s
-unfolding any pseudoBehindPlain
-late-any [] = refl
-late-any (l ∷ s) = go (isPseudo l) (any isPseudo s) (pseudoBehindPlain s) (late-any s)
-  where
-    go : (t h r : Bool) → (h || r) ≡ h → ((t || h) || ((not t && h) || r)) ≡ (t || h)
-    go true h r e = refl
-    go false true r e = refl
-    go false false r e = e
-
-late-fold : (p x : Bool) (s : Section) → fold lateStep (record { plain = p; late = x }) s .late ≡ (x || ((p && any isPseudo s) || pseudoBehindPlain s))
-unfolding fold any pseudoBehindPlain
-late-fold p x [] = go p x
-  where
-    go : (p x : Bool) → x ≡ (x || ((p && false) || false))
-    go true true = refl
-    go true false = refl
-    go false true = refl
-    go false false = refl
-late-fold p x (l ∷ s) =
-    late-fold (not (isPseudo l) || p) ((isPseudo l && p) || x) s ∙ go (isPseudo l) p x (any isPseudo s) (pseudoBehindPlain s) (late-any s)
-  where
-    go : (t p x h r : Bool) → (h || r) ≡ h → (((t && p) || x) || (((not t || p) && h) || r)) ≡ (x || ((p && (t || h)) || ((not t && h) || r)))
-    go true true true h r e = refl
-    go true true false h r e = refl
-    go true false x h r e = refl
-    go false true true h r e = refl
-    go false true false true r e = refl
-    go false true false false r e = refl
-    go false false x h r e = refl
-
--- ---- each rule, by what was collected
-
-module _ (s : Section) where
-  pub size-by : factsOf s .size ≡ size s
-  unfolding factsOf factsFrom lineStep
-  size-by = view step (λ g. g .size) (λ m l. m + length (l .name) + length (l .value)) (λ g l. refl) noFacts s ∙ size-fold 0 s ∙ zero-add (size s)
-
-  pub bad-by : factsOf s .bad ≡ any (λ l. badName l || badValue l) s
-  unfolding factsOf factsFrom lineStep badName badValue isPseudo badNameBytes badValueBytes
-  bad-by = view step (λ g. g .bad) (λ b l. (badName l || badValue l) || b) (λ g l. refl) noFacts s ∙ any-fold (λ l. badName l || badValue l) false s
-
-  pub unknown-by : factsOf s .unknown ≡ any (λ l. isPseudo l && not (any (λ name. named name l) pseudo-fields)) s
-  unfolding factsOf factsFrom lineStep isPseudo named
-  unknown-by =
-      view step (λ g. g .unknown) (λ b l. (isPseudo l && not (any (λ name. named name l) pseudo-fields)) || b) (λ g l. refl) noFacts s
-      ∙ any-fold (λ l. isPseudo l && not (any (λ name. named name l) pseudo-fields)) false s
-
-  pub pseudo-by : factsOf s .pseudo ≡ any isPseudo s
-  unfolding factsOf factsFrom lineStep isPseudo
-  pseudo-by = view step (λ g. g .pseudo) (λ b l. isPseudo l || b) (λ g l. refl) noFacts s ∙ any-fold isPseudo false s
-
-  pub late-by : factsOf s .late ≡ pseudoBehindPlain s
-  unfolding factsOf factsFrom lineStep isPseudo
-  late-by =
-      ap (λ (p : Late). p .late) (view step (λ g. record { plain = g .plain; late = g .late }) lateStep (λ g l. refl) noFacts s)
-      ∙ late-fold false false s
-
-  pub connection-by : factsOf s .connection ≡ any (λ l. isOneName connection-fields (l .name)) s
-  unfolding factsOf factsFrom lineStep
-  connection-by =
-      view step (λ g. g .connection) (λ b l. isOneName connection-fields (l .name) || b) (λ g l. refl) noFacts s
-      ∙ any-fold (λ l. isOneName connection-fields (l .name)) false s
-
-  pub te-by : factsOf s .te ≡ lineWith (ascii "te") otherTe s
-  unfolding factsOf factsFrom lineStep lineWith named
-  te-by =
-      view step (λ g. g .te) (λ b l. (named (ascii "te") l && otherTe (l .value)) || b) (λ g l. refl) noFacts s
-      ∙ any-fold (λ l. named (ascii "te") l && otherTe (l .value)) false s
-
-  pub bad-method-by : factsOf s .wrong ≡ lineWith (ascii ":method") badMethod s
-  unfolding factsOf factsFrom lineStep lineWith named
-  bad-method-by =
-      view step (λ g. g .wrong) (λ b l. (named (ascii ":method") l && badMethod (l .value)) || b) (λ g l. refl) noFacts s
-      ∙ any-fold (λ l. named (ascii ":method") l && badMethod (l .value)) false s
-
-  pub no-digits-by : factsOf s .digitless ≡ lineWith (ascii "content-length") noDigits s
-  unfolding factsOf factsFrom lineStep lineWith named
-  no-digits-by =
-      view step (λ g. g .digitless) (λ b l. (named (ascii "content-length") l && noDigits (l .value)) || b) (λ g l. refl) noFacts s
-      ∙ any-fold (λ l. named (ascii "content-length") l && noDigits (l .value)) false s
-
-  pub above-by : factsOf s .above ≡ lineWith (ascii "content-length") aboveLargest s
-  unfolding factsOf factsFrom lineStep lineWith named
-  above-by =
-      view step (λ g. g .above) (λ b l. (named (ascii "content-length") l && aboveLargest (l .value)) || b) (λ g l. refl) noFacts s
-      ∙ any-fold (λ l. named (ascii "content-length") l && aboveLargest (l .value)) false s
-
-  method-seen : _≡_ {A = Seen} (record { place = factsOf s .method; again = factsOf s .methods }) (record { place = placeOf (ascii ":method") s; again = repeated (ascii ":method") s })
-  unfolding factsOf factsFrom lineStep named
-  method-seen = view step (λ g. record { place = g .method; again = g .methods }) (put (ascii ":method")) (λ g l. refl) noFacts s ∙ place-fold (ascii ":method") s
-
-  pub method-by : factsOf s .method ≡ placeOf (ascii ":method") s
-  method-by = ap (λ (p : Seen). p .place) method-seen
-
-  pub methods-by : factsOf s .methods ≡ repeated (ascii ":method") s
-  methods-by = ap (λ (p : Seen). p .again) method-seen
-
-  scheme-seen : _≡_ {A = Seen} (record { place = factsOf s .scheme; again = factsOf s .schemes }) (record { place = placeOf (ascii ":scheme") s; again = repeated (ascii ":scheme") s })
-  unfolding factsOf factsFrom lineStep named
-  scheme-seen = view step (λ g. record { place = g .scheme; again = g .schemes }) (put (ascii ":scheme")) (λ g l. refl) noFacts s ∙ place-fold (ascii ":scheme") s
-
-  pub scheme-by : factsOf s .scheme ≡ placeOf (ascii ":scheme") s
-  scheme-by = ap (λ (p : Seen). p .place) scheme-seen
-
-  pub schemes-by : factsOf s .schemes ≡ repeated (ascii ":scheme") s
-  schemes-by = ap (λ (p : Seen). p .again) scheme-seen
-
-  authority-seen : _≡_ {A = Seen} (record { place = factsOf s .authority; again = factsOf s .authorities }) (record { place = placeOf (ascii ":authority") s; again = repeated (ascii ":authority") s })
-  unfolding factsOf factsFrom lineStep named
-  authority-seen = view step (λ g. record { place = g .authority; again = g .authorities }) (put (ascii ":authority")) (λ g l. refl) noFacts s ∙ place-fold (ascii ":authority") s
-
-  pub authority-by : factsOf s .authority ≡ placeOf (ascii ":authority") s
-  authority-by = ap (λ (p : Seen). p .place) authority-seen
-
-  pub authorities-by : factsOf s .authorities ≡ repeated (ascii ":authority") s
-  authorities-by = ap (λ (p : Seen). p .again) authority-seen
-
-  path-seen : _≡_ {A = Seen} (record { place = factsOf s .path; again = factsOf s .paths }) (record { place = placeOf (ascii ":path") s; again = repeated (ascii ":path") s })
-  unfolding factsOf factsFrom lineStep named
-  path-seen = view step (λ g. record { place = g .path; again = g .paths }) (put (ascii ":path")) (λ g l. refl) noFacts s ∙ place-fold (ascii ":path") s
-
-  pub path-by : factsOf s .path ≡ placeOf (ascii ":path") s
-  path-by = ap (λ (p : Seen). p .place) path-seen
-
-  pub paths-by : factsOf s .paths ≡ repeated (ascii ":path") s
-  paths-by = ap (λ (p : Seen). p .again) path-seen
-
-  host-seen : _≡_ {A = Seen} (record { place = factsOf s .host; again = factsOf s .hosts }) (record { place = placeOf (ascii "host") s; again = repeated (ascii "host") s })
-  unfolding factsOf factsFrom lineStep named
-  host-seen = view step (λ g. record { place = g .host; again = g .hosts }) (put (ascii "host")) (λ g l. refl) noFacts s ∙ place-fold (ascii "host") s
-
-  pub host-by : factsOf s .host ≡ placeOf (ascii "host") s
-  host-by = ap (λ (p : Seen). p .place) host-seen
-
-  pub hosts-by : factsOf s .hosts ≡ repeated (ascii "host") s
-  hosts-by = ap (λ (p : Seen). p .again) host-seen
-
-  length-seen : _≡_ {A = Seen} (record { place = factsOf s .length; again = factsOf s .lengths }) (record { place = placeOf (ascii "content-length") s; again = repeated (ascii "content-length") s })
-  unfolding factsOf factsFrom lineStep named
-  length-seen = view step (λ g. record { place = g .length; again = g .lengths }) (put (ascii "content-length")) (λ g l. refl) noFacts s ∙ place-fold (ascii "content-length") s
-
-  pub length-by : factsOf s .length ≡ placeOf (ascii "content-length") s
-  length-by = ap (λ (p : Seen). p .place) length-seen
-
-  pub lengths-by : factsOf s .lengths ≡ repeated (ascii "content-length") s
-  lengths-by = ap (λ (p : Seen). p .again) length-seen
-
-abbrev pub pseudoAgain : Facts → Bool
-pseudoAgain f = (f .methods || f .schemes) || (f .authorities || f .paths)
+pub none-yet : noFacts ≡ factsOf []
+unfolding noFacts factsOf rowOf lowest size any first fromOf toOf valueOf methodOf decimal decimalFrom capped bytes-check unknown-check repeated-check late-check connection-check te-check method-check repeated-length-check digits-check length-above-check repeated-host-check lineWith has repeated pseudoBehindPlain pseudo-fields connection-fields
+none-yet = refl
 
 -- what the walk answers
-abbrev pub Walks : List ℕ → Walked → Type 0
-Walks block walked.Unreadable = isReadable (lines block) ≡ false
-Walks block (walked.Facts f) = (isReadable (lines block) ≡ true) × (f ≡ factsOf (held block))
-
--- a name that was told of is the one asked for
-pub noted-as : {k t : Name} {r : Facts} (f : Facts) (v : List ℕ) (a b : ℕ) → k ≡ t → r ≡ noteBy t f v a b → r ≡ noteBy k f v a b
-noted-as f v a b e p = p ∙ sym (ap (λ (x : Name). noteBy x f v a b) e)
-
--- the answer of the walk, by its case
-pub walks-facts : (block : List ℕ) {r : Walked} {f : Facts} → r ≡ walked.Facts f → Walks block r → (isReadable (lines block) ≡ true) × (f ≡ factsOf (held block))
-walks-facts block e w = subst (Walks block) e w
-
-pub walks-none : (block : List ℕ) {r : Walked} → r ≡ walked.Unreadable → Walks block r → isReadable (lines block) ≡ false
-walks-none block e w = subst (Walks block) e w
+pub record Walks (block : List ℕ) (w : Walked) : Type 0 where
+  pub reads : w .readable ≡ isReadable (lines block)
+  pub facts : w .facts ≡ factsOf (held block)

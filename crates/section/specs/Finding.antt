@@ -21,5 +21,13 @@ valueFrom l = l .at + 6 + length (l .name)
 abbrev pub valueTo : Line → ℕ
 valueTo l = valueFrom l + length (l .value)
 
+unfoldable pub fromOf : Option Line → ℕ
+fromOf none = 0
+fromOf (some l) = valueFrom l
+
+unfoldable pub toOf : Option Line → ℕ
+toOf none = 0
+toOf (some l) = valueTo l
+
 pub length-part : (block : List ℕ) (from to : ℕ) → to ≤ length block → length (part from to block) ≡ to - from
 length-part block from to h = length-take-le (to - from) (drop from block) (rw length-drop (omega arith))

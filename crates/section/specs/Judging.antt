@@ -1,27 +1,268 @@
--- How an answer's reading is what the rules tell. Assumes nothing.
-use Prim.Native.Nat.{ℕ, zero, suc, _<_}
+-- How the lowest broken check is the rules' reason, and how an answer's reading is what the rules tell. Assumes nothing.
+use Prim.Native.Nat.{ℕ, zero, suc, _<_, _≤_}
 use mathlib.Core.Path.{_≡_, refl, sym, ap, _∙_}
 use mathlib.Core.List.{List, [], _∷_}
-use mathlib.Core.Bool.{Bool, true, false}
+use mathlib.Core.Bool.{Bool, true, false, cond, not, _||_, _&&_}
 use mathlib.Core.Option.{Option, none, some}
 use native.Mathlib.Omega.{arith}
-use lib.Dec.{ltb, lit<}
+use lib.Dec.{ltb, eqb, lit<}
 use lib.ListN.{length, getD}
 use borrow.Author.Tests.{ltb-false}
-use Rattle.rules.specs.Block.{Line, Section, Lines, readable}
+use Rattle.rules.specs.Text.{ascii, any, same}
+use Rattle.rules.specs.Block.{Section, Lines, readable}
 use Rattle.rules.specs.Block as block
 use Rattle.rules.specs.Section as rules
-use Rattle.rules.specs.Section.{Check, refused, sound, holds, decimal, named, valueOf, methodOf, statedIn, unless, firstBroken, length-check, length-limit, header-checks, trailer-checks, header-section}
+use Rattle.rules.specs.Section.{Check, refused, sound, isEmpty, begins, holds, decimal, decimalFrom, named, has, valueOf, methodOf, statedIn, unless, firstBroken, goodPath, size-limit, length-limit, size-check, bytes-check, unknown-check, repeated-check, late-check, in-trailers-check, connection-check, te-check, method-check, no-method-check, repeated-length-check, length-in-trailers-check, digits-check, length-above-check, repeated-host-check, connect-check, present-check, scheme-check, path-check, authority-check, empty-check, differ-check, at-check, length-check, header-checks, trailer-checks, header-section}
 use Rattle.fields.specs.Walk.{isReadable, held, part}
-use Rattle.fields.specs.Decimal.{capped, capped-below}
+use Rattle.fields.specs.Decimal.{capped, capped-below, past}
+use Rattle.section.specs.declared.Reason.{Reason}
+use Rattle.section.specs.declared.Reason.the-variants.{TooLarge, PseudoInTrailers, NoMethod, LengthInTrailers, Connect, NoSchemeOrPath, OtherScheme, BadPath, NoAuthority, EmptyAuthority, AuthoritiesDiffer, AtInAuthority, LengthPastLimit}
+use Rattle.section.specs.declared.Facts.{Facts}
 use Rattle.section.specs.declared.Stated.{Stated}
 use Rattle.section.specs.declared.HeaderAnswer.the-variants as header
-use Rattle.section.specs.Tests.{methodName, lengthName}
-use Rattle.section.specs.Finding.{first}
-use Rattle.section.specs.Facts.{placeOf}
-use Rattle.section.specs.Places.{first-sits, all-sit}
-use Rattle.section.specs.Laws.{value-none, value-some}
-use Rattle.section.specs.Answer.{Told, unreadable, judged, Headed, fromOf, toOf, methodLine, at-method, says, headOf, placed-in, tellHeader, tellTrailers, readStated, readHeader}
+use Rattle.section.specs.Checks.{checks, at, reasonOf, lowest, lowerOf, fill, and-then, told, firstIn, first-told, told-reason, told-none}
+use Rattle.section.specs.Names.{method, scheme, authority, path, host, content-length, nameAt}
+use Rattle.section.specs.Finding.{first, fromOf, toOf}
+use Rattle.section.specs.Facts.{rowOf, factsOf, fromIn, toIn, valueAt, there-is, somewhere}
+use Rattle.section.specs.Places.{bytes-are, holds-by, empty-by}
+use Rattle.section.specs.Answer.{methodName, lengthName, Told, unreadable, judged, Headed, methodLine, at-method, says, headOf, placed-in, tellHeader, tellTrailers, readStated, readHeader}
+
+-- ---- what each check says, in its place
+
+unfoldable pub headerRow : Section → List Bool
+headerRow s =
+    size-check .broken s
+    ∷ bytes-check .broken s
+    ∷ unknown-check .broken s ∷ repeated-check .broken s ∷ late-check .broken s ∷ false
+    ∷ connection-check .broken s ∷ te-check .broken s
+    ∷ method-check .broken s ∷ no-method-check .broken s
+    ∷ repeated-length-check .broken s ∷ false ∷ digits-check .broken s ∷ length-above-check .broken s
+    ∷ repeated-host-check .broken s
+    ∷ connect-check .broken s
+    ∷ present-check .broken s
+    ∷ scheme-check .broken s
+    ∷ path-check .broken s
+    ∷ authority-check .broken s ∷ empty-check .broken s ∷ differ-check .broken s ∷ at-check .broken s
+    ∷ length-check .broken s
+    ∷ []
+
+unfoldable pub trailerRow : Section → List Bool
+trailerRow s =
+    size-check .broken s
+    ∷ bytes-check .broken s
+    ∷ unknown-check .broken s ∷ repeated-check .broken s ∷ late-check .broken s ∷ in-trailers-check .broken s
+    ∷ connection-check .broken s ∷ te-check .broken s
+    ∷ method-check .broken s ∷ false
+    ∷ repeated-length-check .broken s ∷ length-in-trailers-check .broken s ∷ digits-check .broken s ∷ length-above-check .broken s
+    ∷ repeated-host-check .broken s
+    ∷ false ∷ false ∷ false ∷ false ∷ false ∷ false ∷ false ∷ false ∷ false
+    ∷ []
+
+-- ---- the checks that the lines do not settle by themselves
+
+abbrev pub absent : Facts → (k : ℕ) → Bool
+absent f k = eqb (getD (f .to) k 0) 0
+
+-- there, and empty
+abbrev pub emptyAt : Facts → (k : ℕ) → Bool
+emptyAt f k = not (absent f k) && eqb (getD (f .from) k 0) (getD (f .to) k 0)
+
+unfoldable pub byPlaces : Facts → ℕ
+byPlaces f =
+    lowerOf
+    (lowerOf
+    (lowerOf
+    (lowerOf
+    (lowerOf
+    (lowerOf (f .first) (at TooLarge) (ltb size-limit (f .size)))
+    (at NoMethod) (absent f method))
+    (at NoSchemeOrPath) (absent f scheme || absent f path))
+    (at NoAuthority) (absent f authority && absent f host))
+    (at EmptyAuthority) (emptyAt f authority || emptyAt f host))
+    (at LengthPastLimit) (ltb length-limit (f .stated))
+
+unfoldable pub byRequest : Section → (first : ℕ) → ℕ
+byRequest s n =
+    lowerOf
+    (lowerOf
+    (lowerOf n
+    (at Connect) (connect-check .broken s))
+    (at OtherScheme) (scheme-check .broken s))
+    (at BadPath) (path-check .broken s)
+
+unfoldable pub byAuthority : Section → (first : ℕ) → ℕ
+byAuthority s n = lowerOf (lowerOf n (at AuthoritiesDiffer) (differ-check .broken s)) (at AtInAuthority) (at-check .broken s)
+
+unfoldable pub byTrailers : Facts → ℕ
+byTrailers f = lowerOf (lowerOf (lowerOf (f .first) (at TooLarge) (ltb size-limit (f .size))) (at PseudoInTrailers) (f .pseudo)) (at LengthInTrailers) (not (absent f content-length))
+
+-- ---- a name is there where it has a value
+
+abbrev isSome : Option (List ℕ) → Bool
+isSome none = false
+isSome (some v) = true
+
+module _ (name : List ℕ) where
+  absent-is : (s : Section) → eqb (toIn s name) 0 ≡ not (has name s)
+  absent-is s = twice (eqb (toIn s name) 0) ∙ ap not (there-is name s)
+    where
+      twice : (t : Bool) → t ≡ not (not t)
+      twice true = refl
+      twice false = refl
+
+  pub value-is : (s : Section) → eqb (toIn s name) 0 ≡ not (isSome (valueOf name s))
+  unfolding first toOf valueOf
+  value-is [] = refl
+  value-is (l ∷ s) = go (named name l) (value-is s)
+    where
+      go : (t : Bool) → eqb (toIn s name) 0 ≡ not (isSome (valueOf name s))
+          → eqb (toOf (cond t (some l) (first (named name) s))) 0 ≡ not (isSome (elim t [ true ↦ some (l .value) | false ↦ valueOf name s ]))
+      go true ih = somewhere l
+      go false ih = ih
+
+not-both : (a b : Bool) → (not a || not b) ≡ not (a && b)
+not-both true b = refl
+not-both false b = refl
+
+neither : (a b : Bool) → (not a && not b) ≡ not (a || b)
+neither true b = refl
+neither false b = refl
+
+module _ (s : Section) where
+  no-place : (absent (factsOf s) scheme || absent (factsOf s) path) ≡ present-check .broken s
+  unfolding factsOf present-check
+  no-place = rw (absent-is (nameAt scheme) s, absent-is (nameAt path) s) (not-both (has (nameAt scheme) s) (has (nameAt path) s))
+
+  no-authority : (absent (factsOf s) authority && absent (factsOf s) host) ≡ authority-check .broken s
+  unfolding factsOf authority-check
+  no-authority = rw (absent-is (nameAt authority) s, absent-is (nameAt host) s) (neither (has (nameAt authority) s) (has (nameAt host) s))
+
+  empties : (emptyAt (factsOf s) authority || emptyAt (factsOf s) host) ≡ empty-check .broken s
+  unfolding factsOf empty-check
+  empties = rw (empty-by (nameAt authority) s, empty-by (nameAt host) s)
+
+  too-long : ltb length-limit (factsOf s .stated) ≡ length-check .broken s
+  unfolding factsOf length-check length-limit decimal decimalFrom
+  too-long = past length-limit (decimal (valueAt s content-length)) (lit< tt) ∙ holds-by (λ v. ltb length-limit (decimal v)) (valueOf (nameAt content-length) s) refl
+
+  no-method : absent (factsOf s) method ≡ no-method-check .broken s
+  unfolding factsOf no-method-check
+  no-method = absent-is (nameAt method) s
+
+  large : ltb size-limit (factsOf s .size) ≡ size-check .broken s
+  unfolding factsOf size-check
+  large = refl
+
+  -- what the code asks of the values
+  pub request-is : (n : ℕ)
+      → lowerOf
+      (lowerOf
+      (lowerOf n (at Connect) (same (ascii "CONNECT") (valueAt s method)))
+      (at OtherScheme) (not (same (valueAt s scheme) (ascii "http") || same (valueAt s scheme) (ascii "https"))))
+      (at BadPath) (not (begins (eqb 0x2f) (valueAt s path) || (same (ascii "*") (valueAt s path) && same (ascii "OPTIONS") (valueAt s method))))
+      ≡ byRequest s n
+  unfolding byRequest connect-check scheme-check path-check goodPath ascii same begins
+  request-is n =
+      rw (holds-by (same (ascii "CONNECT")) (valueOf (nameAt method) s) refl, holds-by (λ v. same v (ascii "http") || same v (ascii "https")) (valueOf (nameAt scheme) s) refl, holds-by (begins (eqb 0x2f)) (valueOf (nameAt path) s) refl, holds-by (same (ascii "*")) (valueOf (nameAt path) s) refl, holds-by (same (ascii "OPTIONS")) (valueOf (nameAt method) s) refl)
+
+  differ : (o p : Option (List ℕ)) → ((not (not (isSome o)) && not (not (isSome p))) && not (same (methodOf o) (methodOf p))) ≡ holds (λ a. holds (λ h. not (same a h)) p) o
+  unfolding holds methodOf
+  differ none p = refl
+  differ (some a) none = refl
+  differ (some a) (some h) = refl
+
+  pub authority-is : (n : ℕ)
+      → lowerOf
+      (lowerOf n
+      (at AuthoritiesDiffer) ((not (eqb (toIn s (nameAt authority)) 0) && not (eqb (toIn s (nameAt host)) 0)) && not (same (valueAt s authority) (valueAt s host))))
+      (at AtInAuthority) (any (eqb 0x40) (valueAt s authority))
+      ≡ byAuthority s n
+  unfolding byAuthority differ-check at-check any
+  authority-is n =
+      rw (value-is (nameAt authority) s, value-is (nameAt host) s, differ (valueOf (nameAt authority) s) (valueOf (nameAt host) s), holds-by (any (eqb 0x40)) (valueOf (nameAt authority) s) refl)
+
+  -- the row that the places and the size make
+  places-row : List Bool
+  places-row =
+      fill (at LengthPastLimit) (length-check .broken s)
+      (fill (at EmptyAuthority) (empty-check .broken s)
+      (fill (at NoAuthority) (authority-check .broken s)
+      (fill (at NoSchemeOrPath) (present-check .broken s)
+      (fill (at NoMethod) (no-method-check .broken s)
+      (fill (at TooLarge) (size-check .broken s)
+      (rowOf s))))))
+
+  first-is : factsOf s .first ≡ lowest (rowOf s)
+  unfolding factsOf
+  first-is = refl
+
+  by-places : byPlaces (factsOf s) ≡ lowest places-row
+  unfolding byPlaces places-row rowOf fill
+  by-places =
+      and-then _ (at LengthPastLimit) (length-check .broken s)
+      (and-then _ (at EmptyAuthority) (empty-check .broken s)
+      (and-then _ (at NoAuthority) (authority-check .broken s)
+      (and-then _ (at NoSchemeOrPath) (present-check .broken s)
+      (and-then _ (at NoMethod) (no-method-check .broken s)
+      (and-then (rowOf s) (at TooLarge) (size-check .broken s) first-is (lit< tt) refl large)
+      (lit< tt) refl no-method)
+      (lit< tt) refl no-place)
+      (lit< tt) refl no-authority)
+      (lit< tt) refl empties)
+      (lit< tt) refl too-long
+
+  pub header-lowest : byAuthority s (byRequest s (byPlaces (factsOf s))) ≡ lowest (headerRow s)
+  unfolding byAuthority byRequest headerRow places-row rowOf fill
+  header-lowest =
+      and-then _ (at AtInAuthority) (at-check .broken s)
+      (and-then _ (at AuthoritiesDiffer) (differ-check .broken s)
+      (and-then _ (at BadPath) (path-check .broken s)
+      (and-then _ (at OtherScheme) (scheme-check .broken s)
+      (and-then _ (at Connect) (connect-check .broken s) by-places
+      (lit< tt) refl refl)
+      (lit< tt) refl refl)
+      (lit< tt) refl refl)
+      (lit< tt) refl refl)
+      (lit< tt) refl refl
+
+  in-trailers : factsOf s .pseudo ≡ in-trailers-check .broken s
+  unfolding factsOf in-trailers-check
+  in-trailers = refl
+
+  stated-there : not (absent (factsOf s) content-length) ≡ length-in-trailers-check .broken s
+  unfolding factsOf length-in-trailers-check
+  stated-there = there-is (nameAt content-length) s
+
+  trailer-lowest : byTrailers (factsOf s) ≡ lowest (trailerRow s)
+  unfolding byTrailers trailerRow rowOf fill
+  trailer-lowest =
+      and-then _ (at LengthInTrailers) (length-in-trailers-check .broken s)
+      (and-then _ (at PseudoInTrailers) (in-trailers-check .broken s)
+      (and-then (rowOf s) (at TooLarge) (size-check .broken s) first-is (lit< tt) refl large)
+      (lit< tt) refl in-trailers)
+      (lit< tt) refl stated-there
+
+  -- so the number tells the rules' reason
+  header-first : firstBroken header-checks s ≡ told checks (lowest (headerRow s))
+  unfolding firstBroken header-checks checks headerRow firstIn
+  header-first = first-told checks (headerRow s) refl
+
+  trailer-first : firstBroken trailer-checks s ≡ told checks (lowest (trailerRow s))
+  unfolding firstBroken trailer-checks checks trailerRow firstIn
+  trailer-first = first-told checks (trailerRow s) refl
+
+  module _ (n : ℕ) (r : Reason) (is : at r ≡ n) (h : n < 24) where
+    pub header-broken : n ≡ lowest (headerRow s) → firstBroken header-checks s ≡ some (reasonOf r)
+    header-broken e = header-first ∙ ap (told checks) (sym e) ∙ told-reason r n is h
+
+    pub trailer-broken : n ≡ byTrailers (factsOf s) → firstBroken trailer-checks s ≡ some (reasonOf r)
+    trailer-broken e = trailer-first ∙ ap (told checks) (sym (e ∙ trailer-lowest)) ∙ told-reason r n is h
+
+  pub header-unbroken : (n : ℕ) → n ≡ lowest (headerRow s) → 24 ≤ n → firstBroken header-checks s ≡ none
+  header-unbroken n e h = header-first ∙ ap (told checks) (sym e) ∙ told-none n h
+
+  pub trailer-unbroken : (n : ℕ) → n ≡ byTrailers (factsOf s) → 24 ≤ n → firstBroken trailer-checks s ≡ none
+  trailer-unbroken n e h = trailer-first ∙ ap (told checks) (sym (e ∙ trailer-lowest)) ∙ told-none n h
 
 -- ---- the rules' side
 
@@ -78,15 +319,20 @@ module _ (s : Section) where
   unfolding header-checks
   length-passed e = passed header-checks 21 length-check (lit< tt) e
 
-  -- a length within the limit is told as it is
-  pub exact : {v : List ℕ} → length-check .broken s ≡ false → valueOf lengthName s ≡ some v → capped (decimal v) ≡ decimal v
-  unfolding length-check holds length-limit
-  exact {v} e f =
-      let within : ltb length-limit (decimal v) ≡ false = sym (ap (holds (λ x. ltb length-limit (decimal x))) f) ∙ e in
-      let h = ltb-false length-limit (decimal v) within in
-      capped-below (decimal v) (omega arith)
-
 -- ---- the answer's side
+
+-- the length that a section states, within the limit, is told as it is
+unfoldable pub statedBy : Facts → Option ℕ
+statedBy f = cond (absent f content-length) none (some (f .stated))
+
+stated-is : (s : Section) → length-check .broken s ≡ false → statedBy (factsOf s) ≡ statedIn (valueOf lengthName s)
+unfolding statedBy factsOf length-check length-limit holds statedIn methodOf
+stated-is s e = rw (value-is lengthName s) (go (valueOf lengthName s) e)
+  where
+    go : (o : Option (List ℕ)) → holds (λ v. ltb length-limit (decimal v)) o ≡ false
+        → cond (not (isSome o)) none (some (capped (decimal (methodOf o)))) ≡ statedIn o
+    go none e = refl
+    go (some v) e = let h = ltb-false length-limit (decimal v) e in ap some (capped-below (decimal v) (omega arith))
 
 same-head : {m m′ : List ℕ} {o o′ : Option ℕ} {f f′ t t′ : ℕ} → m ≡ m′ → o ≡ o′ → f ≡ f′ → t ≡ t′
     → _≡_ {A = Told Headed} (judged (sound (record { head = record { method = m; stated = o }; from = f; to = t })))
@@ -97,14 +343,13 @@ same-head {m′} {o} {o′} {f} {f′} {t} p q r e =
     ∙ ap (λ x. judged (sound (record { head = record { method = m′; stated = o′ }; from = x; to = t }))) r
     ∙ ap (λ x. judged (sound (record { head = record { method = m′; stated = o′ }; from = f′; to = x }))) e
 
--- the first line of the method, as it stands in the block
-module _ (block : List ℕ) (t : Stated) (states : readStated t ≡ statedIn (valueOf lengthName (held block))) where
-  pub method-reads : readHeader block (header.Sound (placeOf methodName (held block) .from) (placeOf methodName (held block) .to) t)
-      ≡ judged (sound (headOf (held block)))
-  unfolding readHeader headOf at-method methodLine placeOf fromOf toOf methodOf
-  method-reads = same-head (go (first (named methodName) (held block)) refl) states refl refl
-    where
-      go : (o : Option Line) → first (named methodName) (held block) ≡ o
-          → part (fromOf o) (toOf o) block ≡ methodOf (valueOf methodName (held block))
-      go none e = sym (ap methodOf (value-none _ (held block) e))
-      go (some l) e = first-sits _ block (held block) l (all-sit block) e .bytes ∙ sym (ap methodOf (value-some _ (held block) l e))
+pub sound-reads : (block : List ℕ) (f : Facts) (t : Stated) → f ≡ factsOf (held block) → readStated t ≡ statedBy f → length-check .broken (held block) ≡ false
+    → readHeader block (header.Sound (getD (f .from) method 0) (getD (f .to) method 0) t) ≡ judged (sound (headOf (held block)))
+unfolding readHeader headOf at-method methodLine factsOf
+sound-reads block f t is e within =
+    ap (λ (g : Facts). readHeader block (header.Sound (getD (g .from) method 0) (getD (g .to) method 0) t)) is
+    ∙ go (e ∙ ap statedBy is ∙ stated-is (held block) within)
+  where
+    go : readStated t ≡ statedIn (valueOf lengthName (held block))
+        → readHeader block (header.Sound (getD (factsOf (held block) .from) method 0) (getD (factsOf (held block) .to) method 0) t) ≡ judged (sound (headOf (held block)))
+    go states = same-head (bytes-are methodName block) states refl refl

@@ -1,12 +1,10 @@
-pub mod Tests
-pub mod Names
-pub mod Finding
 pub mod Laws
 pub mod Checks
-pub mod Answer
+pub mod Names
+pub mod Finding
 pub mod Facts
 pub mod Places
 pub mod Walking
-pub mod Clean
+pub mod Answer
 pub mod Judging
 pub mod Request

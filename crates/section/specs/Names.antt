@@ -1,112 +1,120 @@
 -- What a name is to the rules: told once, by its length and the names of that length; and each test of the rules on a name, by what was told. Assumes nothing.
-use Prim.Native.Nat.{ℕ}
+use Prim.Native.Nat.{ℕ, zero, suc, _<_}
 use mathlib.Core.Path.{_≡_, refl, sym, ap, _∙_, subst}
 use mathlib.Core.List.{List, [], _∷_}
 use mathlib.Core.Bool.{Bool, true, false, cond, not, _||_, _&&_}
 use native.Mathlib.Omega.{arith}
-use lib.Dec.{eqb}
-use lib.ListN.{length}
-use borrow.Author.Tests.{eqb-true, eq-eqb}
+use lib.Dec.{eqb, ltb, lit<}
+use lib.ListN.{length, getD}
+use borrow.Author.Tests.{eqb-true, eq-eqb, ne-eqb, lt-ltb}
 use Rattle.rules.specs.Text.{ascii, any, same}
 use Rattle.rules.specs.Section.{begins, pseudo-fields, connection-fields}
-use Rattle.section.specs.declared.Name.{Name}
-use Rattle.section.specs.declared.Name.the-variants.{Method, Scheme, Authority, Path, Host, ContentLength, Te, Connection, Unknown, Plain}
-use Rattle.section.specs.Tests.{isOneName}
 
-unfoldable pub otherName : List ℕ → Name
-otherName n = cond (begins (eqb 0x3a) n) Unknown Plain
+-- ---- ten kinds of names, by number; the first six are those whose first line is kept
 
-unfoldable pub oneName : (text : List ℕ) → Name → List ℕ → Name
-oneName text k n = cond (same n text) k (otherName n)
+abbrev pub method : ℕ
+method = 0
 
-unfoldable pub ofSeven : List ℕ → Name
-ofSeven n = cond (same n (ascii ":method")) Method (cond (same n (ascii ":scheme")) Scheme (oneName (ascii "upgrade") Connection n))
+abbrev pub scheme : ℕ
+scheme = 1
 
-unfoldable pub ofTen : List ℕ → Name
-ofTen n = cond (same n (ascii ":authority")) Authority (cond (same n (ascii "connection")) Connection (oneName (ascii "keep-alive") Connection n))
+abbrev pub authority : ℕ
+authority = 2
 
-unfoldable pub nameOf : List ℕ → Name
-nameOf n =
-    cond (eqb (length n) 7) (ofSeven n)
-    (cond (eqb (length n) 10) (ofTen n)
-    (cond (eqb (length n) 5) (oneName (ascii ":path") Path n)
-    (cond (eqb (length n) 14) (oneName (ascii "content-length") ContentLength n)
-    (cond (eqb (length n) 4) (oneName (ascii "host") Host n)
-    (cond (eqb (length n) 2) (oneName (ascii "te") Te n)
-    (cond (eqb (length n) 16) (oneName (ascii "proxy-connection") Connection n)
-    (cond (eqb (length n) 17) (oneName (ascii "transfer-encoding") Connection n)
-    (otherName n))))))))
+abbrev pub path : ℕ
+path = 3
 
--- ---- names by number
+abbrev pub host : ℕ
+host = 4
 
-abbrev numberOf : Name → ℕ
-numberOf Method = 0
-numberOf Scheme = 1
-numberOf Authority = 2
-numberOf Path = 3
-numberOf Host = 4
-numberOf ContentLength = 5
-numberOf Te = 6
-numberOf Connection = 7
-numberOf Unknown = 8
-numberOf Plain = 9
+abbrev pub content-length : ℕ
+content-length = 5
 
-abbrev pub nameIs : Name → Name → Bool
-nameIs a b = eqb (numberOf a) (numberOf b)
+abbrev pub te : ℕ
+te = 6
 
-back : ℕ → Name
-back n =
-    cond (eqb n 0) Method (cond (eqb n 1) Scheme (cond (eqb n 2) Authority (cond (eqb n 3) Path (cond (eqb n 4) Host
-    (cond (eqb n 5) ContentLength (cond (eqb n 6) Te (cond (eqb n 7) Connection (cond (eqb n 8) Unknown Plain))))))))
+abbrev pub connection : ℕ
+connection = 7
 
-back-is : (k : Name) → back (numberOf k) ≡ k
-unfolding back
-back-is Method = refl
-back-is Scheme = refl
-back-is Authority = refl
-back-is Path = refl
-back-is Host = refl
-back-is ContentLength = refl
-back-is Te = refl
-back-is Connection = refl
-back-is Unknown = refl
-back-is Plain = refl
+abbrev pub unknown : ℕ
+unknown = 8
 
-is-same : (a b : Name) → nameIs a b ≡ true → b ≡ a
-is-same a b e = sym (back-is b) ∙ ap back (sym (eqb-true (numberOf a) (numberOf b) e)) ∙ back-is a
+abbrev pub plain : ℕ
+plain = 9
 
-is-self : (a : Name) → nameIs a a ≡ true
-is-self a = eq-eqb (numberOf a) (numberOf a) refl
+-- what holds of each of the ten
+pub by-kind : (P : ℕ → Type 0) → P method → P scheme → P authority → P path → P host → P content-length → P te → P connection → P unknown → P plain
+    → (k : ℕ) → k < 10 → P k
+by-kind P a b c d e f g h i j zero l = a
+by-kind P a b c d e f g h i j (suc zero) l = b
+by-kind P a b c d e f g h i j (suc (suc zero)) l = c
+by-kind P a b c d e f g h i j (suc (suc (suc zero))) l = d
+by-kind P a b c d e f g h i j (suc (suc (suc (suc zero)))) l = e
+by-kind P a b c d e f g h i j (suc (suc (suc (suc (suc zero))))) l = f
+by-kind P a b c d e f g h i j (suc (suc (suc (suc (suc (suc zero)))))) l = g
+by-kind P a b c d e f g h i j (suc (suc (suc (suc (suc (suc (suc zero))))))) l = h
+by-kind P a b c d e f g h i j (suc (suc (suc (suc (suc (suc (suc (suc zero)))))))) l = i
+by-kind P a b c d e f g h i j (suc (suc (suc (suc (suc (suc (suc (suc (suc zero))))))))) l = j
+by-kind P a b c d e f g h i j (suc (suc (suc (suc (suc (suc (suc (suc (suc (suc k)))))))))) l = absurd (omega arith)
 
 -- a pseudo-field, known or not
-abbrev pub pseudoName : Name → Bool
-pseudoName Method = true
-pseudoName Scheme = true
-pseudoName Authority = true
-pseudoName Path = true
-pseudoName Host = false
-pseudoName ContentLength = false
-pseudoName Te = false
-pseudoName Connection = false
-pseudoName Unknown = true
-pseudoName Plain = false
+abbrev pub pseudoName : ℕ → Bool
+pseudoName k = ltb k host || eqb k unknown
+
+-- the first seven kinds have one name each
+abbrev pub nameAt : ℕ → List ℕ
+nameAt k = getD (ascii ":method" ∷ ascii ":scheme" ∷ ascii ":authority" ∷ ascii ":path" ∷ ascii "host" ∷ ascii "content-length" ∷ ascii "te" ∷ []) k []
+
+-- one of these names
+abbrev pub isOneName : List (List ℕ) → List ℕ → Bool
+isOneName names v = any (λ name. same v name) names
+
+unfoldable pub otherName : List ℕ → ℕ
+otherName n = cond (begins (eqb 0x3a) n) unknown plain
+
+unfoldable pub oneName : (text : List ℕ) → ℕ → List ℕ → ℕ
+oneName text k n = cond (same n text) k (otherName n)
+
+unfoldable pub ofSeven : List ℕ → ℕ
+ofSeven n = cond (same n (ascii ":method")) method (cond (same n (ascii ":scheme")) scheme (oneName (ascii "upgrade") connection n))
+
+unfoldable pub ofTen : List ℕ → ℕ
+ofTen n = cond (same n (ascii ":authority")) authority (cond (same n (ascii "connection")) connection (oneName (ascii "keep-alive") connection n))
+
+unfoldable pub byLength : (length : ℕ) → List ℕ → ℕ
+byLength m n =
+    cond (eqb m 7) (ofSeven n)
+    (cond (eqb m 10) (ofTen n)
+    (cond (eqb m 5) (oneName (ascii ":path") path n)
+    (cond (eqb m 14) (oneName (ascii "content-length") content-length n)
+    (cond (eqb m 4) (oneName (ascii "host") host n)
+    (cond (eqb m 2) (oneName (ascii "te") te n)
+    (cond (eqb m 16) (oneName (ascii "proxy-connection") connection n)
+    (cond (eqb m 17) (oneName (ascii "transfer-encoding") connection n)
+    (otherName n))))))))
+
+unfoldable pub nameOf : List ℕ → ℕ
+nameOf n = byLength (length n) n
+
+-- the length that was told of is the name's
+pub of-length : (n : List ℕ) {m r : ℕ} → length n ≡ m → r ≡ byLength m n → r ≡ nameOf n
+unfolding nameOf
+of-length n e f = f ∙ ap (λ k. byLength k n) (sym e)
+
+pub no-length : (n : List ℕ) {r : ℕ} → (length n ≡ 7 → ⊥) → (length n ≡ 10 → ⊥) → (length n ≡ 5 → ⊥) → (length n ≡ 14 → ⊥) → (length n ≡ 4 → ⊥) → (length n ≡ 2 → ⊥)
+    → (length n ≡ 16 → ⊥) → (length n ≡ 17 → ⊥) → r ≡ otherName n → r ≡ nameOf n
+unfolding nameOf byLength
+no-length n a b c d e f g h p =
+    rw (ne-eqb (length n) 7 a, ne-eqb (length n) 10 b, ne-eqb (length n) 5 c, ne-eqb (length n) 14 d, ne-eqb (length n) 4 e, ne-eqb (length n) 2 f, ne-eqb (length n) 16 g, ne-eqb (length n) 17 h) p
 
 -- ---- what is told of a name holds of it
 
-abbrev textual : Name → List ℕ → Bool
-textual Method n = same n (ascii ":method")
-textual Scheme n = same n (ascii ":scheme")
-textual Authority n = same n (ascii ":authority")
-textual Path n = same n (ascii ":path")
-textual Host n = same n (ascii "host")
-textual ContentLength n = same n (ascii "content-length")
-textual Te n = same n (ascii "te")
-textual Connection n = isOneName connection-fields n
-textual Unknown n = true
-textual Plain n = true
+abbrev textual : ℕ → List ℕ → Bool
+textual k n = cond (ltb k connection) (same n (nameAt k)) (cond (eqb k connection) (isOneName connection-fields n) true)
 
-abbrev Holds : List ℕ → Name → Type 0
-Holds n k = (textual k n ≡ true) × (begins (eqb 0x3a) n ≡ pseudoName k)
+-- what the number says holds of the name
+abbrev Holds : List ℕ → ℕ → Type 0
+Holds n k = (textual k n ≡ true) × ((begins (eqb 0x3a) n ≡ pseudoName k) × (k < 10))
 
 same-is : (a b : List ℕ) → same a b ≡ true → a ≡ b
 unfolding same
@@ -119,122 +127,101 @@ same-is (x ∷ a) (y ∷ b) e = go (eqb x y) refl e (same-is a b)
     go true f g ih = let p : x ≡ y = eqb-true x y f in let q : a ≡ b = ih g in cc
     go false f g ih = let z : _≡_ {A = ℕ} 0 1 = cc in absurd (omega arith)
 
+-- each of the seven is told for what it is
+own : (k : ℕ) → k < connection → nameOf (nameAt k) ≡ k
+unfolding nameOf byLength ofSeven ofTen oneName otherName ascii same begins
+own zero h = refl
+own (suc zero) h = refl
+own (suc (suc zero)) h = refl
+own (suc (suc (suc zero))) h = refl
+own (suc (suc (suc (suc zero)))) h = refl
+own (suc (suc (suc (suc (suc zero))))) h = refl
+own (suc (suc (suc (suc (suc (suc zero)))))) h = refl
+own (suc (suc (suc (suc (suc (suc (suc k))))))) h = absurd (omega arith)
+
 module _ (n : List ℕ) where
   in-other : Holds n (otherName n)
   unfolding otherName
   in-other = go (begins (eqb 0x3a) n) refl
     where
-      go : (t : Bool) → begins (eqb 0x3a) n ≡ t → Holds n (cond t Unknown Plain)
-      go true e = (refl, e)
-      go false e = (refl, e)
+      go : (t : Bool) → begins (eqb 0x3a) n ≡ t → Holds n (cond t unknown plain)
+      go true e = (refl, (e, lit< tt))
+      go false e = (refl, (e, lit< tt))
 
-  in-test : (text : List ℕ) (k rest : Name) → Holds text k → Holds n rest → Holds n (cond (same n text) k rest)
+  in-test : (text : List ℕ) (k rest : ℕ) → Holds text k → Holds n rest → Holds n (cond (same n text) k rest)
   in-test text k rest h r = go (same n text) refl
     where
       go : (t : Bool) → same n text ≡ t → Holds n (cond t k rest)
       go true e = subst (λ (x : List ℕ). Holds x k) (sym (same-is n text e)) h
       go false e = r
 
-  in-one : (text : List ℕ) (k : Name) → Holds text k → Holds n (oneName text k n)
+  in-one : (text : List ℕ) (k : ℕ) → Holds text k → Holds n (oneName text k n)
   unfolding oneName
   in-one text k h = in-test text k (otherName n) h in-other
 
-  in-cond : (t : Bool) (a b : Name) → Holds n a → Holds n b → Holds n (cond t a b)
+  in-cond : (t : Bool) (a b : ℕ) → Holds n a → Holds n b → Holds n (cond t a b)
   in-cond true a b p q = p
   in-cond false a b p q = q
 
   holds-so : Holds n (nameOf n)
-  unfolding nameOf ofSeven ofTen ascii same any begins connection-fields
+  unfolding nameOf byLength ofSeven ofTen ascii same any begins connection-fields
   holds-so =
       in-cond (eqb (length n) 7) _ _
-      (in-test (ascii ":method") Method _ (refl, refl) (in-test (ascii ":scheme") Scheme _ (refl, refl) (in-one (ascii "upgrade") Connection (refl, refl))))
+      (in-test (ascii ":method") method _ (refl, (refl, lit< tt)) (in-test (ascii ":scheme") scheme _ (refl, (refl, lit< tt)) (in-one (ascii "upgrade") connection (refl, (refl, lit< tt)))))
       (in-cond (eqb (length n) 10) _ _
-      (in-test (ascii ":authority") Authority _ (refl, refl) (in-test (ascii "connection") Connection _ (refl, refl) (in-one (ascii "keep-alive") Connection (refl, refl))))
-      (in-cond (eqb (length n) 5) _ _ (in-one (ascii ":path") Path (refl, refl))
-      (in-cond (eqb (length n) 14) _ _ (in-one (ascii "content-length") ContentLength (refl, refl))
-      (in-cond (eqb (length n) 4) _ _ (in-one (ascii "host") Host (refl, refl))
-      (in-cond (eqb (length n) 2) _ _ (in-one (ascii "te") Te (refl, refl))
-      (in-cond (eqb (length n) 16) _ _ (in-one (ascii "proxy-connection") Connection (refl, refl))
-      (in-cond (eqb (length n) 17) _ _ (in-one (ascii "transfer-encoding") Connection (refl, refl))
+      (in-test (ascii ":authority") authority _ (refl, (refl, lit< tt)) (in-test (ascii "connection") connection _ (refl, (refl, lit< tt)) (in-one (ascii "keep-alive") connection (refl, (refl, lit< tt)))))
+      (in-cond (eqb (length n) 5) _ _ (in-one (ascii ":path") path (refl, (refl, lit< tt)))
+      (in-cond (eqb (length n) 14) _ _ (in-one (ascii "content-length") content-length (refl, (refl, lit< tt)))
+      (in-cond (eqb (length n) 4) _ _ (in-one (ascii "host") host (refl, (refl, lit< tt)))
+      (in-cond (eqb (length n) 2) _ _ (in-one (ascii "te") te (refl, (refl, lit< tt)))
+      (in-cond (eqb (length n) 16) _ _ (in-one (ascii "proxy-connection") connection (refl, (refl, lit< tt)))
+      (in-cond (eqb (length n) 17) _ _ (in-one (ascii "transfer-encoding") connection (refl, (refl, lit< tt)))
       in-other)))))))
 
   -- ---- each test, by what was told
 
-  by-told : (k : Name) (t : Bool) → (t ≡ true → nameOf n ≡ k) → (nameOf n ≡ k → t ≡ true) → t ≡ nameIs k (nameOf n)
-  by-told k true to from = sym (ap (nameIs k) (to refl) ∙ is-self k)
-  by-told k false to from = go (nameIs k (nameOf n)) refl
+  by-told : (k : ℕ) (t : Bool) → (t ≡ true → nameOf n ≡ k) → (nameOf n ≡ k → t ≡ true) → t ≡ eqb (nameOf n) k
+  by-told k true to from = sym (eq-eqb (nameOf n) k (to refl))
+  by-told k false to from = go (eqb (nameOf n) k) refl
     where
-      go : (u : Bool) → nameIs k (nameOf n) ≡ u → false ≡ u
-      go true e = from (is-same k (nameOf n) e)
+      go : (u : Bool) → eqb (nameOf n) k ≡ u → false ≡ u
+      go true e = from (eqb-true (nameOf n) k e)
       go false e = refl
 
-  text-told : (k : Name) (text : List ℕ) → nameOf text ≡ k → (nameOf n ≡ k → same n text ≡ true) → same n text ≡ nameIs k (nameOf n)
-  text-told k text e from = by-told k (same n text) (λ f. ap nameOf (same-is n text f) ∙ e) from
-
-  told-so : (k : Name) → nameOf n ≡ k → textual k n ≡ true
+  told-so : (k : ℕ) → nameOf n ≡ k → textual k n ≡ true
   told-so k e = subst (Holds n) e holds-so .0
 
-  pub method-told : same n (ascii ":method") ≡ nameIs Method (nameOf n)
-  unfolding nameOf ofSeven ofTen oneName otherName ascii same begins
-  method-told = text-told Method (ascii ":method") refl (told-so Method)
-
-  pub scheme-told : same n (ascii ":scheme") ≡ nameIs Scheme (nameOf n)
-  unfolding nameOf ofSeven ofTen oneName otherName ascii same begins
-  scheme-told = text-told Scheme (ascii ":scheme") refl (told-so Scheme)
-
-  pub authority-told : same n (ascii ":authority") ≡ nameIs Authority (nameOf n)
-  unfolding nameOf ofSeven ofTen oneName otherName ascii same begins
-  authority-told = text-told Authority (ascii ":authority") refl (told-so Authority)
-
-  pub path-told : same n (ascii ":path") ≡ nameIs Path (nameOf n)
-  unfolding nameOf ofSeven ofTen oneName otherName ascii same begins
-  path-told = text-told Path (ascii ":path") refl (told-so Path)
-
-  pub host-told : same n (ascii "host") ≡ nameIs Host (nameOf n)
-  unfolding nameOf ofSeven ofTen oneName otherName ascii same begins
-  host-told = text-told Host (ascii "host") refl (told-so Host)
-
-  pub length-told : same n (ascii "content-length") ≡ nameIs ContentLength (nameOf n)
-  unfolding nameOf ofSeven ofTen oneName otherName ascii same begins
-  length-told = text-told ContentLength (ascii "content-length") refl (told-so ContentLength)
-
-  pub te-told : same n (ascii "te") ≡ nameIs Te (nameOf n)
-  unfolding nameOf ofSeven ofTen oneName otherName ascii same begins
-  te-told = text-told Te (ascii "te") refl (told-so Te)
+  pub text-told : (k : ℕ) → k < connection → same n (nameAt k) ≡ eqb (nameOf n) k
+  text-told k h =
+      by-told k (same n (nameAt k)) (λ g. ap nameOf (same-is n (nameAt k) g) ∙ own k h)
+      (λ g. sym (ap (λ t. cond t (same n (nameAt k)) (cond (eqb k connection) (isOneName connection-fields n) true)) (lt-ltb k connection h)) ∙ told-so k g)
 
   all-so : List (List ℕ) → Type 0
   all-so [] = Unit {0}
-  all-so (x ∷ xs) = (nameOf x ≡ Connection) × all-so xs
+  all-so (x ∷ xs) = (nameOf x ≡ connection) × all-so xs
 
-  one-of : (names : List (List ℕ)) → all-so names → any (λ name. same n name) names ≡ true → nameOf n ≡ Connection
+  one-of : (names : List (List ℕ)) → all-so names → any (λ name. same n name) names ≡ true → nameOf n ≡ connection
   unfolding any all-so
   one-of [] a e = let z : _≡_ {A = ℕ} 0 1 = cc in absurd (omega arith)
   one-of (x ∷ xs) a e = go (same n x) refl e (one-of xs (a .1))
     where
-      go : (t : Bool) → same n x ≡ t → (t || any (λ name. same n name) xs) ≡ true → (any (λ name. same n name) xs ≡ true → nameOf n ≡ Connection)
-          → nameOf n ≡ Connection
+      go : (t : Bool) → same n x ≡ t → (t || any (λ name. same n name) xs) ≡ true → (any (λ name. same n name) xs ≡ true → nameOf n ≡ connection)
+          → nameOf n ≡ connection
       go true f g ih = ap nameOf (same-is n x f) ∙ a .0
       go false f g ih = ih g
 
-  pub connection-told : isOneName connection-fields n ≡ nameIs Connection (nameOf n)
-  unfolding nameOf ofSeven ofTen oneName otherName ascii same begins connection-fields all-so
-  connection-told = by-told Connection (isOneName connection-fields n) (one-of connection-fields (refl, (refl, (refl, (refl, (refl, tt)))))) (told-so Connection)
+  pub connection-told : isOneName connection-fields n ≡ eqb (nameOf n) connection
+  unfolding nameOf byLength ofSeven ofTen oneName otherName ascii same begins connection-fields all-so
+  connection-told = by-told connection (isOneName connection-fields n) (one-of connection-fields (refl, (refl, (refl, (refl, (refl, tt)))))) (told-so connection)
 
   pub pseudo-told : begins (eqb 0x3a) n ≡ pseudoName (nameOf n)
-  pseudo-told = holds-so .1
+  pseudo-told = holds-so .1 .0
 
-  pub unknown-told : (begins (eqb 0x3a) n && not (isOneName pseudo-fields n)) ≡ nameIs Unknown (nameOf n)
+  pub ten : nameOf n < 10
+  ten = holds-so .1 .1
+
+  pub unknown-told : (begins (eqb 0x3a) n && not (isOneName pseudo-fields n)) ≡ eqb (nameOf n) unknown
   unfolding pseudo-fields any
-  unknown-told = rw (pseudo-told, method-told, scheme-told, authority-told, path-told) (go (nameOf n))
-    where
-      go : (k : Name) → (pseudoName k && not (nameIs Method k || (nameIs Scheme k || (nameIs Authority k || (nameIs Path k || false))))) ≡ nameIs Unknown k
-      go Method = refl
-      go Scheme = refl
-      go Authority = refl
-      go Path = refl
-      go Host = refl
-      go ContentLength = refl
-      go Te = refl
-      go Connection = refl
-      go Unknown = refl
-      go Plain = refl
+  unknown-told =
+      rw (pseudo-told, text-told method (lit< tt), text-told scheme (lit< tt), text-told authority (lit< tt), text-told path (lit< tt))
+      (by-kind (λ k. (pseudoName k && not (eqb k method || (eqb k scheme || (eqb k authority || (eqb k path || false))))) ≡ eqb k unknown) refl refl refl refl refl refl refl refl refl refl (nameOf n) ten)

@@ -1,26 +1,24 @@
--- The lines of a block stand where they say; and what the place of a name tells: whether it is there, its value, and that it lies in the block. Assumes nothing.
-use Prim.Native.Nat.{ℕ, zero, suc, _+_, _-_, _≤_}
+-- The lines of a block stand where they say; so what was collected of a name tells its value. Assumes nothing.
+use Prim.Native.Nat.{ℕ, zero, suc, _+_, _-_, _≤_, _<_}
 use mathlib.Core.Path.{_≡_, refl, sym, ap, _∙_, subst}
-use mathlib.Core.List.{List, [], _∷_}
-use mathlib.Core.Bool.{Bool, true, false, cond, not, _||_}
+use mathlib.Core.List.{List, [], _∷_, map}
+use mathlib.Core.Bool.{Bool, true, false, cond, not, _||_, _&&_}
 use mathlib.Core.Option.{Option, none, some}
 use native.Mathlib.Omega.{arith}
 use lib.Dec.{eqb}
-use lib.ListN.{length}
-use borrow.Author.Tests.{eq-eqb, ne-eqb}
-use Rattle.rules.specs.Text.{ascii, any}
+use lib.ListN.{length, getD}
+use borrow.Author.Tests.{eq-eqb, ne-eqb, eqb-true, eqb-false}
 use Rattle.rules.specs.Block.{Line, Section}
-use Rattle.rules.specs.Section.{named, has, repeated, valueOf, holds, pseudo-fields}
+use Rattle.rules.specs.Section.{isEmpty, named, valueOf, methodOf, holds}
 use Rattle.fields.specs.declared.Record.{Record}
 use Rattle.fields.specs.declared.Record.the-variants as variant
+use Rattle.fields.specs.Laws.{empty-is}
 use Rattle.fields.specs.Walk.{part, recordAt, lineOf, byRecord, walk, walkFrom, held}
 use Rattle.fields.specs.Lines.{placed}
-use Rattle.section.specs.declared.Place.{Place}
-use Rattle.section.specs.Finding.{first, valueFrom, valueTo, length-part}
-use Rattle.section.specs.Answer.{fromOf, toOf}
-use Rattle.section.specs.Laws.{value-none, value-some}
 use Rattle.section.specs.declared.Facts.{Facts}
-use Rattle.section.specs.Facts.{placeOf, isThere, valueIn, factsOf, pseudoAgain, methods-by, schemes-by, authorities-by, paths-by}
+use Rattle.section.specs.Names.{nameAt}
+use Rattle.section.specs.Finding.{first, valueFrom, valueTo, fromOf, toOf, length-part}
+use Rattle.section.specs.Facts.{factsOf, fromIn, toIn, valueAt, valueIn, value-first, somewhere}
 
 pub record Sits (block : List ℕ) (l : Line) : Type 0 where
   pub bytes : part (valueFrom l) (valueTo l) block ≡ l .value
@@ -77,86 +75,68 @@ first-sits test block (m ∷ s) l a e = go (test m) e (first-sits test block s l
     go true f ih = let g : m ≡ l = cc in subst (Sits block) g (a .0)
     go false f ih = ih f
 
-any-none : (test : Line → Bool) (s : Section) → first test s ≡ none → any test s ≡ false
-unfolding first any
-any-none test [] e = refl
-any-none test (l ∷ s) e = go (test l) e (any-none test s)
-  where
-    go : (t : Bool) → cond t (some l) (first test s) ≡ none → (first test s ≡ none → any test s ≡ false) → (t || any test s) ≡ false
-    go true f ih = let z : _≡_ {A = ℕ} 0 1 = cc in absurd (omega arith)
-    go false f ih = ih f
+-- what was collected of the six names
+abbrev InPlace : Section → Facts → (k : ℕ) → Type 0
+InPlace s f k = (getD (f .from) k 0 ≡ fromIn s (nameAt k)) × (getD (f .to) k 0 ≡ toIn s (nameAt k))
 
-any-some : (test : Line → Bool) (s : Section) (m : Line) → first test s ≡ some m → any test s ≡ true
-unfolding first any
-any-some test [] m e = let z : _≡_ {A = ℕ} 0 1 = cc in absurd (omega arith)
-any-some test (l ∷ s) m e = go (test l) e (any-some test s m)
-  where
-    go : (t : Bool) → cond t (some l) (first test s) ≡ some m → (first test s ≡ some m → any test s ≡ true) → (t || any test s) ≡ true
-    go true f ih = refl
-    go false f ih = ih f
-
-somewhere : (l : Line) → eqb (valueTo l) 0 ≡ false
-somewhere l = ne-eqb (valueTo l) 0 (λ e. omega arith)
-
-pub has-by : (name : List ℕ) (s : Section) → isThere (placeOf name s) ≡ has name s
-unfolding placeOf has fromOf toOf
-has-by name s = go (first (named name) s) refl
-  where
-    go : (o : Option Line) → first (named name) s ≡ o → not (eqb (toOf o) 0) ≡ any (named name) s
-    go none e = sym (any-none (named name) s e)
-    go (some l) e = ap not (somewhere l) ∙ sym (any-some (named name) s l e)
+in-place : (s : Section) (k : ℕ) → k < 6 → InPlace s (factsOf s) k
+unfolding factsOf
+in-place s zero h = (refl, refl)
+in-place s (suc zero) h = (refl, refl)
+in-place s (suc (suc zero)) h = (refl, refl)
+in-place s (suc (suc (suc zero))) h = (refl, refl)
+in-place s (suc (suc (suc (suc zero)))) h = (refl, refl)
+in-place s (suc (suc (suc (suc (suc zero))))) h = (refl, refl)
+in-place s (suc (suc (suc (suc (suc (suc k)))))) h = absurd (omega arith)
 
 module _ (name block : List ℕ) where
-  pub value-by : valueIn block (placeOf name (held block)) ≡ valueOf name (held block)
-  unfolding placeOf fromOf toOf
-  value-by = go (first (named name) (held block)) refl
+  pub bytes-are : part (fromIn (held block) name) (toIn (held block) name) block ≡ methodOf (valueOf name (held block))
+  unfolding fromOf toOf
+  bytes-are = go (first (named name) (held block)) refl ∙ sym (value-first name (held block))
     where
-      go : (o : Option Line) → first (named name) (held block) ≡ o
-          → cond (eqb (toOf o) 0) none (some (part (fromOf o) (toOf o) block)) ≡ valueOf name (held block)
-      go none e = sym (value-none name (held block) e)
-      go (some l) e =
-          ap (λ t. cond t none (some (part (valueFrom l) (valueTo l) block))) (somewhere l)
-          ∙ ap some (first-sits (named name) block (held block) l (all-sit block) e .bytes) ∙ sym (value-some name (held block) l e)
+      go : (o : Option Line) → first (named name) (held block) ≡ o → part (fromOf o) (toOf o) block ≡ valueIn o
+      go none e = refl
+      go (some l) e = first-sits (named name) block (held block) l (all-sit block) e .bytes
 
-  pub in-block : (placeOf name (held block) .from ≤ placeOf name (held block) .to) × (placeOf name (held block) .to ≤ length block)
-  unfolding placeOf fromOf toOf
+  pub in-block : (fromIn (held block) name ≤ toIn (held block) name) × (toIn (held block) name ≤ length block)
+  unfolding fromOf toOf
   in-block = go (first (named name) (held block)) refl
     where
       go : (o : Option Line) → first (named name) (held block) ≡ o → (fromOf o ≤ toOf o) × (toOf o ≤ length block)
       go none e = (omega arith, omega arith)
       go (some l) e = (omega arith, first-sits (named name) block (held block) l (all-sit block) e .within)
 
--- ---- the same of a place that was collected
+module _ (block : List ℕ) (f : Facts) (k : ℕ) (is : f ≡ factsOf (held block)) (h : k < 6) where
+  here : InPlace (held block) f k
+  here = subst (λ (g : Facts). InPlace (held block) g k) (sym is) (in-place (held block) k h)
 
-pub absent : (p : Place) (block : List ℕ) → p .to ≡ 0 → valueIn block p ≡ none
-absent p block e = ap (λ t. cond t none (some (part (p .from) (p .to) block))) (eq-eqb (p .to) 0 e)
+  pub lies : (getD (f .from) k 0 ≤ getD (f .to) k 0) × (getD (f .to) k 0 ≤ length block)
+  lies = rw (here .0, here .1) (in-block (nameAt k) block)
 
-pub present : (p : Place) (block : List ℕ) → (p .to ≡ 0 → ⊥) → valueIn block p ≡ some (part (p .from) (p .to) block)
-present p block e = ap (λ t. cond t none (some (part (p .from) (p .to) block))) (ne-eqb (p .to) 0 e)
+  pub bytes-at : part (getD (f .from) k 0) (getD (f .to) k 0) block ≡ valueAt (held block) k
+  bytes-at = rw (here .0, here .1) (bytes-are (nameAt k) block)
 
-module _ (name block : List ℕ) {p : Place} (e : p ≡ placeOf name (held block)) where
-  pub within-by : (p .from ≤ p .to) × (p .to ≤ length block)
-  within-by = subst (λ (q : Place). (q .from ≤ q .to) × (q .to ≤ length block)) (sym e) (in-block name block)
+-- what a test says of a value that may be missing, where it says no of nothing
+pub holds-by : (test : List ℕ → Bool) (o : Option (List ℕ)) → test [] ≡ false → test (methodOf o) ≡ holds test o
+unfolding holds methodOf
+holds-by test none e = e
+holds-by test (some v) e = refl
 
-  pub value-is : valueOf name (held block) ≡ valueIn block p
-  value-is = sym (ap (valueIn block) e ∙ value-by name block)
-
-  pub told-by : {r : Bool} (test : List ℕ → Bool) → r ≡ holds test (valueIn block p) → r ≡ holds test (valueOf name (held block))
-  told-by test f = f ∙ ap (holds test) (sym value-is)
-
-pub there-by : (name : List ℕ) (s : Section) {p : Place} → p ≡ placeOf name s → isThere p ≡ has name s
-there-by name s e = ap isThere e ∙ has-by name s
-
--- one of the four pseudo-fields comes again
-pub pseudo-again-by : (s : Section) (f : Facts) → f ≡ factsOf s → pseudoAgain f ≡ any (λ name. repeated name s) pseudo-fields
-unfolding any pseudo-fields
-pseudo-again-by s f e =
-    rw (ap (λ (g : Facts). g .methods) e ∙ methods-by s, ap (λ (g : Facts). g .schemes) e ∙ schemes-by s, ap (λ (g : Facts). g .authorities) e ∙ authorities-by s, ap (λ (g : Facts). g .paths) e ∙ paths-by s)
-    (go (repeated (ascii ":method") s) (repeated (ascii ":scheme") s) (repeated (ascii ":authority") s) (repeated (ascii ":path") s))
+-- there, and empty
+pub empty-by : (name : List ℕ) (s : Section) → (not (eqb (toIn s name) 0) && eqb (fromIn s name) (toIn s name)) ≡ holds isEmpty (valueOf name s)
+unfolding first valueOf fromOf toOf holds
+empty-by name [] = refl
+empty-by name (l ∷ s) = go (named name l) (empty-by name s)
   where
-    go : (a b c d : Bool) → ((a || b) || (c || d)) ≡ (a || (b || (c || (d || false))))
-    go true b c d = refl
-    go false true c d = refl
-    go false false true d = refl
-    go false false false true = refl
-    go false false false false = refl
+    here : eqb (valueFrom l) (valueTo l) ≡ eqb (length (l .value)) 0
+    here = by (eqb (length (l .value)) 0) refl
+      where
+        by : (t : Bool) → eqb (length (l .value)) 0 ≡ t → eqb (valueFrom l) (valueTo l) ≡ t
+        by true e = let f = eqb-true (length (l .value)) 0 e in eq-eqb (valueFrom l) (valueTo l) (omega arith)
+        by false e = ne-eqb (valueFrom l) (valueTo l) (λ f. eqb-false (length (l .value)) 0 e (omega arith))
+
+    go : (t : Bool) → (not (eqb (toIn s name) 0) && eqb (fromIn s name) (toIn s name)) ≡ holds isEmpty (valueOf name s)
+        → (not (eqb (toOf (cond t (some l) (first (named name) s))) 0) && eqb (fromOf (cond t (some l) (first (named name) s))) (toOf (cond t (some l) (first (named name) s))))
+        ≡ holds isEmpty (elim t [ true ↦ some (l .value) | false ↦ valueOf name s ])
+    go true ih = ap (λ t. not t && eqb (valueFrom l) (valueTo l)) (somewhere l) ∙ here ∙ sym (empty-is (l .value))
+    go false ih = ih

@@ -17,8 +17,7 @@ use Rattle.section.specs.declared.HeaderAnswer.the-variants as header
 use Rattle.section.specs.declared.TrailerAnswer.{TrailerAnswer}
 use Rattle.section.specs.declared.TrailerAnswer.the-variants as trailer
 use Rattle.section.specs.Checks.{reasonOf}
-use Rattle.section.specs.Answer.{Told, judged, Headed, at-method, placed-in, tellHeader, tellTrailers, readStated, readHeader, readTrailers, says}
-use Rattle.section.specs.Tests.{lengthName}
+use Rattle.section.specs.Answer.{lengthName, Told, judged, Headed, at-method, placed-in, tellHeader, tellTrailers, readStated, readHeader, readTrailers, says}
 use Rattle.section.specs.Judging.{length-passed}
 use Rattle.section.specs.Answer as answer
 

@@ -1,221 +1,113 @@
-// Header sections and trailers (document 01, "Requests"): a section block is judged by a list of checks, of which the first broken one
-// is the reason.
+// Header sections and trailers (document 01, "Requests"): one walk of a section block's lines collects what the rules ask of them. Of the
+// checks that are broken the lowest in document 01's order is the reason.
 use fields::Byte;
 use fields::Class;
 use fields::Record;
 ghost use mathlib.Core.Path.{_≡_};
-ghost use mathlib.Core.Bool.{true, false, not, _||_, _&&_};
-ghost use mathlib.Core.Option.{none};
-ghost use Prim.Native.Nat.{_+_, _<_, _≤_, _^_};
+ghost use mathlib.Core.Bool.{not, _||_, _&&_};
+ghost use mathlib.Core.List.{[]};
+ghost use Prim.Native.Nat.{_+_, _<_, _^_};
 ghost use lib.Dec.{T};
 ghost use lib.ListN.{length};
-ghost use Rattle.rules.specs.Text.{same, all};
+ghost use Rattle.rules.specs.Text.{all};
 ghost use Rattle.rules.specs.Block.{lines};
 ghost use Rattle.rules.specs.Numbers.{codeNumber};
-ghost use Rattle.rules.specs.Section.{isEmpty, holds, valueOf, firstBroken, length-check, header-checks, statedIn, sound, codeOf};
+ghost use Rattle.rules.specs.Section.{isEmpty, codeOf};
 ghost use Rattle.fields.specs.Bytes.{isIn};
 ghost use Rattle.fields.specs.Table.{allRight};
 ghost use Rattle.fields.specs.Walk.{held};
-ghost use Rattle.section.specs.Tests.{textOf, valueTest, lengthName};
-ghost use Rattle.section.specs.Names.{otherName, oneName, ofSeven, ofTen, nameOf};
-ghost use Rattle.section.specs.Facts.{noPlace, noFacts, seenAt, notePlain, notePseudo, noteBy, lineStep, factsOf, Walks, valueIn, isThere, pseudoAgain};
-ghost use Rattle.section.specs.Clean.{Unflagged, WellAuthored};
-ghost use Rattle.section.specs.Answer.{judged, readStated, readHeader, tellHeader, headOf, readTrailers, tellTrailers};
-ghost use Rattle.section.specs.Checks.{checkOf, reasonOf, stepAt, reasonsOf, checksOf, readVerdict};
+ghost use Rattle.section.specs.Checks.{at, reasonOf, lowerOf, lowest};
+ghost use Rattle.section.specs.Names.{method, host, content-length, te, unknown, otherName, oneName, ofSeven, ofTen, nameOf};
+ghost use Rattle.section.specs.Facts.{noFacts, keptOf, keepAt, knownBy, plainBy, noteBy, lineStep, factsOf, valueAt, Walks};
+ghost use Rattle.section.specs.Judging.{headerRow, emptyAt, byPlaces, byRequest, byAuthority, byTrailers, statedBy};
+ghost use Rattle.section.specs.Answer.{readStated, readHeader, tellHeader, readTrailers, tellTrailers};
 
-// ---- texts that values are compared with
+// ---- reasons
 
-enum Text {
-    Trailers,
-    Connect,
-    Options,
-    Star,
-    Http,
-    Https,
+// Why a section is refused. A reason's number is its check's place in document 01's order.
+pub enum Reason {
+    TooLarge = 0,
+    BadBytes = 1,
+    UnknownPseudo = 2,
+    RepeatedPseudo = 3,
+    LatePseudo = 4,
+    PseudoInTrailers = 5,
+    ConnectionField = 6,
+    OtherTe = 7,
+    BadMethod = 8,
+    NoMethod = 9,
+    RepeatedLength = 10,
+    LengthInTrailers = 11,
+    NoDigits = 12,
+    LengthAbove = 13,
+    RepeatedHost = 14,
+    Connect = 15,
+    NoSchemeOrPath = 16,
+    OtherScheme = 17,
+    BadPath = 18,
+    NoAuthority = 19,
+    EmptyAuthority = 20,
+    AuthoritiesDiffer = 21,
+    AtInAuthority = 22,
+    LengthPastLimit = 23,
 }
 
-fn is_text(v: &[u8], text: Text) -> bool
-    ensures { λ r. ⌜ r ≡ same (now (v .entry)) (textOf text) ⌝ }
+// No check is broken.
+const NONE: usize = 24;
+
+// The reason of a number.
+fn why(n: usize) -> Reason
+    requires { ⌜ n < 24 ⌝ }
+    ensures { λ r. ⌜ at r ≡ n ⌝ }
 {
-    match text {
-        Text::Trailers => fields::same_bytes(v, b"trailers"),
-        Text::Connect => fields::same_bytes(v, b"CONNECT"),
-        Text::Options => fields::same_bytes(v, b"OPTIONS"),
-        Text::Star => fields::same_bytes(v, b"*"),
-        Text::Http => fields::same_bytes(v, b"http"),
-        Text::Https => fields::same_bytes(v, b"https"),
+    match n {
+        0 => Reason::TooLarge,
+        1 => Reason::BadBytes,
+        2 => Reason::UnknownPseudo,
+        3 => Reason::RepeatedPseudo,
+        4 => Reason::LatePseudo,
+        5 => Reason::PseudoInTrailers,
+        6 => Reason::ConnectionField,
+        7 => Reason::OtherTe,
+        8 => Reason::BadMethod,
+        9 => Reason::NoMethod,
+        10 => Reason::RepeatedLength,
+        11 => Reason::LengthInTrailers,
+        12 => Reason::NoDigits,
+        13 => Reason::LengthAbove,
+        14 => Reason::RepeatedHost,
+        15 => Reason::Connect,
+        16 => Reason::NoSchemeOrPath,
+        17 => Reason::OtherScheme,
+        18 => Reason::BadPath,
+        19 => Reason::NoAuthority,
+        20 => Reason::EmptyAuthority,
+        21 => Reason::AuthoritiesDiffer,
+        22 => Reason::AtInAuthority,
+        _ => Reason::LengthPastLimit,
     }
 }
 
-// ---- what is asked of a value
-
-const LARGEST: u64 = 4_611_686_018_427_387_903;
-
-const LENGTH_LIMIT: u64 = 1_048_576;
-
-enum Value {
-    Empty,
-    Is(Text),
-    HttpOrHttps,
-    PastLimit,
-    Begins(u8),
-    Holds(u8),
-}
-
-// Empty, or with a byte outside a class.
-fn not_all(v: &[u8], class: Class) -> bool
-    ensures { λ r. ⌜ r ≡ (isEmpty (now (v .entry)) || not (all (isIn class) (now (v .entry)))) ⌝ }
+// The code of a refusal.
+pub fn code(reason: Reason) -> u64
+    ensures { λ r. ⌜ r ≡ codeNumber (codeOf (reasonOf reason)) ⌝ }
 {
-    if v.len() == 0 {
-        return true;
+    match reason {
+        Reason::Connect | Reason::OtherScheme | Reason::LengthPastLimit => 0x010b,
+        _ => 0x010e,
     }
-    !fields::all_in(v, class)
 }
 
-fn is_http(v: &[u8]) -> bool
-    ensures { λ r. ⌜ r ≡ valueTest Value.HttpOrHttps (now (v .entry)) ⌝ }
+// The lowest broken check, with one more.
+fn lower(first: usize, check: usize, broken: bool) -> usize
+    ensures { λ r. ⌜ r ≡ lowerOf first check broken ⌝ }
 {
-    if is_text(v, Text::Http) {
-        return true;
+    if broken {
+        if check < first {
+            return check;
+        }
     }
-    is_text(v, Text::Https)
-}
-
-fn value_passes(v: &[u8], test: Value) -> bool
-    ensures { λ r. ⌜ r ≡ valueTest test (now (v .entry)) ⌝ }
-{
-    match test {
-        Value::Empty => v.len() == 0,
-        Value::Is(text) => is_text(v, text),
-        Value::HttpOrHttps => is_http(v),
-        Value::PastLimit => LENGTH_LIMIT < fields::decimal_of(v),
-        Value::Begins(b) => fields::begins_so(v, Byte::Is(b)),
-        Value::Holds(b) => fields::any_byte(v, Byte::Is(b)),
-    }
-}
-
-// ---- what a name is to the rules
-
-enum Name {
-    Method,
-    Scheme,
-    Authority,
-    Path,
-    Host,
-    ContentLength,
-    Te,
-    Connection,
-    Unknown,
-    Plain,
-}
-
-fn other_name(name: &[u8]) -> Name
-    ensures { λ r. ⌜ r ≡ otherName (now (name .entry)) ⌝ }
-{
-    if fields::begins_so(name, Byte::Is(b':')) {
-        return Name::Unknown;
-    }
-    Name::Plain
-}
-
-// The one name of its length.
-fn one_name<'a>(name: &'a [u8], text: &'a [u8], is: Name) -> Name
-    ensures { λ r. ⌜ r ≡ oneName (now (text .entry)) is (now (name .entry)) ⌝ }
-{
-    if fields::same_bytes(name, text) {
-        return is;
-    }
-    other_name(name)
-}
-
-fn of_seven(name: &[u8]) -> Name
-    ensures { λ r. ⌜ r ≡ ofSeven (now (name .entry)) ⌝ }
-{
-    if fields::same_bytes(name, b":method") {
-        return Name::Method;
-    }
-    if fields::same_bytes(name, b":scheme") {
-        return Name::Scheme;
-    }
-    one_name(name, b"upgrade", Name::Connection)
-}
-
-fn of_ten(name: &[u8]) -> Name
-    ensures { λ r. ⌜ r ≡ ofTen (now (name .entry)) ⌝ }
-{
-    if fields::same_bytes(name, b":authority") {
-        return Name::Authority;
-    }
-    if fields::same_bytes(name, b"connection") {
-        return Name::Connection;
-    }
-    one_name(name, b"keep-alive", Name::Connection)
-}
-
-// By its length, and then by the names of that length.
-fn name_of(name: &[u8]) -> Name
-    ensures { λ r. ⌜ r ≡ nameOf (now (name .entry)) ⌝ }
-{
-    let n = name.len();
-    if n == 7 {
-        return of_seven(name);
-    }
-    if n == 10 {
-        return of_ten(name);
-    }
-    if n == 5 {
-        return one_name(name, b":path", Name::Path);
-    }
-    if n == 14 {
-        return one_name(name, b"content-length", Name::ContentLength);
-    }
-    if n == 4 {
-        return one_name(name, b"host", Name::Host);
-    }
-    if n == 2 {
-        return one_name(name, b"te", Name::Te);
-    }
-    if n == 16 {
-        return one_name(name, b"proxy-connection", Name::Connection);
-    }
-    if n == 17 {
-        return one_name(name, b"transfer-encoding", Name::Connection);
-    }
-    other_name(name)
-}
-
-// ---- what one walk of the lines collects
-
-// The first line of a name: where its value begins and ends in the block, both 0 where there is none.
-struct Place {
-    from: usize,
-    to: usize,
-}
-
-struct Facts {
-    size: usize,
-    bad: bool,
-    unknown: bool,
-    pseudo: bool,
-    plain: bool,
-    late: bool,
-    connection: bool,
-    te: bool,
-    wrong: bool,
-    digitless: bool,
-    above: bool,
-    methods: bool,
-    schemes: bool,
-    authorities: bool,
-    paths: bool,
-    hosts: bool,
-    lengths: bool,
-    method: Place,
-    scheme: Place,
-    authority: Place,
-    path: Place,
-    host: Place,
-    length: Place,
+    first
 }
 
 fn either(a: bool, b: bool) -> bool
@@ -227,157 +119,285 @@ fn either(a: bool, b: bool) -> bool
     b
 }
 
-fn nowhere() -> Place
-    ensures { λ r. ⌜ r ≡ noPlace ⌝ }
+fn both(a: bool, b: bool) -> bool
+    ensures { λ r. ⌜ r ≡ (a && b) ⌝ }
 {
-    Place { from: 0, to: 0 }
+    if a {
+        return b;
+    }
+    false
+}
+
+// ---- what a name is to the rules
+
+// The first six have a place in what is collected.
+const METHOD: usize = 0;
+
+const SCHEME: usize = 1;
+
+const AUTHORITY: usize = 2;
+
+const PATH: usize = 3;
+
+const HOST: usize = 4;
+
+const LENGTH: usize = 5;
+
+const TE: usize = 6;
+
+const CONNECTION: usize = 7;
+
+const UNKNOWN: usize = 8;
+
+const PLAIN: usize = 9;
+
+fn other_name(name: &[u8]) -> usize
+    ensures { λ r. ⌜ r ≡ otherName (now (name .entry)) ⌝ }
+{
+    if fields::begins_so(name, Byte::Is(b':')) {
+        return UNKNOWN;
+    }
+    PLAIN
+}
+
+// The one name of its length.
+fn one_name<'a>(name: &'a [u8], text: &'a [u8], is: usize) -> usize
+    ensures { λ r. ⌜ r ≡ oneName (now (text .entry)) is (now (name .entry)) ⌝ }
+{
+    if fields::same_bytes(name, text) {
+        return is;
+    }
+    other_name(name)
+}
+
+fn of_seven(name: &[u8]) -> usize
+    ensures { λ r. ⌜ r ≡ ofSeven (now (name .entry)) ⌝ }
+{
+    if fields::same_bytes(name, b":method") {
+        return METHOD;
+    }
+    if fields::same_bytes(name, b":scheme") {
+        return SCHEME;
+    }
+    one_name(name, b"upgrade", CONNECTION)
+}
+
+fn of_ten(name: &[u8]) -> usize
+    ensures { λ r. ⌜ r ≡ ofTen (now (name .entry)) ⌝ }
+{
+    if fields::same_bytes(name, b":authority") {
+        return AUTHORITY;
+    }
+    if fields::same_bytes(name, b"connection") {
+        return CONNECTION;
+    }
+    one_name(name, b"keep-alive", CONNECTION)
+}
+
+// By its length, and then by the names of that length.
+fn name_of(name: &[u8]) -> usize
+    ensures { λ r. ⌜ r ≡ nameOf (now (name .entry)) ⌝ }
+{
+    match name.len() {
+        7 => of_seven(name),
+        10 => of_ten(name),
+        5 => one_name(name, b":path", PATH),
+        14 => one_name(name, b"content-length", LENGTH),
+        4 => one_name(name, b"host", HOST),
+        2 => one_name(name, b"te", TE),
+        16 => one_name(name, b"proxy-connection", CONNECTION),
+        17 => one_name(name, b"transfer-encoding", CONNECTION),
+        _ => other_name(name),
+    }
+}
+
+// ---- what one walk of the lines collects
+
+const LARGEST: u64 = 4_611_686_018_427_387_903;
+
+const LENGTH_LIMIT: u64 = 1_048_576;
+
+const SIZE_LIMIT: usize = 16_384;
+
+// Of the lines so far: their size, the lowest check that they break by themselves, whether there was a pseudo-field or another; and of six
+// names where in the block the first line's value begins and ends, both 0 where there is none. `stated` is the first Content-Length's number.
+struct Facts {
+    size: usize,
+    first: usize,
+    pseudo: bool,
+    plain: bool,
+    stated: u64,
+    from: [usize; 6],
+    to: [usize; 6],
 }
 
 fn nothing() -> Facts
     ensures { λ r. ⌜ r ≡ noFacts ⌝ }
 {
-    let p = nowhere();
     Facts {
         size: 0,
-        bad: false,
-        unknown: false,
+        first: NONE,
         pseudo: false,
         plain: false,
-        late: false,
-        connection: false,
-        te: false,
-        wrong: false,
-        digitless: false,
-        above: false,
-        methods: false,
-        schemes: false,
-        authorities: false,
-        paths: false,
-        hosts: false,
-        lengths: false,
-        method: p,
-        scheme: p,
-        authority: p,
-        path: p,
-        host: p,
-        length: p,
+        stated: 0,
+        from: [0; 6],
+        to: [0; 6],
     }
 }
 
-fn seen(p: Place, from: usize, to: usize) -> Place
-    ensures { λ r. ⌜ r ≡ seenAt p from to ⌝ }
+// What is there stays.
+fn kept(there: usize, old: usize, new: usize) -> usize
+    ensures { λ r. ⌜ r ≡ keptOf there old new ⌝ }
 {
-    if p.to == 0 {
-        return Place { from, to };
+    if there == 0 {
+        return new;
     }
-    p
+    old
 }
 
-fn seen_again(p: Place, again: bool) -> bool
-    ensures { λ r. ⌜ r ≡ (isThere p || again) ⌝ }
+// The line of a name that has a place.
+fn keep(f: Facts, k: usize, from: usize, to: usize) -> Facts
+    requires { ⌜ k < 6 ⌝ }
+    ensures { λ r. ⌜ r ≡ keepAt f k from to ⌝ }
 {
-    either(p.to != 0, again)
+    let there = f.to[k];
+    let old = f.from[k];
+    let mut g = f;
+    g.from[k] = kept(there, old, from);
+    g.to[k] = kept(there, there, to);
+    g
 }
 
-fn plain_line(f: Facts) -> Facts
-    ensures { λ r. ⌜ r ≡ notePlain f ⌝ }
+// A request pseudo-field.
+fn known_line(f: Facts, k: usize, from: usize, to: usize) -> Facts
+    requires { ⌜ k < 6 ⌝ }
+    ensures { λ r. ⌜ r ≡ knownBy k f from to ⌝ }
+{
+    let n = lower(f.first, Reason::RepeatedPseudo as usize, f.to[k] != 0);
+    let first = lower(n, Reason::LatePseudo as usize, f.plain);
+    let mut g = keep(f, k, from, to);
+    g.first = first;
+    g.pseudo = true;
+    g
+}
+
+// Empty, or with a byte outside a class.
+fn not_all<'a>(table: &'a [u8; 256], v: &'a [u8], class: Class) -> bool
+    requires { ⌜ T (allRight (now table)) ⌝ }
+    ensures { λ r. ⌜ r ≡ (isEmpty (now (v .entry)) || not (all (isIn class) (now (v .entry)))) ⌝ }
+{
+    if v.len() == 0 {
+        return true;
+    }
+    fields::any_outside(table, v, class)
+}
+
+fn method_line<'a>(f: Facts, table: &'a [u8; 256], value: &'a [u8], from: usize, to: usize) -> Facts
+    requires { ⌜ T (allRight (now table)) ⌝ }
+    ensures { λ r. ⌜ r ≡ noteBy method f (now (value .entry)) from to ⌝ }
+{
+    let mut g = known_line(f, METHOD, from, to);
+    let first = lower(
+        g.first,
+        Reason::BadMethod as usize,
+        not_all(table, value, Class::Token),
+    );
+    g.first = first;
+    g
+}
+
+// A line that is no pseudo-field.
+fn plain_line(f: Facts, first: usize) -> Facts
+    ensures { λ r. ⌜ r ≡ plainBy f first ⌝ }
 {
     let mut g = f;
+    g.first = first;
     g.plain = true;
     g
 }
 
-fn pseudo_line(f: Facts) -> Facts
-    ensures { λ r. ⌜ r ≡ notePseudo f ⌝ }
+fn host_line(f: Facts, from: usize, to: usize) -> Facts
+    ensures { λ r. ⌜ r ≡ noteBy host f [] from to ⌝ }
 {
-    let late = either(f.plain, f.late);
-    let mut g = f;
-    g.pseudo = true;
-    g.late = late;
+    let first = lower(f.first, Reason::RepeatedHost as usize, f.to[HOST] != 0);
+    plain_line(keep(f, HOST, from, to), first)
+}
+
+fn kept_number(there: usize, old: u64, new: u64) -> u64
+    ensures { λ r. ⌜ r ≡ keptOf there old new ⌝ }
+{
+    if there == 0 {
+        return new;
+    }
+    old
+}
+
+fn length_line<'a>(f: Facts, table: &'a [u8; 256], value: &'a [u8], from: usize, to: usize) -> Facts
+    requires { ⌜ T (allRight (now table)) ⌝ }
+    ensures { λ r. ⌜ r ≡ noteBy content-length f (now (value .entry)) from to ⌝ }
+{
+    let there = f.to[LENGTH];
+    let number = fields::decimal_of(value);
+    let n = lower(f.first, Reason::RepeatedLength as usize, there != 0);
+    let n = lower(
+        n,
+        Reason::NoDigits as usize,
+        not_all(table, value, Class::Digit),
+    );
+    let first = lower(n, Reason::LengthAbove as usize, LARGEST < number);
+    let stated = kept_number(there, f.stated, number);
+    let mut g = plain_line(keep(f, LENGTH, from, to), first);
+    g.stated = stated;
     g
 }
 
-fn noted(f: Facts, name: Name, value: &[u8], from: usize, to: usize) -> Facts
-    ensures { λ r. ⌜ r ≡ noteBy name f (now (value .entry)) from to ⌝ }
+fn te_line(f: Facts, value: &[u8]) -> Facts
+    ensures { λ r. ⌜ r ≡ noteBy te f (now (value .entry)) 0 0 ⌝ }
 {
-    match name {
-        Name::Method => {
-            let p = f.method;
-            let q = seen(p, from, to);
-            let again = seen_again(p, f.methods);
-            let bad = either(not_all(value, Class::Token), f.wrong);
-            let mut g = pseudo_line(f);
-            g.method = q;
-            g.methods = again;
-            g.wrong = bad;
-            g
+    let first = lower(
+        f.first,
+        Reason::OtherTe as usize,
+        !fields::same_bytes(value, b"trailers"),
+    );
+    plain_line(f, first)
+}
+
+fn unknown_line(f: Facts) -> Facts
+    ensures { λ r. ⌜ r ≡ noteBy unknown f [] 0 0 ⌝ }
+{
+    let n = lower(f.first, Reason::UnknownPseudo as usize, true);
+    let first = lower(n, Reason::LatePseudo as usize, f.plain);
+    let mut g = f;
+    g.first = first;
+    g.pseudo = true;
+    g
+}
+
+fn noted<'a>(
+    f: Facts,
+    table: &'a [u8; 256],
+    k: usize,
+    value: &'a [u8],
+    from: usize,
+    to: usize,
+) -> Facts
+    requires { ⌜ (k < 10) × T (allRight (now table)) ⌝ }
+    ensures { λ r. ⌜ r ≡ noteBy k f (now (value .entry)) from to ⌝ }
+{
+    match k {
+        METHOD => method_line(f, table, value, from, to),
+        SCHEME => known_line(f, SCHEME, from, to),
+        AUTHORITY => known_line(f, AUTHORITY, from, to),
+        PATH => known_line(f, PATH, from, to),
+        HOST => host_line(f, from, to),
+        LENGTH => length_line(f, table, value, from, to),
+        TE => te_line(f, value),
+        CONNECTION => {
+            let first = lower(f.first, Reason::ConnectionField as usize, true);
+            plain_line(f, first)
         }
-        Name::Scheme => {
-            let p = f.scheme;
-            let q = seen(p, from, to);
-            let again = seen_again(p, f.schemes);
-            let mut g = pseudo_line(f);
-            g.scheme = q;
-            g.schemes = again;
-            g
-        }
-        Name::Authority => {
-            let p = f.authority;
-            let q = seen(p, from, to);
-            let again = seen_again(p, f.authorities);
-            let mut g = pseudo_line(f);
-            g.authority = q;
-            g.authorities = again;
-            g
-        }
-        Name::Path => {
-            let p = f.path;
-            let q = seen(p, from, to);
-            let again = seen_again(p, f.paths);
-            let mut g = pseudo_line(f);
-            g.path = q;
-            g.paths = again;
-            g
-        }
-        Name::Host => {
-            let p = f.host;
-            let q = seen(p, from, to);
-            let again = seen_again(p, f.hosts);
-            let mut g = plain_line(f);
-            g.host = q;
-            g.hosts = again;
-            g
-        }
-        Name::ContentLength => {
-            let p = f.length;
-            let q = seen(p, from, to);
-            let again = seen_again(p, f.lengths);
-            let digitless = either(not_all(value, Class::Digit), f.digitless);
-            let above = either(LARGEST < fields::decimal_of(value), f.above);
-            let mut g = plain_line(f);
-            g.length = q;
-            g.lengths = again;
-            g.digitless = digitless;
-            g.above = above;
-            g
-        }
-        Name::Te => {
-            let other = either(!is_text(value, Text::Trailers), f.te);
-            let mut g = plain_line(f);
-            g.te = other;
-            g
-        }
-        Name::Connection => {
-            let mut g = plain_line(f);
-            g.connection = true;
-            g
-        }
-        Name::Unknown => {
-            let mut g = pseudo_line(f);
-            g.unknown = true;
-            g
-        }
-        Name::Plain => plain_line(f),
+        UNKNOWN => unknown_line(f),
+        _ => plain_line(f, f.first),
     }
 }
 
@@ -394,19 +414,20 @@ fn with_line<'a>(
     ensures { λ r. ⌜ r ≡ lineStep f (now (name .entry)) (now (value .entry)) from to ⌝ }
 {
     let size = f.size + name.len() + value.len();
-    let bad = either(fields::bad_line(table, name, value), f.bad);
-    let mut g = noted(f, name_of(name), value, from, to);
+    let bad = fields::bad_line(table, name, value);
+    let mut g = noted(f, table, name_of(name), value, from, to);
+    let first = lower(g.first, Reason::BadBytes as usize, bad);
     g.size = size;
-    g.bad = bad;
+    g.first = first;
     g
 }
 
-enum Walked {
-    Unreadable,
-    Facts(Facts),
+struct Walked {
+    readable: bool,
+    facts: Facts,
 }
 
-// The one walk of the lines.
+// The one walk of the lines: those of an unreadable block up to the flaw.
 fn walk_lines(block: &[u8]) -> Walked
     ensures { λ r. ⌜ Walks (now (block .entry)) r ⌝ }
 {
@@ -415,8 +436,18 @@ fn walk_lines(block: &[u8]) -> Walked
     let mut f = nothing();
     loop {
         match fields::line_at(block, at) {
-            Record::End => return Walked::Facts(f),
-            Record::Unreadable => return Walked::Unreadable,
+            Record::End => {
+                return Walked {
+                    readable: true,
+                    facts: f,
+                };
+            }
+            Record::Unreadable => {
+                return Walked {
+                    readable: false,
+                    facts: f,
+                };
+            }
             Record::Line { name, value, next } => {
                 f = with_line(
                     f,
@@ -432,367 +463,100 @@ fn walk_lines(block: &[u8]) -> Walked
     }
 }
 
-// What a test says of the value of a name's first line.
-fn first_value(block: &[u8], p: Place, test: Value) -> bool
-    requires { ⌜ (p .from ≤ p .to) × (p .to ≤ length (now block)) ⌝ }
-    ensures { λ r. ⌜ r ≡ holds (valueTest test) (valueIn (now (block .entry)) p) ⌝ }
+// ---- a header section
+
+// The value of a name's first line; nothing where there is none.
+fn value_of(block: &[u8], f: Facts, k: usize) -> &[u8]
+    requires { ⌜ (f ≡ factsOf (held (now block))) × (k < 6) ⌝ }
+    ensures { λ r. ⌜ now r ≡ valueAt (held (now (block .entry))) k ⌝ }
 {
-    let from = p.from;
-    let to = p.to;
-    if to == 0 {
-        return false;
-    }
-    value_passes(&block[from..to], test)
+    let from = f.from[k];
+    let to = f.to[k];
+    &block[from..to]
 }
 
-const SIZE_LIMIT: usize = 16_384;
-
-// ---- the checks
-
-// Why a section is refused.
-pub enum Reason {
-    TooLarge,
-    BadBytes,
-    UnknownPseudo,
-    RepeatedPseudo,
-    LatePseudo,
-    PseudoInTrailers,
-    ConnectionField,
-    OtherTe,
-    BadMethod,
-    NoMethod,
-    RepeatedLength,
-    LengthInTrailers,
-    NoDigits,
-    LengthAbove,
-    RepeatedHost,
-    Connect,
-    NoSchemeOrPath,
-    OtherScheme,
-    BadPath,
-    NoAuthority,
-    EmptyAuthority,
-    AuthoritiesDiffer,
-    AtInAuthority,
-    LengthPastLimit,
-}
-
-// The code of a refusal.
-pub fn code(reason: Reason) -> u64
-    ensures { λ r. ⌜ r ≡ codeNumber (codeOf (reasonOf reason)) ⌝ }
+// There, and empty.
+fn empty_at(f: Facts, k: usize) -> bool
+    requires { ⌜ k < 6 ⌝ }
+    ensures { λ r. ⌜ r ≡ emptyAt f k ⌝ }
 {
-    match reason {
-        Reason::Connect | Reason::OtherScheme | Reason::LengthPastLimit => 0x010b,
-        _ => 0x010e,
-    }
+    both(f.to[k] != 0, f.from[k] == f.to[k])
 }
 
-fn repeated_pseudo(f: Facts) -> bool
-    ensures { λ r. ⌜ r ≡ pseudoAgain f ⌝ }
+// What is there, and the size.
+fn places_fault(f: Facts) -> usize
+    ensures { λ r. ⌜ r ≡ byPlaces f ⌝ }
 {
-    either(either(f.methods, f.schemes), either(f.authorities, f.paths))
+    let n = lower(f.first, Reason::TooLarge as usize, SIZE_LIMIT < f.size);
+    let n = lower(n, Reason::NoMethod as usize, f.to[METHOD] == 0);
+    let n = lower(
+        n,
+        Reason::NoSchemeOrPath as usize,
+        either(f.to[SCHEME] == 0, f.to[PATH] == 0),
+    );
+    let n = lower(
+        n,
+        Reason::NoAuthority as usize,
+        both(f.to[AUTHORITY] == 0, f.to[HOST] == 0),
+    );
+    let n = lower(
+        n,
+        Reason::EmptyAuthority as usize,
+        either(empty_at(f, AUTHORITY), empty_at(f, HOST)),
+    );
+    lower(n, Reason::LengthPastLimit as usize, LENGTH_LIMIT < f.stated)
 }
 
-fn no_scheme_or_path(f: Facts) -> bool
-    ensures { λ r. ⌜ r ≡ not (isThere (f .scheme) && isThere (f .path)) ⌝ }
-{
-    if f.scheme.to == 0 {
-        return true;
-    }
-    f.path.to == 0
-}
-
-// `*` is fine with OPTIONS.
-fn bad_path(block: &[u8], f: Facts) -> bool
+// What the method, the scheme and the path say. `*` is fine with OPTIONS.
+fn request_fault(block: &[u8], f: Facts, n: usize) -> usize
     requires { ⌜ f ≡ factsOf (held (now block)) ⌝ }
-    ensures { λ r. ⌜ r ≡ checkOf Reason.BadPath .broken (held (now (block .entry))) ⌝ }
+    ensures { λ r. ⌜ r ≡ byRequest (held (now (block .entry))) n ⌝ }
 {
-    let path = f.path;
-    if first_value(block, path, Value::Begins(b'/')) {
-        return false;
-    }
-    if first_value(block, path, Value::Is(Text::Star)) {
-        let method = f.method;
-        return !first_value(block, method, Value::Is(Text::Options));
-    }
-    true
+    let method = value_of(block, f, METHOD);
+    let scheme = value_of(block, f, SCHEME);
+    let path = value_of(block, f, PATH);
+    let http = either(
+        fields::same_bytes(scheme, b"http"),
+        fields::same_bytes(scheme, b"https"),
+    );
+    let star = both(
+        fields::same_bytes(b"*", path),
+        fields::same_bytes(b"OPTIONS", method),
+    );
+    let good = either(fields::begins_so(path, Byte::Is(b'/')), star);
+    let n = lower(
+        n,
+        Reason::Connect as usize,
+        fields::same_bytes(b"CONNECT", method),
+    );
+    let n = lower(n, Reason::OtherScheme as usize, !http);
+    lower(n, Reason::BadPath as usize, !good)
 }
 
-fn no_authority(f: Facts) -> bool
-    ensures { λ r. ⌜ r ≡ not (isThere (f .authority) || isThere (f .host)) ⌝ }
-{
-    if f.authority.to == 0 {
-        return f.host.to == 0;
-    }
-    false
-}
-
-fn empty_authority(block: &[u8], f: Facts) -> bool
+// What the authority and the host say.
+fn authority_fault(block: &[u8], f: Facts, n: usize) -> usize
     requires { ⌜ f ≡ factsOf (held (now block)) ⌝ }
-    ensures { λ r. ⌜ r ≡ checkOf Reason.EmptyAuthority .broken (held (now (block .entry))) ⌝ }
+    ensures { λ r. ⌜ r ≡ byAuthority (held (now (block .entry))) n ⌝ }
 {
-    let authority = f.authority;
-    if first_value(block, authority, Value::Empty) {
-        return true;
-    }
-    let host = f.host;
-    first_value(block, host, Value::Empty)
+    let authority = value_of(block, f, AUTHORITY);
+    let host = value_of(block, f, HOST);
+    let two = both(f.to[AUTHORITY] != 0, f.to[HOST] != 0);
+    let differ = both(two, !fields::same_bytes(authority, host));
+    let n = lower(n, Reason::AuthoritiesDiffer as usize, differ);
+    lower(
+        n,
+        Reason::AtInAuthority as usize,
+        fields::any_byte(authority, Byte::Is(b'@')),
+    )
 }
 
-fn authorities_differ(block: &[u8], f: Facts) -> bool
+fn header_fault(block: &[u8], f: Facts) -> usize
     requires { ⌜ f ≡ factsOf (held (now block)) ⌝ }
-    ensures { λ r. ⌜ r ≡ checkOf Reason.AuthoritiesDiffer .broken (held (now (block .entry))) ⌝ }
+    ensures { λ r. ⌜ r ≡ lowest (headerRow (held (now (block .entry)))) ⌝ }
 {
-    let from = f.authority.from;
-    let to = f.authority.to;
-    if to == 0 {
-        return false;
-    }
-    let value = f.host.from;
-    let next = f.host.to;
-    if next == 0 {
-        return false;
-    }
-    !fields::same_bytes(&block[from..to], &block[value..next])
+    let n = request_fault(block, f, places_fault(f));
+    authority_fault(block, f, n)
 }
-
-// Whether a check is broken.
-fn broken(block: &[u8], f: Facts, reason: Reason) -> bool
-    requires { ⌜ f ≡ factsOf (held (now block)) ⌝ }
-    ensures { λ r. ⌜ r ≡ checkOf reason .broken (held (now (block .entry))) ⌝ }
-{
-    match reason {
-        Reason::TooLarge => SIZE_LIMIT < f.size,
-        Reason::BadBytes => f.bad,
-        Reason::UnknownPseudo => f.unknown,
-        Reason::RepeatedPseudo => repeated_pseudo(f),
-        Reason::LatePseudo => f.late,
-        Reason::PseudoInTrailers => f.pseudo,
-        Reason::ConnectionField => f.connection,
-        Reason::OtherTe => f.te,
-        Reason::BadMethod => f.wrong,
-        Reason::NoMethod => f.method.to == 0,
-        Reason::RepeatedLength => f.lengths,
-        Reason::LengthInTrailers => f.length.to != 0,
-        Reason::NoDigits => f.digitless,
-        Reason::LengthAbove => f.above,
-        Reason::RepeatedHost => f.hosts,
-        Reason::Connect => {
-            let p = f.method;
-            first_value(block, p, Value::Is(Text::Connect))
-        }
-        Reason::NoSchemeOrPath => no_scheme_or_path(f),
-        Reason::OtherScheme => {
-            let p = f.scheme;
-            !first_value(block, p, Value::HttpOrHttps)
-        }
-        Reason::BadPath => bad_path(block, f),
-        Reason::NoAuthority => no_authority(f),
-        Reason::EmptyAuthority => empty_authority(block, f),
-        Reason::AuthoritiesDiffer => authorities_differ(block, f),
-        Reason::AtInAuthority => {
-            let p = f.authority;
-            first_value(block, p, Value::Holds(b'@'))
-        }
-        Reason::LengthPastLimit => {
-            let p = f.length;
-            first_value(block, p, Value::PastLimit)
-        }
-    }
-}
-
-// ---- the order
-
-const HEADER_CHECKS: [Reason; 22] = [
-    Reason::TooLarge,
-    Reason::BadBytes,
-    Reason::UnknownPseudo,
-    Reason::RepeatedPseudo,
-    Reason::LatePseudo,
-    Reason::ConnectionField,
-    Reason::OtherTe,
-    Reason::BadMethod,
-    Reason::NoMethod,
-    Reason::RepeatedLength,
-    Reason::NoDigits,
-    Reason::LengthAbove,
-    Reason::RepeatedHost,
-    Reason::Connect,
-    Reason::NoSchemeOrPath,
-    Reason::OtherScheme,
-    Reason::BadPath,
-    Reason::NoAuthority,
-    Reason::EmptyAuthority,
-    Reason::AuthoritiesDiffer,
-    Reason::AtInAuthority,
-    Reason::LengthPastLimit,
-];
-
-const TRAILER_CHECKS: [Reason; 14] = [
-    Reason::TooLarge,
-    Reason::BadBytes,
-    Reason::UnknownPseudo,
-    Reason::RepeatedPseudo,
-    Reason::LatePseudo,
-    Reason::PseudoInTrailers,
-    Reason::ConnectionField,
-    Reason::OtherTe,
-    Reason::BadMethod,
-    Reason::RepeatedLength,
-    Reason::LengthInTrailers,
-    Reason::NoDigits,
-    Reason::LengthAbove,
-    Reason::RepeatedHost,
-];
-
-enum Kind {
-    Header,
-    Trailers,
-}
-
-// The check at a place of a section's list.
-enum Step {
-    Done,
-    Check(Reason),
-}
-
-fn check_at(kind: Kind, i: usize) -> Step
-    ensures { λ r. ⌜ r ≡ stepAt (reasonsOf kind) i ⌝ }
-{
-    match kind {
-        Kind::Header => {
-            if i < 22 {
-                Step::Check(HEADER_CHECKS[i])
-            } else {
-                Step::Done
-            }
-        }
-        Kind::Trailers => {
-            if i < 14 {
-                Step::Check(TRAILER_CHECKS[i])
-            } else {
-                Step::Done
-            }
-        }
-    }
-}
-
-enum Verdict {
-    Passed,
-    Broken(Reason),
-}
-
-fn first_broken(block: &[u8], f: Facts, kind: Kind) -> Verdict
-    requires { ⌜ f ≡ factsOf (held (now block)) ⌝ }
-    ensures { λ r. ⌜ readVerdict r ≡ firstBroken (checksOf kind) (held (now (block .entry))) ⌝ }
-{
-    let mut i = 0;
-    loop {
-        match check_at(kind, i) {
-            Step::Done => return Verdict::Passed,
-            Step::Check(reason) => {
-                if broken(block, f, reason) {
-                    return Verdict::Broken(reason);
-                }
-            }
-        }
-        i += 1;
-    }
-}
-
-// ---- the sound case, which goes by no list
-
-// Whether the walk met a line that breaks a rule.
-fn flagged(f: Facts) -> bool
-    ensures { λ r. ⌜ (r ≡ false → Unflagged f) ⌝ }
-{
-    if f.bad {
-        return true;
-    }
-    if f.unknown {
-        return true;
-    }
-    if f.late {
-        return true;
-    }
-    if f.connection {
-        return true;
-    }
-    if f.te {
-        return true;
-    }
-    if f.wrong {
-        return true;
-    }
-    if f.digitless {
-        return true;
-    }
-    if f.above {
-        return true;
-    }
-    if f.lengths {
-        return true;
-    }
-    if f.hosts {
-        return true;
-    }
-    repeated_pseudo(f)
-}
-
-// Whether the host or the authority is at fault.
-fn bad_authority(block: &[u8], f: Facts) -> bool
-    requires { ⌜ f ≡ factsOf (held (now block)) ⌝ }
-    ensures { λ r. ⌜ (r ≡ false → WellAuthored (held (now (block .entry)))) ⌝ }
-{
-    if no_authority(f) {
-        return true;
-    }
-    if empty_authority(block, f) {
-        return true;
-    }
-    if authorities_differ(block, f) {
-        return true;
-    }
-    let p = f.authority;
-    first_value(block, p, Value::Holds(b'@'))
-}
-
-// A header section that breaks no check.
-fn clean(block: &[u8], f: Facts) -> bool
-    requires { ⌜ f ≡ factsOf (held (now block)) ⌝ }
-    ensures { λ r. ⌜ (r ≡ true → firstBroken header-checks (held (now (block .entry))) ≡ none) ⌝ }
-{
-    if SIZE_LIMIT < f.size {
-        return false;
-    }
-    if flagged(f) {
-        return false;
-    }
-    if f.method.to == 0 {
-        return false;
-    }
-    let m = f.method;
-    if first_value(block, m, Value::Is(Text::Connect)) {
-        return false;
-    }
-    if no_scheme_or_path(f) {
-        return false;
-    }
-    let s = f.scheme;
-    if !first_value(block, s, Value::HttpOrHttps) {
-        return false;
-    }
-    if bad_path(block, f) {
-        return false;
-    }
-    if bad_authority(block, f) {
-        return false;
-    }
-    let l = f.length;
-    !first_value(block, l, Value::PastLimit)
-}
-
-// ---- the judgement
 
 // The Content-Length that a header section states.
 pub enum Stated {
@@ -811,60 +575,61 @@ pub enum HeaderAnswer {
     },
 }
 
+fn stated_length(f: Facts) -> Stated
+    ensures { λ r. ⌜ readStated r ≡ statedBy f ⌝ }
+{
+    if f.to[LENGTH] == 0 {
+        return Stated::Nothing;
+    }
+    Stated::Length(f.stated)
+}
+
+pub fn header_section(block: &[u8]) -> HeaderAnswer
+    ensures { λ r. ⌜ readHeader (now (block .entry)) r ≡ tellHeader (lines (now (block .entry))) ⌝ }
+{
+    let walked = walk_lines(block);
+    if !walked.readable {
+        return HeaderAnswer::Unreadable;
+    }
+    let f = walked.facts;
+    let n = header_fault(block, f);
+    if n < NONE {
+        return HeaderAnswer::Refused(why(n));
+    }
+    HeaderAnswer::Sound {
+        method: f.from[METHOD],
+        end: f.to[METHOD],
+        stated: stated_length(f),
+    }
+}
+
+// ---- trailers
+
 pub enum TrailerAnswer {
     Unreadable,
     Refused(Reason),
     Sound,
 }
 
-fn stated_length(block: &[u8], f: Facts) -> Stated
-    requires { ⌜ (f ≡ factsOf (held (now block))) × (length-check .broken (held (now block)) ≡ false) ⌝ }
-    ensures { λ r. ⌜ readStated r ≡ statedIn (valueOf lengthName (held (now (block .entry)))) ⌝ }
+fn trailer_fault(f: Facts) -> usize
+    ensures { λ r. ⌜ r ≡ byTrailers f ⌝ }
 {
-    let from = f.length.from;
-    let to = f.length.to;
-    if to == 0 {
-        return Stated::Nothing;
-    }
-    Stated::Length(fields::decimal_of(&block[from..to]))
-}
-
-fn sound_header(block: &[u8], f: Facts) -> HeaderAnswer
-    requires { ⌜ (f ≡ factsOf (held (now block))) × (firstBroken header-checks (held (now block)) ≡ none) ⌝ }
-    ensures { λ r. ⌜ readHeader (now (block .entry)) r ≡ judged (sound (headOf (held (now (block .entry))))) ⌝ }
-{
-    HeaderAnswer::Sound {
-        method: f.method.from,
-        end: f.method.to,
-        stated: stated_length(block, f),
-    }
-}
-
-pub fn header_section(block: &[u8]) -> HeaderAnswer
-    ensures { λ r. ⌜ readHeader (now (block .entry)) r ≡ tellHeader (lines (now (block .entry))) ⌝ }
-{
-    match walk_lines(block) {
-        Walked::Unreadable => HeaderAnswer::Unreadable,
-        Walked::Facts(f) => {
-            if clean(block, f) {
-                return sound_header(block, f);
-            }
-            match first_broken(block, f, Kind::Header) {
-                Verdict::Broken(reason) => HeaderAnswer::Refused(reason),
-                Verdict::Passed => sound_header(block, f),
-            }
-        }
-    }
+    let n = lower(f.first, Reason::TooLarge as usize, SIZE_LIMIT < f.size);
+    let n = lower(n, Reason::PseudoInTrailers as usize, f.pseudo);
+    lower(n, Reason::LengthInTrailers as usize, f.to[LENGTH] != 0)
 }
 
 pub fn trailers(block: &[u8]) -> TrailerAnswer
     ensures { λ r. ⌜ readTrailers r ≡ tellTrailers (lines (now (block .entry))) ⌝ }
 {
-    match walk_lines(block) {
-        Walked::Unreadable => TrailerAnswer::Unreadable,
-        Walked::Facts(f) => match first_broken(block, f, Kind::Trailers) {
-            Verdict::Broken(reason) => TrailerAnswer::Refused(reason),
-            Verdict::Passed => TrailerAnswer::Sound,
-        },
+    let walked = walk_lines(block);
+    if !walked.readable {
+        return TrailerAnswer::Unreadable;
     }
+    let f = walked.facts;
+    let n = trailer_fault(f);
+    if n < NONE {
+        return TrailerAnswer::Refused(why(n));
+    }
+    TrailerAnswer::Sound
 }

@@ -1,8 +1,7 @@
 -- `section::of_seven` meets its contract. Assumes nothing.
 use Rattle.rules.specs.Text.{ascii}
-use Rattle.section.specs.Names.{ofSeven}
-use mathlib.Core.Path.{refl, sym, ap, _∙_}
 use Rattle.section.specs.Laws.{chosen, otherwise}
+use Rattle.section.specs.Names.{ofSeven}
 use borrow.Author.Needs.{needs}
 use Rattle.section.proofs.of_seven.Statement.{statement}
 use Rattle.section.proofs.of_seven.Tie as tie

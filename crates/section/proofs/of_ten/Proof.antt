@@ -1,8 +1,7 @@
 -- `section::of_ten` meets its contract. Assumes nothing.
 use Rattle.rules.specs.Text.{ascii}
-use Rattle.section.specs.Names.{ofTen}
-use mathlib.Core.Path.{refl, sym, ap, _∙_}
 use Rattle.section.specs.Laws.{chosen, otherwise}
+use Rattle.section.specs.Names.{ofTen}
 use borrow.Author.Needs.{needs}
 use Rattle.section.proofs.of_ten.Statement.{statement}
 use Rattle.section.proofs.of_ten.Tie as tie

@@ -1,7 +1,6 @@
 -- `section::one_name` meets its contract. Assumes nothing.
-use Rattle.section.specs.Names.{oneName}
-use mathlib.Core.Path.{refl, sym, ap, _∙_}
 use Rattle.section.specs.Laws.{chosen, otherwise}
+use Rattle.section.specs.Names.{oneName}
 use borrow.Author.Needs.{needs}
 use Rattle.section.proofs.one_name.Statement.{statement}
 use Rattle.section.proofs.one_name.Tie as tie

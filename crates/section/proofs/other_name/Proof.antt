@@ -1,7 +1,7 @@
 -- `section::other_name` meets its contract. Assumes nothing.
-use Rattle.section.specs.Names.{otherName}
-use mathlib.Core.Path.{refl, sym, ap, _∙_}
+use mathlib.Core.Path.{refl}
 use Rattle.section.specs.Laws.{chosen, otherwise}
+use Rattle.section.specs.Names.{otherName}
 use borrow.Author.Needs.{needs}
 use Rattle.section.proofs.other_name.Statement.{statement}
 use Rattle.section.proofs.other_name.Tie as tie

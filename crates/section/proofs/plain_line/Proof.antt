@@ -1,11 +1,11 @@
 -- `section::plain_line` meets its contract. Assumes nothing.
-use Rattle.section.specs.Facts.{notePlain, noteBy}
-use mathlib.Core.Path.{refl, sym, ap, _∙_}
+use mathlib.Core.Path.{refl}
+use Rattle.section.specs.Facts.{plainBy}
 use Rattle.section.proofs.plain_line.Statement.{statement}
 use Rattle.section.proofs.plain_line.Tie as tie
 
 returns : tie.Need-returns
-unfolding notePlain noteBy
+unfolding plainBy
 returns c = refl
 
 pub plain-line-spec : {M : Type 1} → statement M

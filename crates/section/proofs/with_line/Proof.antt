@@ -1,6 +1,8 @@
 -- `section::with_line` meets its contract. Assumes nothing.
-use Rattle.section.specs.Facts.{noteBy, step-by-name}
-use mathlib.Core.Path.{refl, sym, ap, _∙_}
+use Rattle.section.specs.Facts.{lineStep}
+use Rattle.section.specs.Names.{ten}
+use mathlib.Core.Path.{subst, sym}
+use Prim.Native.Nat.{ℕ, _<_}
 use borrow.Author.Needs.{needs}
 use Rattle.section.proofs.with_line.Statement.{statement}
 use Rattle.section.proofs.with_line.Tie as tie
@@ -14,18 +16,21 @@ add-size-2 c = search needs
 bad-line-requires : tie.Need-bad-line-requires
 bad-line-requires c κs = search needs
 
-either-requires : tie.Need-either-requires
-either-requires c κs = search needs
-
 name-of-requires : tie.Need-name-of-requires
 name-of-requires c κs = search needs
 
 noted-requires : tie.Need-noted-requires
-noted-requires c κs = search needs
+noted-requires c κs = (subst (λ (k : ℕ). k < 10) (sym (c .name-of .ensures)) (ten _), c .before .before .before .before .before .pre .1)
+
+cast-lower : tie.Need-cast-lower
+cast-lower c = search needs
+
+lower-requires : tie.Need-lower-requires
+lower-requires c κs = search needs
 
 returns : tie.Need-returns
-unfolding noteBy
-returns c = rw (c .noted .ensures, c .before .name-of .ensures, c .before .before .either .ensures, c .before .before .before .bad-line .ensures) (step-by-name _ _ _ _ _)
+unfolding lineStep
+returns c = rw (c .lower .ensures, c .before .noted .ensures, c .before .before .name-of .ensures, c .before .before .before .bad-line .ensures)
 
 pub with-line-spec : {M : Type 1} → statement M
 with-line-spec =
@@ -34,7 +39,8 @@ with-line-spec =
     add-size
     add-size-2
     bad-line-requires
-    either-requires
     name-of-requires
     noted-requires
+    cast-lower
+    lower-requires
     returns)

@@ -1,0 +1,13 @@
+-- `section::kept` meets its contract. Assumes nothing.
+use borrow.Author.Tests.{eq-eqb, ne-eqb}
+use Rattle.section.proofs.kept.Statement.{statement}
+use Rattle.section.proofs.kept.Tie as tie
+
+returns : tie.Need-returns
+returns c = rw (eq-eqb _ _ (c .if1 .taken))
+
+returns-2 : tie.Need-returns-2
+returns-2 c = rw (ne-eqb _ _ (c .if1 .left))
+
+pub kept-spec : {M : Type 1} → statement M
+kept-spec = tie.close (tie.spec returns returns-2)

@@ -1,0 +1,64 @@
+-- `section::length_line` meets its contract. Assumes nothing.
+use Rattle.rules.specs.Integers.{largest}
+use Rattle.section.specs.Facts.{keepAt, plainBy, noteBy}
+use borrow.Author.Needs.{needs}
+use Rattle.section.proofs.length_line.Statement.{statement}
+use Rattle.section.proofs.length_line.Tie as tie
+
+element-copy-out-there : tie.Need-element-copy-out-there
+element-copy-out-there c = search needs
+
+decimal-of-requires : tie.Need-decimal-of-requires
+decimal-of-requires c κs = search needs
+
+cast-lower : tie.Need-cast-lower
+cast-lower c = search needs
+
+lower-requires : tie.Need-lower-requires
+lower-requires c κs = search needs
+
+cast-lower-2 : tie.Need-cast-lower-2
+cast-lower-2 c = search needs
+
+not-all-requires : tie.Need-not-all-requires
+not-all-requires c κs = search needs
+
+lower-requires-2 : tie.Need-lower-requires-2
+lower-requires-2 c κs = search needs
+
+cast-lower-3 : tie.Need-cast-lower-3
+cast-lower-3 c = search needs
+
+lower-requires-3 : tie.Need-lower-requires-3
+lower-requires-3 c κs = search needs
+
+kept-number-requires : tie.Need-kept-number-requires
+kept-number-requires c κs = search needs
+
+keep-requires : tie.Need-keep-requires
+keep-requires c κs = search needs
+
+plain-line-requires : tie.Need-plain-line-requires
+plain-line-requires c κs = search needs
+
+returns : tie.Need-returns
+unfolding noteBy keepAt plainBy largest
+returns c = rw (c .plain-line .ensures, c .before .keep .ensures, c .before .before .kept-number .ensures, c .before .before .before .lower3 .ensures, c .before .before .before .before .lower2 .ensures, c .before .before .before .before .before .not-all .ensures, c .before .before .before .before .before .before .lower .ensures, c .before .before .before .before .before .before .before .decimal-of .ensures)
+
+pub length-line-spec : {M : Type 1} → statement M
+length-line-spec =
+    tie.close
+    (tie.spec
+    element-copy-out-there
+    decimal-of-requires
+    cast-lower
+    lower-requires
+    cast-lower-2
+    not-all-requires
+    lower-requires-2
+    cast-lower-3
+    lower-requires-3
+    kept-number-requires
+    keep-requires
+    plain-line-requires
+    returns)
