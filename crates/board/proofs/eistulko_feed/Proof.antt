@@ -200,7 +200,7 @@ module _ {M : Type 1} (𝓤 : URA M) (H : Heap 𝓤) (A : Atoms 𝓤) (W : Given
       nothing ! $ owned ! R (Is R) (rec-makes 𝓤 H A) (t .row) _ is $ fjoin ! $ owned ! usize (Is usize) (uint-makes 𝓤 H A W w64) (f .at) _ (refl, fits) $ fjoin ! $ move ! (2 ∷ 0 ∷ []) $ fjoin ! $ nothing ! $ move ! (2 ∷ 0 ∷ []) $ join ! $ join ! $ frame ! $ done !
 
   -- with what content alters stored, the record is the one that `brisk` left
-  record-left : (f : Found) (t : Brief) → FoundIn 1 id ys f → Briefly (c .code) f allow (piece .now) t → t .report .number ≡ 0 → set ys (f .at) (contentIn (getD ys (f .at) free-record) (cellsIn (t .row))) ≡ set ys (f .at) (t .row)
+  record-left : (f : Found) (t : Brief) → FoundIn 1 id ys f → Briefly (c .doors .code) f allow (piece .now) t → t .report .number ≡ 0 → set ys (f .at) (contentIn (getD ys (f .at) free-record) (cellsIn (t .row))) ≡ set ys (f .at) (t .row)
   record-left f t e e′ none = ap (λ r. set ys (f .at) (contentIn r (cellsIn (t .row)))) (sym (e .row)) ∙ ap (set ys (f .at)) (sym (e′ .alters none))
 
   exits : (r : Report) (u : Val) (c′ : Connection) (zs : List Record) → Stepped (cr .now) (x .now) 1 id allow (piece .now) c′ zs r → length zs ≡ length (x .now)
