@@ -2,7 +2,7 @@
 -- call, whatever it is lent and passed, returns, and then this holds (Exports, from each function's own theorem). A run is the calls that a host has made
 -- so far (Host). Assumes nothing.
 use mathlib.Core.Path.{_≡_, refl, sym, ap, subst, _∙_}
-use Prim.Native.Nat.{ℕ, _+_, _≤_}
+use Prim.Native.Nat.{ℕ, _+_, _≤_, _<_}
 use native.Mathlib.Omega.{arith}
 use mathlib.Core.List.{List, [], _∷_, _++_, map}
 use mathlib.Core.Option.{some}
@@ -13,7 +13,8 @@ use Rattle.rules.specs.Frames.{frame, framesFrom}
 use Rattle.meaning.specs.FrameLaws.{head}
 use Rattle.meaning.specs.IntegerLaws.{Bytes}
 use Rattle.meaning.specs.WriterLaws.{FrameBack}
-use Rattle.traces.specs.Stream.{Code, of-stream, codeNumber, houseNumber, feed, section, end}
+use Rattle.rules.specs.Numbers.{Code, of-stream, codeNumber}
+use Rattle.traces.specs.Stream.{feed, section, end}
 use Rattle.traces.specs.Board.{request, one-way, kindOf, find, open′, on, goaway, Answer, call, run, fresh, trace}
 use Rattle.traces.specs.View.{View, running, ended, refused}
 use Rattle.traces.specs.Alone.{Aside}
@@ -158,12 +159,12 @@ everywhere k bytes sections h ks xs c rows s id q more others e f =
 
 -- a feed that is answered with a code
 abbrev pub FeedsAlike : FeedSays
-FeedsAlike c rows id piece allow r c′ rows′ = (ks : Calls) (xs : List Seen) → Run ks xs c rows → kindOf id ≡ some request → shows id ks .fate ≡ running → 0x0100 ≤ r .number
+FeedsAlike c rows id piece allow r c′ rows′ = (ks : Calls) (xs : List Seen) → Run ks xs c rows → kindOf id ≡ some request → shows id ks .fate ≡ running → 9 < r .number
     → let s = shows id ks .shown in Everywhere (r .number) (s .bytes ++ take (r .used) piece) (s .sections)
 
-fed-alike : (v : View streams) (piece : List ℕ) (allow : ℕ) (r : Report) (a : Answer) → r ≡ reportOf a → Moves reading (v .shown) allow piece a → 0x0100 ≤ r .number
+fed-alike : (v : View streams) (piece : List ℕ) (allow : ℕ) (r : Report) (a : Answer) → r ≡ reportOf a → Moves reading (v .shown) allow piece a → 9 < r .number
     → Everywhere (r .number) (v .shown .bytes ++ take (r .used) piece) (v .shown .sections)
-unfolding reportOf houseNumber numberOf
+unfolding reportOf numberOf
 fed-alike v piece allow r a q (awaits x) l = let z : r .number ≡ 4 = ap (λ y. y .number) q in absurd (omega arith)
 fed-alike v piece allow r a q (faulty {k = k} {u = u} {h = h} x struck) l = subst (λ (y : Report). Everywhere (y .number) (v .shown .bytes ++ take (y .used) piece) (v .shown .sections)) (sym q) (everywhere k (v .shown .bytes ++ take u piece) (v .shown .sections) struck)
 fed-alike v piece allow r a q (moved x n p) l = let z : r .number ≡ 0 = ap (λ y. y .number) q ∙ report-number a in absurd (omega arith)
@@ -173,12 +174,12 @@ demand-2-cutting w = of-feed w FeedsAlike (λ c rows id piece allow r c′ rows�
 
 -- and a section
 abbrev pub GivesAlike : GiveSays
-GivesAlike c rows id block r c′ rows′ = (ks : Calls) (xs : List Seen) → Run ks xs c rows → kindOf id ≡ some request → shows id ks .fate ≡ running → 0x0100 ≤ r .number
+GivesAlike c rows id block r c′ rows′ = (ks : Calls) (xs : List Seen) → Run ks xs c rows → kindOf id ≡ some request → shows id ks .fate ≡ running → 9 < r .number
     → let s = shows id ks .shown in Everywhere (r .number) (s .bytes) (s .sections ++ (block ∷ []))
 
-given-alike : (v : View streams) (block : List ℕ) (r : Report) (a : Answer) → r ≡ reportOf a → Takes reading (v .shown) block a → 0x0100 ≤ r .number
+given-alike : (v : View streams) (block : List ℕ) (r : Report) (a : Answer) → r ≡ reportOf a → Takes reading (v .shown) block a → 9 < r .number
     → Everywhere (r .number) (v .shown .bytes) (v .shown .sections ++ (block ∷ []))
-unfolding reportOf houseNumber
+unfolding reportOf
 given-alike v block r a q (not-due x) l = let z : r .number ≡ 5 = ap (λ y. y .number) q in absurd (omega arith)
 given-alike v block r a q (not-readable x y) l = let z : r .number ≡ 6 = ap (λ y. y .number) q in absurd (omega arith)
 given-alike v block r a q (unfit {k = k} x y struck) l = subst (λ (y : Report). Everywhere (y .number) (v .shown .bytes) (v .shown .sections ++ (block ∷ []))) (sym q) (everywhere (of-stream k) (v .shown .bytes) (v .shown .sections ++ (block ∷ [])) struck)

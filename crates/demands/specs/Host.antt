@@ -9,8 +9,8 @@ use mathlib.Core.Bool.{true, false}
 use mathlib.Core.Option.{some}
 use lib.ListN.{length}
 use Rattle.rules.specs.Numbers as table
-use Rattle.rules.specs.Numbers.{rowOf}
-use Rattle.traces.specs.Stream.{of-stream, of-connection, qpack-bytes, settings, client-goaway, max-push-id, quiet, section-bytes, content-bytes, notice, Own, end, done, fed, whole, freed}
+use Rattle.rules.specs.Numbers.{of-stream, of-connection}
+use Rattle.traces.specs.Stream.{qpack-bytes, settings, client-goaway, max-push-id, quiet, section-bytes, content-bytes, notice, Own, end, done, fed, whole, freed}
 use Rattle.traces.specs.Board.{request, kindOf, Pair, Call, start, open′, on, goaway, Answer, gave, left, house, code, call, run, fresh, trace}
 use Rattle.traces.specs.Row.{pick-yes}
 use Rattle.traces.specs.View as shown-by
@@ -22,7 +22,7 @@ use Rattle.connection.specs.declared.Written.{Written}
 use Rattle.board.specs.Promises.{SaidGoaway}
 use Rattle.demands.specs.Streams.{streams}
 use Rattle.demands.specs.Demands.{Calls}
-use Rattle.demands.specs.Refusals.{numberOf, leavesIn, houseLeaves, leavesOf, in-table, LeavesBy, as-the-table-says}
+use Rattle.demands.specs.Refusals.{numberOf, leavesOf, in-table, LeavesBy, as-the-table-says}
 use Rattle.demands.specs.Means.{pairOf, noticed, reported, reportOf, writtenOf}
 use Rattle.demands.specs.Stands.{Stands}
 use Rattle.demands.specs.Steps.{started-fresh, started-stands}
@@ -150,7 +150,7 @@ word-of : (a : Answer) → ¬ (numberOf a ≡ 0) → (l : table.Leaves) × (leav
 unfolding numberOf leavesOf
 word-of (gave g) n = absurd (n refl)
 word-of (left l) n = absurd (n refl)
-word-of (house h) n = (houseLeaves h, refl)
+word-of (house h) n = (table.houseLeaves h, refl)
 word-of (code (of-stream k) u h) n = (table.record-freed, refl)
 word-of (code (of-connection k) u h) n = (table.code-kept, refl)
 
@@ -159,7 +159,7 @@ pub record AsTheTableSays (c : Connection) (rows : List Record) (k : Call stream
   pub answer : Answer
   pub seen-so : x ≡ seenOf k answer
   pub word : table.Leaves
-  pub of-row : leavesIn (rowOf (numberIn x)) ≡ some word
+  pub of-row : table.leaves (table.named (numberIn x)) ≡ some word
   pub leaves : LeavesBy (pairOf c rows) word k answer (pairOf c′ rows′)
 
 module _ {ks : Calls} {xs : List Seen} {c : Connection} {rows : List Record} (r : Run ks xs c rows) {k : Call streams} {x : Seen} {c′ : Connection} {rows′ : List Record} (m : Does c rows k x c′ rows′) where
@@ -173,14 +173,14 @@ module _ {ks : Calls} {xs : List Seen} {c : Connection} {rows : List Record} (r 
       let i : numberIn x ≡ numberOf a = ap numberIn q ∙ number-seen k a in
       let n : ¬ (numberOf a ≡ 0) = λ e. z (i ∙ e) in
       let v = word-of a n in
-      let e : leavesIn (rowOf (numberOf a)) ≡ some (v .0) = in-table a .1 ∙ v .1 in
-      let t : LeavesBy p (v .0) k a (call k p .after) = subst (λ y. LeavesBy y (v .0) k (call k y .answer) (call k y .after)) (sym (s .holds)) (as-the-table-says ks k (v .0) (subst (λ y. leavesIn (rowOf (numberOf (call k y .answer))) ≡ some (v .0)) (s .holds) e)) in (
+      let e : table.leaves (table.named (numberOf a)) ≡ some (v .0) = in-table a .1 ∙ v .1 in
+      let t : LeavesBy p (v .0) k a (call k p .after) = subst (λ y. LeavesBy y (v .0) k (call k y .answer) (call k y .after)) (sym (s .holds)) (as-the-table-says ks k (v .0) (subst (λ y. table.leaves (table.named (numberOf (call k y .answer))) ≡ some (v .0)) (s .holds) e)) in (
         subst HandsNothing (sym q) (nothing-seen k a n),
         record {
           answer = a;
           seen-so = q;
           word = v .0;
-          of-row = ap (λ y. leavesIn (rowOf y)) i ∙ e;
+          of-row = ap (λ y. table.leaves (table.named y)) i ∙ e;
           leaves = subst (LeavesBy p (v .0) k a) (sym (d .after)) t;
         },
       )

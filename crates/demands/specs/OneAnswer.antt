@@ -45,6 +45,7 @@ use Rattle.connection.specs.declared.Brief.{Brief}
 use Rattle.connection.specs.Faults.{withCode}
 use Rattle.connection.specs.Turned.{fresh-connection}
 use Rattle.connection.specs.Briefly.{Briefly}
+use Rattle.connection.specs.Nearly.{one-near}
 use Rattle.connection.specs.One.{one-turn, one-goaway}
 use Rattle.board.specs.Once as once
 use Rattle.varint.proofs.fresh as varint-fresh
@@ -139,6 +140,8 @@ use Rattle.record.proofs.row.Symbol as record-row-is
 use Rattle.record.proofs.write as record-write
 use Rattle.record.proofs.write.Symbol as record-write-is
 use Rattle.record.proofs.in_body.Symbol as record-in-body-is
+use Rattle.record.proofs.in_content as record-in-content
+use Rattle.record.proofs.in_content.Symbol as record-in-content-is
 use Rattle.given.proofs.give as given-give
 use Rattle.given.proofs.give.Symbol as given-give-is
 use Rattle.oneway.proofs.close as oneway-close
@@ -155,10 +158,14 @@ use Rattle.requests.proofs.feed.Symbol as requests-feed-is
 use Rattle.requests.proofs.give as requests-give
 use Rattle.requests.proofs.give.Symbol as requests-give-is
 use Rattle.requests.proofs.brisk.Symbol as requests-brisk-is
+use Rattle.doors.proofs.fresh as doors-fresh
+use Rattle.doors.proofs.fresh.Symbol as doors-fresh-is
 use Rattle.doors.proofs.open as doors-open
 use Rattle.doors.proofs.open.Symbol as doors-open-is
 use Rattle.doors.proofs.send_goaway as doors-send-goaway
 use Rattle.doors.proofs.send_goaway.Symbol as doors-send-goaway-is
+use Rattle.oneways.proofs.fresh as oneways-fresh
+use Rattle.oneways.proofs.fresh.Symbol as oneways-fresh-is
 use Rattle.oneways.proofs.feed as oneways-feed
 use Rattle.oneways.proofs.feed.Symbol as oneways-feed-is
 use Rattle.oneways.proofs.give as oneways-give
@@ -167,6 +174,8 @@ use Rattle.oneways.proofs.close as oneways-close
 use Rattle.oneways.proofs.close.Symbol as oneways-close-is
 use Rattle.connection.proofs.fresh as connection-fresh
 use Rattle.connection.proofs.fresh.Symbol as connection-fresh-is
+use Rattle.connection.proofs.answer as connection-answer
+use Rattle.connection.proofs.answer.Symbol as connection-answer-is
 use Rattle.connection.proofs.wanted as connection-wanted
 use Rattle.connection.proofs.wanted.Symbol as connection-wanted-is
 use Rattle.connection.proofs.decide as connection-decide
@@ -373,6 +382,7 @@ module _ (w : World) where
       ∷ function record-read-is.name record-read.ended (record-read.clauses (w .𝓤) (w .H) (w .𝓖 .A) (w .𝓜 .mem) (w .𝓡 .run)) (λ κs a g r q ws vs. facts (λ x y. (one-stream (a .0) r q x y, refl)))
       ∷ function record-row-is.name record-row.ended (record-row.clauses (w .𝓤) (w .H) (w .𝓖 .A) (w .𝓜 .mem) (w .𝓡 .run)) (λ κs a g r q ws vs. facts (λ x y. (one-record (a .0) r q x y, refl)))
       ∷ function record-write-is.name record-write.ended (record-write.clauses (w .𝓤) (w .H) (w .𝓖 .A) (w .𝓜 .mem) (w .𝓡 .run)) (λ κs a g r q ws vs. facts (λ x y. (one-record (a .0) r q x y, refl)))
+      ∷ function record-in-content-is.name record-in-content.ended (record-in-content.clauses (w .𝓤) (w .H) (w .𝓖 .A) (w .𝓜 .mem) (w .𝓡 .run)) (λ κs a g r q ws vs. equal)
       ∷ []
 
   abbrev of-given : List Function
@@ -400,13 +410,15 @@ module _ (w : World) where
 
   abbrev of-doors : List Function
   of-doors =
-      function doors-open-is.name doors-open.ended (doors-open.clauses (w .𝓤) (w .H) (w .𝓖 .A) (w .𝓜 .mem) (w .𝓡 .run)) (λ κs a g r q ws vs. equal)
+      function doors-fresh-is.name doors-fresh.ended (doors-fresh.clauses (w .𝓤) (w .H) (w .𝓖 .A) (w .𝓜 .mem) (w .𝓡 .run)) (λ κs a g r q ws vs. equal)
+      ∷ function doors-open-is.name doors-open.ended (doors-open.clauses (w .𝓤) (w .H) (w .𝓖 .A) (w .𝓜 .mem) (w .𝓡 .run)) (λ κs a g r q ws vs. equal)
       ∷ function doors-send-goaway-is.name doors-send-goaway.ended (doors-send-goaway.clauses (w .𝓤) (w .H) (w .𝓖 .A) (w .𝓜 .mem) (w .𝓡 .run)) (λ κs a g r q ws vs. facts (λ x y. let e = sends-one x y in (e .0, ap (λ l. (tt, (tt, (l, tt)))) (e .1))))
       ∷ []
 
   abbrev of-oneways : List Function
   of-oneways =
-      function oneways-feed-is.name oneways-feed.ended (oneways-feed.clauses (w .𝓤) (w .H) (w .𝓖 .A) (w .𝓜 .mem) (w .𝓡 .run)) (λ κs a g r q ws vs. facts (λ x y. (one-heard (a .0) (a .1 .0) _ r q (x .answers) (y .answers), refl)))
+      function oneways-fresh-is.name oneways-fresh.ended (oneways-fresh.clauses (w .𝓤) (w .H) (w .𝓖 .A) (w .𝓜 .mem) (w .𝓡 .run)) (λ κs a g r q ws vs. equal)
+      ∷ function oneways-feed-is.name oneways-feed.ended (oneways-feed.clauses (w .𝓤) (w .H) (w .𝓖 .A) (w .𝓜 .mem) (w .𝓡 .run)) (λ κs a g r q ws vs. facts (λ x y. (one-heard (a .0) (a .1 .0) _ r q (x .answers) (y .answers), refl)))
       ∷ function oneways-give-is.name oneways-give.ended (oneways-give.clauses (w .𝓤) (w .H) (w .𝓖 .A) (w .𝓜 .mem) (w .𝓡 .run)) (λ κs a g r q ws vs. facts (λ x y. (one-heard (a .0) (a .1 .0) _ r q x y, refl)))
       ∷ function oneways-close-is.name oneways-close.ended (oneways-close.clauses (w .𝓤) (w .H) (w .𝓖 .A) (w .𝓜 .mem) (w .𝓡 .run)) (λ κs a g r q ws vs. facts (λ x y. (one-heard (a .0) (a .1 .0) _ r q x y, refl)))
       ∷ []
@@ -415,6 +427,7 @@ module _ (w : World) where
   of-connection =
       function connection-fresh-is.name connection-fresh.ended (connection-fresh.clauses (w .𝓤) (w .H) (w .𝓖 .A) (w .𝓜 .mem) (w .𝓡 .run)) (λ κs a g r q ws vs. equal)
       ∷ function connection-wanted-is.name connection-wanted.ended (connection-wanted.clauses (w .𝓤) (w .H) (w .𝓖 .A) (w .𝓜 .mem) (w .𝓡 .run)) (λ κs a g r q ws vs. facts (λ x y. (one-decided r q x y, refl)))
+      ∷ function connection-answer-is.name connection-answer.ended (connection-answer.clauses (w .𝓤) (w .H) (w .𝓖 .A) (w .𝓜 .mem) (w .𝓡 .run)) (λ κs a g r q ws vs. facts (λ x y. (one-near _ _ _ _ _ _ x y, refl)))
       ∷ function connection-decide-is.name connection-decide.ended (connection-decide.clauses (w .𝓤) (w .H) (w .𝓖 .A) (w .𝓜 .mem) (w .𝓡 .run)) (λ κs a g r q ws vs. facts (λ x y. (one-turn _ _ _ _ _ _ x y, refl)))
       ∷ function connection-begin-is.name connection-begin.ended (connection-begin.clauses (w .𝓤) (w .H) (w .𝓖 .A) (w .𝓜 .mem) (w .𝓡 .run)) (λ κs a g r q ws vs. equal)
       ∷ function connection-swept-is.name connection-swept.ended (connection-swept.clauses (w .𝓤) (w .H) (w .𝓖 .A) (w .𝓜 .mem) (w .𝓡 .run)) (λ κs a g r q ws vs. equal)
@@ -445,7 +458,7 @@ module _ (w : World) where
   functions = of-varint ++ (of-ids ++ (of-wire ++ (of-settings ++ (of-fields ++ (of-section ++ (of-streams ++ (of-record ++ (of-given ++ (of-oneway ++ (of-control ++ (of-requests ++ (of-doors ++ (of-oneways ++ (of-connection ++ (of-board)))))))))))))))
 
   pub listed : _≡_ {A = List Name} (map (λ (f : Function). f .name) functions)
-      ("varint::fresh" ∷ "varint::read_step" ∷ "varint::ends" ∷ "varint::value" ∷ "varint::read" ∷ "varint::size" ∷ "varint::put" ∷ "varint::write" ∷ "ids::is_request" ∷ "ids::is_one_way" ∷ "wire::write_header" ∷ "wire::write_integer_frame" ∷ "wire::write_opening" ∷ "wire::write_goaway" ∷ "settings::judge" ∷ "settings::only" ∷ "fields::is_in" ∷ "fields::is_name" ∷ "fields::is_token" ∷ "fields::is_value" ∷ "fields::is_digit" ∷ "fields::is_blank" ∷ "fields::any_byte" ∷ "fields::all_in" ∷ "fields::begins_so" ∷ "fields::ends_so" ∷ "fields::same_bytes" ∷ "fields::bad_name" ∷ "fields::bad_value" ∷ "fields::bad_line" ∷ "fields::decimal_of" ∷ "fields::line_at" ∷ "fields::readable" ∷ "section::code" ∷ "section::header_section" ∷ "section::trailers" ∷ "streams::ruled" ∷ "streams::end" ∷ "record::cells_in" ∷ "record::free" ∷ "record::is_free" ∷ "record::read" ∷ "record::row" ∷ "record::write" ∷ "given::give" ∷ "oneway::close" ∷ "control::judge" ∷ "requests::reset" ∷ "requests::end" ∷ "requests::feed" ∷ "requests::give" ∷ "doors::open" ∷ "doors::send_goaway" ∷ "oneways::feed" ∷ "oneways::give" ∷ "oneways::close" ∷ "connection::fresh" ∷ "connection::wanted" ∷ "connection::decide" ∷ "connection::begin" ∷ "connection::swept" ∷ "connection::say_goaway" ∷ "board::step" ∷ "board::eistulko_start" ∷ "board::eistulko_open" ∷ "board::eistulko_feed" ∷ "board::eistulko_give" ∷ "board::eistulko_end" ∷ "board::eistulko_reset" ∷ "board::eistulko_goaway" ∷ "board::eistulko_write_header" ∷ "board::eistulko_write_integer_frame" ∷ "board::eistulko_write_opening" ∷ "board::eistulko_connection_size" ∷ "board::eistulko_record_size" ∷ "board::eistulko_report_size" ∷ "board::eistulko_written_size" ∷ [])
+      ("varint::fresh" ∷ "varint::read_step" ∷ "varint::ends" ∷ "varint::value" ∷ "varint::read" ∷ "varint::size" ∷ "varint::put" ∷ "varint::write" ∷ "ids::is_request" ∷ "ids::is_one_way" ∷ "wire::write_header" ∷ "wire::write_integer_frame" ∷ "wire::write_opening" ∷ "wire::write_goaway" ∷ "settings::judge" ∷ "settings::only" ∷ "fields::is_in" ∷ "fields::is_name" ∷ "fields::is_token" ∷ "fields::is_value" ∷ "fields::is_digit" ∷ "fields::is_blank" ∷ "fields::any_byte" ∷ "fields::all_in" ∷ "fields::begins_so" ∷ "fields::ends_so" ∷ "fields::same_bytes" ∷ "fields::bad_name" ∷ "fields::bad_value" ∷ "fields::bad_line" ∷ "fields::decimal_of" ∷ "fields::line_at" ∷ "fields::readable" ∷ "section::code" ∷ "section::header_section" ∷ "section::trailers" ∷ "streams::ruled" ∷ "streams::end" ∷ "record::cells_in" ∷ "record::free" ∷ "record::is_free" ∷ "record::read" ∷ "record::row" ∷ "record::write" ∷ "record::in_content" ∷ "given::give" ∷ "oneway::close" ∷ "control::judge" ∷ "requests::reset" ∷ "requests::end" ∷ "requests::feed" ∷ "requests::give" ∷ "doors::fresh" ∷ "doors::open" ∷ "doors::send_goaway" ∷ "oneways::fresh" ∷ "oneways::feed" ∷ "oneways::give" ∷ "oneways::close" ∷ "connection::fresh" ∷ "connection::wanted" ∷ "connection::answer" ∷ "connection::decide" ∷ "connection::begin" ∷ "connection::swept" ∷ "connection::say_goaway" ∷ "board::step" ∷ "board::eistulko_start" ∷ "board::eistulko_open" ∷ "board::eistulko_feed" ∷ "board::eistulko_give" ∷ "board::eistulko_end" ∷ "board::eistulko_reset" ∷ "board::eistulko_goaway" ∷ "board::eistulko_write_header" ∷ "board::eistulko_write_integer_frame" ∷ "board::eistulko_write_opening" ∷ "board::eistulko_connection_size" ∷ "board::eistulko_record_size" ∷ "board::eistulko_report_size" ∷ "board::eistulko_written_size" ∷ [])
   listed = refl
 
   -- ---- and those that do not
@@ -456,7 +469,7 @@ module _ (w : World) where
       → ent (w .𝓤) (sep (w .𝓤) (c κs a .ensures g r (atExit T κs a ws)) (c κs a .ensures g q (atExit T κs a vs))) (fact (w .𝓤) (Taken κs r → Taken κs q → (r ≡ q) × (ws ≡ vs)))
 
   pub request-taken : LeavesOneIf requests-brisk.ended (requests-brisk.clauses (w .𝓤) (w .H) (w .𝓖 .A) (w .𝓜 .mem) (w .𝓡 .run)) (λ κs r. r .number ≡ 0)
-  request-taken κs a g r q ws vs = facts (λ x y s t. (one-answer (a .0) _ r q (x s .answers) (y t .answers), refl))
+  request-taken κs a g r q ws vs = facts (λ x y s t. (one-answer (a .0) _ r q (x s .0 .answers) (y t .0 .answers), refl))
 
   pub connection-taken : LeavesOneIf connection-brisk.ended (connection-brisk.clauses (w .𝓤) (w .H) (w .𝓖 .A) (w .𝓜 .mem) (w .𝓡 .run)) (λ κs r. r .report .number ≡ 0)
   connection-taken κs a g r q ws vs = facts (λ x y s t. (one-brief x y s t, refl))
