@@ -1,6 +1,7 @@
 #define _GNU_SOURCE
 #include "quic.h"
 
+#include "guard.h"
 #include "http.h"
 
 #include <arpa/inet.h>
@@ -48,6 +49,8 @@ struct connection {
     gnutls_session_t tls;
     ngtcp2_crypto_conn_ref ref;
     ngtcp2_cid first; /* what the client called us in its first packets */
+    struct sockaddr_in from; /* where it is: it is heard from nowhere else */
+    struct guard guard;
     ngtcp2_tstamp heard; /* when its last packet came */
     struct stream *streams;
     struct http http;
@@ -56,6 +59,7 @@ struct connection {
     bool over;   /* its requests and streams are gone */
     bool failed; /* HTTP closes the connection, with this: */
     uint64_t code;
+    uint8_t alert; /* TLS closes it, for what GnuTLS does not look at */
     uint8_t farewell[PACKET]; /* our CONNECTION_CLOSE, said again to whoever still sends */
     size_t farewell_count;
     uint64_t after; /* packets that came since */
@@ -231,11 +235,42 @@ static int on_new_cid(ngtcp2_conn *quic, ngtcp2_cid *cid, uint8_t *token, size_t
     return ngtcp2_crypto_generate_stateless_reset_token(token, c->server->secret, sizeof c->server->secret, cid) ? NGTCP2_ERR_CALLBACK_FAILURE : 0;
 }
 
+/* ---- what libngtcp2 0.12.1 would end the process for, beside guard.h */
+
+enum { ALERT_UNEXPECTED_MESSAGE = 10, ALERT_MISSING_EXTENSION = 109 }; /* of TLS */
+
+/* A ClientHello without transport parameters: libngtcp2 would fail an assertion at its first Handshake packet. RFC 9001, 8.2. */
+static int on_tx_key(ngtcp2_conn *quic, ngtcp2_crypto_level level, void *self) {
+    (void)level;
+    struct connection *c = self;
+    if (ngtcp2_conn_get_remote_transport_params(quic)) return 0;
+    c->alert = ALERT_MISSING_EXTENSION;
+    return NGTCP2_ERR_CALLBACK_FAILURE;
+}
+
+/* Behind the handshake a client has nothing to say in TLS. GnuTLS would act on a KeyUpdate, for which libngtcp2 would fail an assertion. RFC 9001, 6. */
+static int on_crypto(ngtcp2_conn *quic, ngtcp2_crypto_level level, uint64_t offset, const uint8_t *bytes, size_t count, void *self) {
+    if (level != NGTCP2_CRYPTO_LEVEL_APPLICATION && !ngtcp2_conn_get_handshake_completed(quic))
+        return ngtcp2_crypto_recv_crypto_data_cb(quic, level, offset, bytes, count, self);
+    ((struct connection *)self)->alert = ALERT_UNEXPECTED_MESSAGE;
+    return NGTCP2_ERR_CRYPTO;
+}
+
+static struct connection *reading; /* whose packet libngtcp2 reads: it does not tell when it has one decrypted */
+
+static int on_decrypt(uint8_t *to, const ngtcp2_crypto_aead *aead, const ngtcp2_crypto_aead_ctx *context, const uint8_t *from, size_t count,
+                      const uint8_t *nonce, size_t nonces, const uint8_t *head, size_t heads) {
+    int failed = ngtcp2_crypto_decrypt_cb(to, aead, context, from, count, nonce, nonces, head, heads);
+    bool is_long = head[0] & 0x80; /* those have no frame to guard against, or are not read */
+    if (!failed && !is_long) guard_frames(&reading->guard, to, count - aead->max_overhead);
+    return failed;
+}
+
 static const ngtcp2_callbacks callbacks = {
     .recv_client_initial = ngtcp2_crypto_recv_client_initial_cb,
-    .recv_crypto_data = ngtcp2_crypto_recv_crypto_data_cb,
+    .recv_crypto_data = on_crypto,
     .encrypt = ngtcp2_crypto_encrypt_cb,
-    .decrypt = ngtcp2_crypto_decrypt_cb,
+    .decrypt = on_decrypt,
     .hp_mask = ngtcp2_crypto_hp_mask_cb,
     .update_key = ngtcp2_crypto_update_key_cb,
     .delete_crypto_aead_ctx = ngtcp2_crypto_delete_crypto_aead_ctx_cb,
@@ -245,6 +280,7 @@ static const ngtcp2_callbacks callbacks = {
     .rand = on_random,
     .get_new_connection_id = on_new_cid,
     .handshake_completed = on_handshake,
+    .recv_tx_key = on_tx_key,
     .stream_open = on_open,
     .recv_stream_data = on_bytes,
     .stream_reset = on_reset,
@@ -310,6 +346,7 @@ static int begin_quic(struct connection *c, const ngtcp2_pkt_hd *head, const ngt
     grant.initial_max_streams_bidi = REQUESTS_AT_ONCE;
     grant.initial_max_streams_uni = ONEWAYS_AT_ONCE;
     grant.max_idle_timeout = c->server->idle * NGTCP2_SECONDS;
+    grant.disable_active_migration = 1; /* see `receive` */
     grant.original_dcid = head->dcid;
     ngtcp2_cid ours;
     new_cid(c, &ours, CID_LENGTH);
@@ -330,7 +367,8 @@ static void bid_farewell(struct connection *c, int error) {
     ngtcp2_connection_close_error why;
     ngtcp2_connection_close_error_default(&why);
     if (c->failed) ngtcp2_connection_close_error_set_application_error(&why, c->code, NULL, 0);
-    else if (error == NGTCP2_ERR_CRYPTO) ngtcp2_connection_close_error_set_transport_error_tls_alert(&why, ngtcp2_conn_get_tls_alert(c->quic), NULL, 0);
+    else if (error == NGTCP2_ERR_CRYPTO || c->alert)
+        ngtcp2_connection_close_error_set_transport_error_tls_alert(&why, c->alert ? c->alert : ngtcp2_conn_get_tls_alert(c->quic), NULL, 0);
     else ngtcp2_connection_close_error_set_transport_error_liberr(&why, error, NULL, 0);
     ngtcp2_path_storage path;
     ngtcp2_path_storage_zero(&path);
@@ -447,10 +485,10 @@ static size_t free_slot(struct server *s) {
     return least;
 }
 
-static struct connection *accept_one(struct server *s, const ngtcp2_pkt_hd *head, const ngtcp2_path *path) {
+static struct connection *accept_one(struct server *s, const ngtcp2_pkt_hd *head, const ngtcp2_path *path, const struct sockaddr_in *from) {
     size_t slot = free_slot(s);
     struct connection *c = must(calloc(1, sizeof *c));
-    *c = (struct connection){.server = s, .slot = slot, .first = head->dcid};
+    *c = (struct connection){.server = s, .slot = slot, .first = head->dcid, .from = *from, .guard = guard_new()};
     if (begin_tls(c) || begin_quic(c, head, path)) {
         if (c->tls) gnutls_deinit(c->tls);
         free(c);
@@ -502,17 +540,21 @@ static void receive(struct server *s, const uint8_t *packet, size_t count, struc
     if (!c) {
         ngtcp2_pkt_hd head;
         if (s->draining || ngtcp2_accept(&head, packet, count)) return;
-        c = accept_one(s, &head, &path);
+        c = accept_one(s, &head, &path, from);
         if (!c) return;
     }
+    /* A client stays where it is (RFC 9000, 9 allows to ask it): what libngtcp2 does at a move has assertions that a peer can make fail. */
+    if (memcmp(from, &c->from, sizeof *from)) return;
     if (c->farewell_count) {
         repeat_farewell(c, &path, count);
         return;
     }
     ngtcp2_pkt_info info = {0};
     c->heard = now();
+    reading = c;
     error = ngtcp2_conn_read_pkt(c->quic, &path, &info, packet, count, c->heard);
     count_held(c);
+    if (error == NGTCP2_ERR_RETRY) error = NGTCP2_ERR_DROP_CONN; /* a later part of its ClientHello came first: it says all parts again */
     if (error == NGTCP2_ERR_DRAINING || error == NGTCP2_ERR_DROP_CONN) forget(c);
     else if (error || c->failed) bid_farewell(c, error);
     lighten(s);
