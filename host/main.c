@@ -1,4 +1,5 @@
-/* gateway PORT FOLDER [IDLE]: the dryer's gateway on 127.0.0.1. PORT 0 takes any; FOLDER holds settings and log; IDLE is in seconds, 30 if not said.
+/* gateway PORT FOLDER [IDLE [PATIENCE]]: the dryer's gateway on 127.0.0.1. PORT 0 takes any; FOLDER holds settings and log. After IDLE seconds
+   without a packet a connection is given up; after PATIENCE seconds in which a request or an answer has not moved on it is closed: 30 each if not said.
    SIGTERM or SIGINT: our GOAWAY, the open requests are let finish for up to two seconds, then every connection is closed. */
 #define _GNU_SOURCE
 #include "certificate.h"
@@ -35,8 +36,8 @@ static void drain(struct server *s) {
 }
 
 int main(int count, char **words) {
-    if (count < 3 || count > 4) {
-        fputs("usage: gateway PORT FOLDER [IDLE]\n", stderr);
+    if (count < 3 || count > 5) {
+        fputs("usage: gateway PORT FOLDER [IDLE [PATIENCE]]\n", stderr);
         return 2;
     }
     same_sizes();
@@ -53,13 +54,14 @@ int main(int count, char **words) {
         return 1;
     }
     s.gateway = &g;
-    s.idle = count == 4 ? strtoul(words[3], NULL, 10) : 30;
+    s.idle = count > 3 ? strtoul(words[3], NULL, 10) : 30;
+    s.patience = count > 4 ? strtoul(words[4], NULL, 10) : 30;
     s.certificate = certificate_make(pin);
-    if (server_open(&s, (uint16_t)strtoul(words[1], NULL, 10))) {
+    if (server_listen(&s, "127.0.0.1", (uint16_t)strtoul(words[1], NULL, 10))) {
         perror("socket");
         return 1;
     }
-    printf("listening on 127.0.0.1:%d, certificate pin %s\n", ntohs(s.here.sin_port), pin);
+    printf("listening on 127.0.0.1:%d, certificate pin %s\n", ntohs(s.listeners[0].here.v4.sin_port), pin);
     while (!stopped) server_turn(&s, 1000);
     drain(&s);
     server_close(&s);
