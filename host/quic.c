@@ -2,7 +2,6 @@
 #include "connection.h"
 
 #include <gnutls/crypto.h>
-#include <inttypes.h>
 #include <malloc.h>
 #include <ngtcp2/ngtcp2_crypto_gnutls.h>
 
@@ -329,7 +328,7 @@ static int begin_tls(struct connection *c) {
     if (gnutls_init(&c->tls, GNUTLS_SERVER | GNUTLS_NO_AUTO_SEND_TICKET | GNUTLS_NO_END_OF_EARLY_DATA)) return -1;
     c->ref = (ngtcp2_crypto_conn_ref){conn_of, c};
     gnutls_session_set_ptr(c->tls, &c->ref);
-    return gnutls_priority_set_direct(c->tls, ciphers, NULL) || gnutls_credentials_set(c->tls, GNUTLS_CRD_CERTIFICATE, c->server->certificate) ||
+    return gnutls_priority_set_direct(c->tls, ciphers, NULL) || gnutls_credentials_set(c->tls, GNUTLS_CRD_CERTIFICATE, certificate_now(&c->server->certificate)) ||
            gnutls_alpn_set_protocols(c->tls, &h3, 1, GNUTLS_ALPN_MANDATORY) || ngtcp2_crypto_gnutls_configure_server_session(c->tls);
 }
 
@@ -380,8 +379,12 @@ struct connection *connection_new(struct server *s, struct listener *at, const s
 /* No event comes any more: what was kept for it is freed, also where its CONNECTION_CLOSE is still to be said again. */
 static void end_quic(struct connection *c) {
     if (c->quic && c->established) {
+        struct over *over = &c->server->over;
         http_end(&c->http);
-        printf("connection over: %" PRIu64 " whole, %" PRIu64 " refused, %zu request records taken\n", c->http.whole, c->http.refused, http_open_requests(&c->http));
+        over->connections++;
+        over->whole += c->http.whole;
+        over->refused += c->http.refused;
+        over->taken += http_open_requests(&c->http);
     }
     if (c->quic) ngtcp2_conn_del(c->quic);
     if (c->tls) gnutls_deinit(c->tls);

@@ -2,10 +2,10 @@
 #ifndef QUIC_H
 #define QUIC_H
 
+#include "certificate.h"
 #include "gateway.h"
 #include "timers.h"
 
-#include <gnutls/gnutls.h>
 #include <netinet/in.h>
 
 #define ESTABLISHED 1024 /* connections whose handshake is done */
@@ -35,12 +35,18 @@ struct listener {
     struct address here;
 };
 
+/* What became of connections that are over. */
+struct over {
+    uint64_t connections, whole, refused;
+    size_t taken; /* request records, which is a fault */
+};
+
 struct server {
     struct listener listeners[LISTENERS];
     size_t listening;
     uint64_t idle;     /* seconds without a packet until a connection is given up */
     uint64_t patience; /* seconds in which a request or an answer must move on by 16 KiB, or end */
-    gnutls_certificate_credentials_t certificate;
+    struct certificate certificate;
     struct gateway *gateway;
     uint8_t secret[32];
     int draining; /* no new connection is taken */
@@ -49,11 +55,13 @@ struct server {
     size_t count, half; /* of connections, and of those without a handshake */
     struct name *names[NAMES]; /* connection IDs, each in the list of its hash */
     struct timers timers;
+    struct over over; /* since it was last said */
     struct connection *due; /* those that may have something to write */
 };
 
 /* A socket on one more address, of those that are written in digits; port 0 takes any. 0, or -1 with errno. */
 int server_listen(struct server *s, const char *address, uint16_t port);
+void server_unlisten(struct server *s); /* the last of them is closed */
 void server_close(struct server *s);
 
 void server_turn(struct server *s, int most_ms); /* waits for packets or a timer, and handles them */

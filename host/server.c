@@ -1,10 +1,12 @@
 /* The connections of a server: who has a place, whose packet it is, and whose turn. */
 #define _GNU_SOURCE
 #include "connection.h"
+#include "say.h"
 
 #include <arpa/inet.h>
 #include <errno.h>
 #include <gnutls/crypto.h>
+#include <inttypes.h>
 #include <malloc.h>
 #include <poll.h>
 #include <sys/socket.h>
@@ -30,7 +32,7 @@ void random_bytes(void *to, size_t count) {
 
 /* A packet that the socket does not take is lost like any other. */
 void transmit(const struct listener *from, const struct address *to, const uint8_t *packet, size_t count) {
-    if (sendto(from->socket, packet, count, 0, &to->any, to->size) < 0 && errno != EAGAIN) perror("sendto");
+    if (sendto(from->socket, packet, count, 0, &to->any, to->size) < 0 && errno != EAGAIN) say("a packet was not sent: %s", strerror(errno));
 }
 
 /* ---- connection IDs */
@@ -328,6 +330,14 @@ static void write_packets(struct server *s) {
     s->due = again;
 }
 
+/* One line for all that are over since the last: where lines are left out, nothing is lost. */
+static void say_over(struct server *s) {
+    struct over *o = &s->over;
+    if (o->connections == 1) say("connection over: %" PRIu64 " whole, %" PRIu64 " refused, %zu request records taken", o->whole, o->refused, o->taken);
+    else say("%" PRIu64 " connections over: %" PRIu64 " whole, %" PRIu64 " refused, %zu request records taken", o->connections, o->whole, o->refused, o->taken);
+    *o = (struct over){0};
+}
+
 void server_turn(struct server *s, int most_ms) {
     struct pollfd in[LISTENERS];
     for (size_t i = 0; i < s->listening; i++) in[i] = (struct pollfd){.fd = s->listeners[i].socket, .events = POLLIN};
@@ -339,6 +349,7 @@ void server_turn(struct server *s, int most_ms) {
         on_timer((struct connection *)first);
     }
     write_packets(s);
+    if (s->over.connections && say_is_heard()) say_over(s);
 }
 
 /* ---- the server */
@@ -381,6 +392,8 @@ int server_listen(struct server *s, const char *address, uint16_t port) {
     return 0;
 }
 
+void server_unlisten(struct server *s) { close(s->listeners[--s->listening].socket); }
+
 void server_drain(struct server *s) {
     s->draining = 1;
     for (size_t i = 0; i < s->count; i++) {
@@ -406,5 +419,6 @@ void server_close(struct server *s) {
         }
         forget(c);
     }
-    for (size_t i = 0; i < s->listening; i++) close(s->listeners[i].socket);
+    if (s->over.connections) say_over(s);
+    while (s->listening) server_unlisten(s);
 }
