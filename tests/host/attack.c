@@ -77,17 +77,18 @@ static void noparams(void) {
     spoil = NULL;
 }
 
-/* TLS messages behind the handshake: KeyUpdates, and all other types. */
+/* TLS messages behind the handshake: KeyUpdates, and all other types. With 0, a stack that answers all that comes after its close is not faulted. */
 static void messages(void) {
+    bool strict = number_or(1);
     for (int type = 0; type < 30; type++) {
         uint8_t frames[64], message[5] = {(uint8_t)type, 0, 0, 1, 1};
         peer p;
         must_open(&p);
         int times = 0; /* the gateway is busy with others, and a socket that is full loses packets */
         do {
-            if (times++ == 5) fail("a message of type %d was taken", type);
+            if (times++ == 5 && strict) fail("a message of type %d was taken", type);
             peer_send(&p, frames, (size_t)(put_crypto(frames, 0, message, sizeof message) - frames));
-        } while (is_open(&p));
+        } while (strict && is_open(&p));
         client_drop(p.client);
     }
 }
@@ -390,10 +391,10 @@ static void half(void) {
             n = recv(s, heard, sizeof heard, 0);
         }
         const uint8_t *id = heard + 6 + heard[5]; /* behind ours */
-        if (n < 0 || (heard[0] & 0xf0) == 0xf0 || *id != SERVER_ID) continue; /* a Retry: it wants to see us first */
+        if (n < 0 || (heard[0] & 0xf0) == 0xf0 || *id > ID_MOST) continue; /* a Retry: it wants to see us first */
         random_bytes(junk, sizeof junk);
         junk[0] = 0x43;
-        memcpy(junk + 1, id + 1, SERVER_ID);
+        memcpy(junk + 1, id + 1, *id);
         for (int k = 0; k < 8; k++) send(s, junk, k & 1 ? 1400 : 64000, 0);
         close(s);
     }
@@ -472,7 +473,9 @@ static void versions(void) {
             pause_ms(1);
             n = recv(s, heard, sizeof heard, 0);
         }
-        if (n != 27 || memcmp(heard + 1, "\0\0\0\0", 4) || memcmp(heard + 23, "\0\0\0\1", 4)) fail("version %zu heard %zd bytes", i, n);
+        if (n < 27 || memcmp(heard + 1, "\0\0\0\0", 4)) fail("version %zu heard %zd bytes", i, n);
+        for (const uint8_t *at = heard + 23; at < heard + n; at += 4) /* some of a form that nobody has may be among them */
+            if (memcmp(at, "\0\0\0\1", 4) && (at[0] & at[1] & at[2] & at[3] & 0x0f) != 0x0a) fail("version %zu heard of another", i);
         close(s);
     }
 }

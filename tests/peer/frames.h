@@ -26,14 +26,15 @@ static void (*divert)(const uint8_t *packet, size_t count);
 
 /* ---- the keys, taken in passing */
 
-#define SERVER_ID 16 /* the length of our gateway's connection IDs */
-#define NUMBER 4     /* the length of packet numbers made here */
+#define ID_MOST 20 /* the most that a connection ID has */
+#define NUMBER 4   /* the length of packet numbers made here */
 #define FIRST_NUMBER 100000 /* beyond those of the client itself */
 
 typedef struct {
     ngtcp2_crypto_aead aead;
     ngtcp2_crypto_aead_ctx sealing;
-    uint8_t iv[12], to[SERVER_ID];
+    uint8_t iv[12], to[ID_MOST];
+    size_t to_length;
     ngtcp2_crypto_cipher cipher;
     ngtcp2_crypto_cipher_ctx masking;
     uint32_t number;
@@ -49,13 +50,12 @@ static void nonce_of(uint8_t nonce[12], const uint8_t iv[12], uint32_t number) {
 }
 
 static void take_keys(const ngtcp2_crypto_aead *aead, const ngtcp2_crypto_aead_ctx *sealing, const uint8_t *nonce, const uint8_t *head, size_t count) {
-    size_t length = 1 + (head[0] & 3);
-    if (count != 1 + SERVER_ID + length) return;
+    size_t length = 1 + (head[0] & 3), to = count - 1 - length;
     uint32_t number = 0;
-    for (size_t i = 0; i < length; i++) number = number << 8 | head[1 + SERVER_ID + i];
-    last_keys = (packet_keys){.aead = *aead, .sealing = *sealing, .number = FIRST_NUMBER, .taken = true};
+    for (size_t i = 0; i < length; i++) number = number << 8 | head[1 + to + i];
+    last_keys = (packet_keys){.aead = *aead, .sealing = *sealing, .to_length = to, .number = FIRST_NUMBER, .taken = true};
     nonce_of(last_keys.iv, nonce, number);
-    memcpy(last_keys.to, head + 1, SERVER_ID);
+    memcpy(last_keys.to, head + 1, to);
     mask_is_next = true;
 }
 
@@ -121,20 +121,21 @@ static bool peer_open(peer *p, uint16_t port) {
 /* One packet. */
 static void peer_send(peer *p, const uint8_t *frames, size_t count) {
     static uint8_t packet[65536], padded[65536];
-    enum { HEAD = 1 + SERVER_ID + NUMBER, LEAST = 24, TAG = 16 };
+    enum { LEAST = 24, TAG = 16 };
+    size_t at = 1 + p->keys.to_length, head = at + NUMBER;
     memcpy(padded, frames, count);
     for (; count < LEAST; count++) padded[count] = 0; /* PADDING: a sample for the mask is wanted */
     uint32_t number = p->keys.number++;
     uint8_t nonce[12], mask[16];
     nonce_of(nonce, p->keys.iv, number);
     packet[0] = 0x40 | (NUMBER - 1);
-    memcpy(packet + 1, p->keys.to, SERVER_ID);
-    for (int i = 0; i < NUMBER; i++) packet[1 + SERVER_ID + i] = (uint8_t)(number >> (8 * (NUMBER - 1 - i)));
-    if (ngtcp2_crypto_encrypt_cb(packet + HEAD, &p->keys.aead, &p->keys.sealing, padded, count, nonce, sizeof nonce, packet, HEAD)) abort();
-    if (ngtcp2_crypto_hp_mask_cb(mask, &p->keys.cipher, &p->keys.masking, packet + HEAD)) abort();
+    memcpy(packet + 1, p->keys.to, p->keys.to_length);
+    for (int i = 0; i < NUMBER; i++) packet[at + (size_t)i] = (uint8_t)(number >> (8 * (NUMBER - 1 - i)));
+    if (ngtcp2_crypto_encrypt_cb(packet + head, &p->keys.aead, &p->keys.sealing, padded, count, nonce, sizeof nonce, packet, head)) abort();
+    if (ngtcp2_crypto_hp_mask_cb(mask, &p->keys.cipher, &p->keys.masking, packet + head)) abort();
     packet[0] ^= mask[0] & 0x1f;
-    for (int i = 0; i < NUMBER; i++) packet[1 + SERVER_ID + i] ^= mask[1 + i];
-    send(p->client->socket, packet, HEAD + count + TAG, 0);
+    for (int i = 0; i < NUMBER; i++) packet[at + (size_t)i] ^= mask[1 + i];
+    send(p->client->socket, packet, head + count + TAG, 0);
 }
 
 static void peer_ping(peer *p) { peer_send(p, (const uint8_t[]){0x01}, 1); }
