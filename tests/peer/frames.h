@@ -51,6 +51,7 @@ static void nonce_of(uint8_t nonce[12], const uint8_t iv[12], uint32_t number) {
 
 static void take_keys(const ngtcp2_crypto_aead *aead, const ngtcp2_crypto_aead_ctx *sealing, const uint8_t *nonce, const uint8_t *head, size_t count) {
     size_t length = 1 + (head[0] & 3), to = count - 1 - length;
+    if (to > ID_MOST) return; /* no packet's head: a Retry is checked by the same cipher */
     uint32_t number = 0;
     for (size_t i = 0; i < length; i++) number = number << 8 | head[1 + to + i];
     last_keys = (packet_keys){.aead = *aead, .sealing = *sealing, .to_length = to, .number = FIRST_NUMBER, .taken = true};
