@@ -16,8 +16,8 @@
 #define PLACES (ESTABLISHED + HALF_OPEN)
 #define PACKETS_A_TURN 64
 #define READING_A_TURN (20 * NGTCP2_MILLISECONDS) /* settings that go to a slow disk hold up nobody's answers for longer */
-#define HELD_MOST ((size_t)128 << 20)  /* bytes kept for all connections */
-#define FAIR_SHARE (HELD_MOST / PLACES) /* where the most is kept, at least one connection has more than this */
+#define HELD_MOST ((size_t)192 << 20)  /* bytes kept for all connections */
+#define FAIR_SHARE ((size_t)96 << 10) /* of one: above what an idle one takes, and so little that all places together leave 72 MiB to who has more */
 #define TOKEN_TIME (10 * NGTCP2_SECONDS)
 
 ngtcp2_tstamp now(void) {

@@ -1,7 +1,7 @@
 //! The dryer's settings file. It sees whole requests only.
 
 use std::fs::{self, File};
-use std::io::{self, ErrorKind, Write};
+use std::io::{self, ErrorKind, Read, Write};
 use std::path::PathBuf;
 
 /// What a request asks for, as far as it is kept.
@@ -41,9 +41,9 @@ impl Gateway {
         File::open(&self.folder)?.sync_all()
     }
 
-    /// The status and the content of the answer.
-    pub fn answer(&self, asked: &Asked) -> (u16, Vec<u8>) {
-        let text = |status, text: &str| (status, text.as_bytes().to_vec());
+    /// The status of the answer, how long it is, and its content, which is read as it is sent: who does not take it makes us keep nothing of it.
+    pub fn answer(&self, asked: &Asked) -> (u16, u64, Box<dyn Read>) {
+        let text = |status, text: &'static str| -> (u16, u64, Box<dyn Read>) { (status, text.len() as u64, Box::new(text.as_bytes())) };
         if asked.path != "/settings" {
             return text(404, "no such thing here\n");
         }
@@ -54,8 +54,8 @@ impl Gateway {
                 Ok(()) => text(200, "settings kept\n"),
                 Err(_) => text(500, "the settings could not be kept\n"),
             },
-            "GET" => match fs::read(self.folder.join("settings")) {
-                Ok(content) => (200, content),
+            "GET" => match File::open(self.folder.join("settings")).and_then(|file| Ok((file.metadata()?.len(), file))) {
+                Ok((length, file)) => (200, length, Box::new(file)),
                 Err(why) if why.kind() == ErrorKind::NotFound => text(404, "no settings yet\n"),
                 Err(_) => text(500, "the settings could not be read\n"),
             },

@@ -183,20 +183,36 @@ impl Client {
         Ok(())
     }
 
+    /// A frame's header.
+    async fn send_head(&self, send: &mut SendStream, kind: u64, length: u64) -> Result<(), Fault> {
+        let mut head = [0; HEADER_ROOM];
+        let count = eistulko::write_header(kind, length, &mut head)?;
+        self.send(send, &head[..count]).await
+    }
+
     async fn answer(&self, id: StreamId, asked: &Asked, send: &mut SendStream) -> Result<(), Fault> {
-        let (status, content) = self.server.gateway.answer(asked);
-        let (status, length) = (status.to_string(), content.len().to_string());
-        let mut fields = vec![(":status", &status[..]), ("content-type", "text/plain"), ("content-length", &length[..])];
+        let (status, length, mut content) = self.server.gateway.answer(asked);
+        let (status, stated) = (status.to_string(), length.to_string());
+        let mut fields = vec![(":status", &status[..]), ("content-type", "text/plain"), ("content-length", &stated[..])];
         if status == "405" {
             fields.push(("allow", "GET, PUT"));
         }
         let section = self.qpack.borrow_mut().encode(id.0, &fields);
-        let parts = [(HEADERS, &section), (DATA, &content)];
-        for (kind, payload) in &parts[..if asked.method == "HEAD" { 1 } else { 2 }] {
-            let mut head = [0; HEADER_ROOM];
-            let count = eistulko::write_header(*kind, payload.len() as u64, &mut head)?;
-            self.send(send, &head[..count]).await?;
-            self.send(send, payload).await?;
+        self.send_head(send, HEADERS, section.len() as u64).await?;
+        self.send(send, &section).await?;
+        if asked.method != "HEAD" {
+            self.send_head(send, DATA, length).await?;
+            let (mut left, mut part) = (length, [0; QUANTUM]);
+            while left > 0 {
+                let room = QUANTUM.min(usize::try_from(left).unwrap_or(QUANTUM));
+                match content.read(&mut part[..room]) {
+                    Ok(count) if count > 0 => {
+                        self.send(send, &part[..count]).await?;
+                        left -= count as u64;
+                    }
+                    _ => return Err(Fault::Stream(INTERNAL_ERROR)), // the file was cut under us
+                }
+            }
         }
         match timeout_at(Instant::now() + PATIENCE, send.finish()).await {
             Err(_) => Err(Fault::Connection(Refused::ExcessiveLoad.number())),
