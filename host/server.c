@@ -144,7 +144,7 @@ static struct connection *least(struct server *s, bool established, size_t more_
     return found;
 }
 
-/* A handshake is done, at last or just now: it has one of the places of those. Whoever has moved on longest ago gives way. */
+/* A handshake is done: the connection is one of those now. Where they are too many, whoever has moved on longest ago gives way. */
 static void seat(struct connection *c) {
     struct server *s = c->server;
     s->half--;
@@ -197,7 +197,7 @@ static void refuse_token(const struct datagram *d, const ngtcp2_pkt_hd *head) {
     if (n > 0) transmit(d->at, &d->from, packet, (size_t)n);
 }
 
-/* A client's first packet. A place is taken only once it was read; null where it begins nothing. */
+/* A client's first packet. Nobody gives way to it before it was read. */
 static void welcome(struct server *s, const struct datagram *d) {
     ngtcp2_pkt_hd head;
     if (s->draining || ngtcp2_accept(&head, d->bytes, d->count)) return;

@@ -14,7 +14,9 @@ fn main() {
     for source in ["../qpack.c", "../qpack.h", "../bytes.h"] {
         println!("cargo:rerun-if-changed={source}");
     }
-    run(Command::new("cc").args(["-std=c11", "-O2", "-fPIC", "-I../../include", "-c", "../qpack.c", "-o"]).arg(&object));
+    run(Command::new("cc")
+        .args(["-std=c11", "-O2", "-fPIC", "-I../../include", "-c", "../qpack.c", "-o"])
+        .arg(&object));
     run(Command::new("ar").arg("rcs").arg(Path::new(&made).join("libqpack.a")).arg(&object));
     println!("cargo:rustc-link-search=native={made}");
     println!("cargo:rustc-link-lib=static=qpack");

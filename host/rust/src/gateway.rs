@@ -10,7 +10,7 @@ pub struct Asked {
     pub method: String,
     pub path: String,
     pub stated: bool, // a Content-Length
-    pub part: bool, // a Content-Range
+    pub part: bool,   // a Content-Range
     pub conditional: bool,
     pub content: Vec<u8>,
 }
@@ -43,7 +43,9 @@ impl Gateway {
 
     /// The status of the answer, how long it is, and its content, which is read as it is sent: who does not take it makes us keep nothing of it.
     pub fn answer(&self, asked: &Asked) -> (u16, u64, Box<dyn Read>) {
-        let text = |status, text: &'static str| -> (u16, u64, Box<dyn Read>) { (status, text.len() as u64, Box::new(text.as_bytes())) };
+        let text = |status, text: &'static str| -> (u16, u64, Box<dyn Read>) {
+            (status, text.len() as u64, Box::new(text.as_bytes()))
+        };
         if asked.path != "/settings" {
             return text(404, "no such thing here\n");
         }
@@ -54,7 +56,9 @@ impl Gateway {
                 Ok(()) => text(200, "settings kept\n"),
                 Err(_) => text(500, "the settings could not be kept\n"),
             },
-            "GET" => match File::open(self.folder.join("settings")).and_then(|file| Ok((file.metadata()?.len(), file))) {
+            "GET" => match File::open(self.folder.join("settings"))
+                .and_then(|file| Ok((file.metadata()?.len(), file)))
+            {
                 Ok((length, file)) => (200, length, Box::new(file)),
                 Err(why) if why.kind() == ErrorKind::NotFound => text(404, "no settings yet\n"),
                 Err(_) => text(500, "the settings could not be read\n"),

@@ -2,7 +2,9 @@
 
 use crate::gateway::{Asked, Gateway};
 use crate::qpack::Qpack;
-use eistulko::{Connection, Ended, Event, Refused, StreamId, GOAWAY_ROOM, HEADER_ROOM, NO_BOUND, OPENING_ROOM};
+use eistulko::{
+    Connection, Ended, Event, Refused, StreamId, GOAWAY_ROOM, HEADER_ROOM, NO_BOUND, OPENING_ROOM,
+};
 use quinn::{ReadError, RecvStream, SendStream, VarInt};
 use std::cell::{Cell, RefCell};
 use std::rc::Rc;
@@ -61,7 +63,11 @@ impl Held<'_> {
     fn add(&mut self, count: usize) -> Result<(), Fault> {
         self.count += count;
         self.of.set(self.of.get() + count);
-        if self.of.get() > HELD_MOST { Err(Fault::Connection(Refused::ExcessiveLoad.number())) } else { Ok(()) }
+        if self.of.get() > HELD_MOST {
+            Err(Fault::Connection(Refused::ExcessiveLoad.number()))
+        } else {
+            Ok(())
+        }
     }
 }
 
@@ -89,7 +95,13 @@ fn lines(mut block: &[u8]) -> impl Iterator<Item = (&[u8], &[u8])> {
 /// What is kept of a header section. A method or a path that is longer than any we know is kept as none.
 fn asked_by(block: &[u8]) -> Asked {
     let mut asked = Asked::default();
-    let short = |value: &[u8]| if value.len() < 16 { String::from_utf8_lossy(value).into_owned() } else { String::new() };
+    let short = |value: &[u8]| {
+        if value.len() < 16 {
+            String::from_utf8_lossy(value).into_owned()
+        } else {
+            String::new()
+        }
+    };
     for (name, value) in lines(block) {
         match name {
             b":method" => asked.method = short(value),
@@ -118,7 +130,9 @@ impl Client {
     fn give(&self, id: StreamId, section: &[u8], asked: &mut Option<Asked>) -> Result<(), Fault> {
         let block = match self.qpack.borrow_mut().decode(id.0, section) {
             Ok(block) => block,
-            Err(code) if Refused::of(code).is_some_and(Refused::is_stream_fault) => return self.give_up(id, code),
+            Err(code) if Refused::of(code).is_some_and(Refused::is_stream_fault) => {
+                return self.give_up(id, code)
+            }
             Err(code) => return Err(Fault::Connection(code)),
         };
         self.engine.borrow_mut().give(id, &block)?;
@@ -152,7 +166,9 @@ impl Client {
             while !piece.is_empty() {
                 let fed = self.engine.borrow_mut().feed(id, piece, NO_BOUND).map_err(Refused::from)?;
                 match (fed.event, &mut asked) {
-                    (Some(Event::Content(part)), Some(Asked { content, .. })) => content.extend_from_slice(part),
+                    (Some(Event::Content(part)), Some(Asked { content, .. })) => {
+                        content.extend_from_slice(part)
+                    }
                     (Some(Event::Section { part, last }), _) => {
                         section.extend_from_slice(part);
                         if last {
@@ -193,7 +209,8 @@ impl Client {
     async fn answer(&self, id: StreamId, asked: &Asked, send: &mut SendStream) -> Result<(), Fault> {
         let (status, length, mut content) = self.server.gateway.answer(asked);
         let (status, stated) = (status.to_string(), length.to_string());
-        let mut fields = vec![(":status", &status[..]), ("content-type", "text/plain"), ("content-length", &stated[..])];
+        let mut fields =
+            vec![(":status", &status[..]), ("content-type", "text/plain"), ("content-length", &stated[..])];
         if status == "405" {
             fields.push(("allow", "GET, PUT"));
         }
@@ -302,7 +319,12 @@ fn refuse(send: &mut SendStream, recv: &mut RecvStream, number: u64) {
 
 /// A connection to its end. quinn tells of streams in their order, so each is opened as it comes.
 pub async fn serve(server: Rc<Server>, quic: quinn::Connection) {
-    let client = Rc::new(Client { server, quic, engine: RefCell::new(Connection::new()), qpack: RefCell::new(Qpack::new()) });
+    let client = Rc::new(Client {
+        server,
+        quic,
+        engine: RefCell::new(Connection::new()),
+        qpack: RefCell::new(Qpack::new()),
+    });
     let control = client.clone();
     spawn_local(async move {
         if let Err(Fault::Connection(number)) = control.clone().control().await {

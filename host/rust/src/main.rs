@@ -32,8 +32,12 @@ const NO_ERROR: u32 = 0x0100;
 type Failed = Box<dyn Error>;
 
 fn tls(certificate: &str, key: &str) -> Result<rustls::ServerConfig, Failed> {
-    let chain = rustls_pemfile::certs(&mut &fs::read(certificate)?[..])?.into_iter().map(rustls::Certificate).collect();
-    let key = rustls_pemfile::pkcs8_private_keys(&mut &fs::read(key)?[..])?.pop().ok_or("no key in PKCS #8")?;
+    let chain = rustls_pemfile::certs(&mut &fs::read(certificate)?[..])?
+        .into_iter()
+        .map(rustls::Certificate)
+        .collect();
+    let key =
+        rustls_pemfile::pkcs8_private_keys(&mut &fs::read(key)?[..])?.pop().ok_or("no key in PKCS #8")?;
     let mut tls = rustls::ServerConfig::builder()
         .with_safe_default_cipher_suites()
         .with_safe_default_kx_groups()
@@ -61,9 +65,12 @@ fn quic(tls: rustls::ServerConfig) -> Result<ServerConfig, Failed> {
 }
 
 async fn run(words: &[String]) -> Result<(), Failed> {
-    let [port, folder, certificate, key] = words else { return Err("usage: gateway PORT FOLDER CERTIFICATE KEY".into()) };
+    let [port, folder, certificate, key] = words else {
+        return Err("usage: gateway PORT FOLDER CERTIFICATE KEY".into());
+    };
     let (stop, stopping) = watch::channel(false);
-    let server = Rc::new(http::Server { gateway: gateway::Gateway::open(folder)?, held: Cell::new(0), stopping });
+    let server =
+        Rc::new(http::Server { gateway: gateway::Gateway::open(folder)?, held: Cell::new(0), stopping });
     let socket = UdpSocket::bind(SocketAddr::from(([127, 0, 0, 1], port.parse()?)))?;
     let mut common = EndpointConfig::default();
     common.supported_versions(vec![VERSION]);

@@ -62,7 +62,11 @@ impl Qpack {
         // SAFETY: the coder is live and lent to this call alone, the payload is read only, and the block begins empty.
         let code = unsafe { qpack_decode(self.0, stream, payload.as_ptr(), payload.len(), &mut block) };
         let block = block.taken();
-        if code == 0 { Ok(block) } else { Err(code) }
+        if code == 0 {
+            Ok(block)
+        } else {
+            Err(code)
+        }
     }
 
     /// Bytes of the client's QPACK stream of this type.
@@ -78,7 +82,8 @@ impl Qpack {
     pub fn encode(&mut self, stream: u64, lines: &[(&str, &str)]) -> Vec<u8> {
         let text = |part: &str| CString::new(part).expect("our own fields have no zero byte");
         let owned: Vec<_> = lines.iter().map(|(name, value)| (text(name), text(value))).collect();
-        let lines: Vec<_> = owned.iter().map(|(name, value)| Line { name: name.as_ptr(), value: value.as_ptr() }).collect();
+        let lines: Vec<_> =
+            owned.iter().map(|(name, value)| Line { name: name.as_ptr(), value: value.as_ptr() }).collect();
         let mut payload = Bytes::none();
         // SAFETY: as above; the lines' texts live to the end of this function.
         unsafe { qpack_encode(self.0, stream, lines.as_ptr(), lines.len(), &mut payload) };
