@@ -77,16 +77,17 @@ static void noparams(void) {
     spoil = NULL;
 }
 
-/* TLS messages behind the handshake: KeyUpdates, and all other types. With 0, a stack that answers all that comes after its close is not faulted. */
+/* TLS messages behind the handshake, a KeyUpdate first. With 0, a stack that answers all that comes after its close is not faulted. */
 static void messages(void) {
+    static const uint8_t types[] = {24, 24, 0, 1, 2, 4, 5, 8, 11, 13, 15, 20, 254};
     bool strict = number_or(1);
-    for (int type = 0; type < 30; type++) {
-        uint8_t frames[64], message[5] = {(uint8_t)type, 0, 0, 1, 1};
+    for (size_t i = 0; i < sizeof types; i++) {
+        uint8_t frames[64], message[5] = {types[i], 0, 0, 1, (uint8_t)(i & 1)};
         peer p;
         must_open(&p);
         int times = 0; /* the gateway is busy with others, and a socket that is full loses packets */
         do {
-            if (times++ == 5 && strict) fail("a message of type %d was taken", type);
+            if (times++ == 5 && strict) fail("a message of type %d was taken", types[i]);
             peer_send(&p, frames, (size_t)(put_crypto(frames, 0, message, sizeof message) - frames));
         } while (strict && is_open(&p));
         client_drop(p.client);
@@ -401,26 +402,72 @@ static void half(void) {
     printf("%zu half-open: %ld KiB more\n", first_count, gateway_memory(pid) - before);
 }
 
-/* The first packet brings the second half of a ClientHello alone, as where the first half is late. */
-static bool halved;
+/* A ClientHello of two packets, as those with a post-quantum key are, of which the second comes first. */
+static int fill_hello(gnutls_session_t tls, gnutls_buffer_t to) {
+    static const uint8_t filling[1400];
+    (void)tls;
+    return gnutls_buffer_append_data(to, filling, sizeof filling) ? -1 : (int)sizeof filling;
+}
 
-static void halve(uint8_t first, uint8_t *frames, size_t count) {
-    enum { FROM = 100 };
-    if (halved || (first & 0xf0) != 0xc0 || frames[0] != 0x06 || frames[1] != 0) return;
-    uint64_t length;
-    size_t head = 2 + h3_get_varint(frames + 2, count - 2, &length);
-    uint8_t later[2048], *end = put_crypto(later, FROM, frames + head + FROM, (size_t)length - FROM);
-    memset(frames, 0, count);
-    memcpy(frames, later, (size_t)(end - later));
-    halved = true;
+static int ignore_reply(gnutls_session_t tls, const unsigned char *bytes, size_t count) {
+    (void)tls, (void)bytes, (void)count;
+    return 0;
+}
+
+static client *begin_large(void) {
+    client *c = client_start(port);
+    if (!c || gnutls_session_ext_register(c->tls, "filling", 0x7a7a, GNUTLS_EXT_TLS, ignore_reply, fill_hello, NULL, NULL, NULL,
+                                          GNUTLS_EXT_FLAG_TLS | GNUTLS_EXT_FLAG_CLIENT_HELLO)) fail("no such client");
+    return c;
 }
 
 static void order(void) {
-    spoil = halve;
-    double begun = seconds();
+    for (int turned = 0; turned < 2; turned++) {
+        client *c = begin_large();
+        first_count = 0;
+        first_most = 2;
+        divert = keep_first;
+        client_run(c, NULL, NULL, 20);
+        divert = NULL;
+        if (first_count != 2) fail("the ClientHello took %zu packets", first_count);
+        double begun = seconds();
+        for (size_t k = 0; k < 2; k++) send(c->socket, firsts[turned ? 1 - k : k], first_counts[turned ? 1 - k : k], 0);
+        client_run(c, connected_or_ended, c, LIMIT);
+        if (!client_connected(c)) fail("a ClientHello of two packets was not taken%s", turned ? ", the second first" : "");
+        printf("%s: connected after %.0f ms\n", turned ? "the second first" : "in order", (seconds() - begun) * 1000);
+        client_close(c, H3_NO_ERROR);
+    }
+}
+
+/* ---- a crowd of others */
+
+static bool is_answered(void *s) { return ((client_stream *)s)->fin_received; }
+
+/* A slow upload is under way while more come than there are places: it is not the one that gives way. */
+static void crowded(void) {
+    enum { PART = 20000, EACH = 100 };
+    static uint8_t part[PART];
+    unsigned long count = number_or(1100), length = count / EACH * PART;
+    uint8_t section[300];
+    char stated[24];
     client *c = client_connect(port, LIMIT);
-    if (!c || !halved) fail("a client of which the second half of its ClientHello came first was not served");
-    printf("connected after %.0f ms\n", (seconds() - begun) * 1000);
+    client_stream *s = c ? client_open_bidi(c) : NULL;
+    if (!s) fail("no connection");
+    snprintf(stated, sizeof stated, "%lu", length);
+    client_send(s, section, put_request(section, "PUT", "/nowhere", stated));
+    client_send(s, section, h3_put_frame_head(section, H3_DATA, length));
+    crowd = must(calloc(count, sizeof *crowd));
+    while (crowd_count < count) {
+        must_open(&crowd[crowd_count++]);
+        if (crowd_count % EACH) continue;
+        client_send(s, part, PART);
+        client_run(c, NULL, NULL, 20);
+        ping_crowd();
+    }
+    client_fin(s);
+    uint64_t code = 0;
+    if (!client_run(c, is_answered, s, LIMIT)) fail("an upload gave way to a crowd: closure %d, code 0x%" PRIx64, client_closed(c, &code), code);
+    printf("%lu of %lu are open\n", crowd_open(), crowd_count);
     client_close(c, H3_NO_ERROR);
 }
 
@@ -513,8 +560,6 @@ static void stops(void) {
 }
 
 /* COUNT clients, one after another: each is served. */
-static bool is_answered(void *s) { return ((client_stream *)s)->fin_received; }
-
 static void comers(void) {
     for (unsigned long i = number_or(300); i; i--) {
         client *c = client_connect(port, LIMIT);
@@ -533,7 +578,7 @@ static const struct {
     void (*run)(void);
 } attacks[] = {{"noparams", noparams}, {"messages", messages}, {"ids", ids}, {"retiring", retiring}, {"moving", moving},
              {"gaps", gaps}, {"paths", paths}, {"parts", parts}, {"unread", unread}, {"idle", idle}, {"initials", initials}, {"half", half},
-             {"order", order}, {"garbage", garbage}, {"versions", versions}, {"refusals", refusals}, {"stops", stops}, {"comers", comers}};
+             {"order", order}, {"crowded", crowded}, {"garbage", garbage}, {"versions", versions}, {"refusals", refusals}, {"stops", stops}, {"comers", comers}};
 
 int main(int count, char **words) {
     if (count < 4) return 2;
