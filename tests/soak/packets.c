@@ -1,6 +1,6 @@
 /* packets PORT SEED SECONDS: a fuzzer of decrypted packets. Clients of their own making send what no stack would: TLS and frames spoiled before the handshake
-   is done, any frames under true keys behind it, an honest upload's packets spoiled one by one, and heads of packets spoiled on the way. An honest client is
-   served after every round. Status 0 if all were; what is sent is decided by the seed, when it comes by the machine. */
+   is done, any frames under true keys behind it, acknowledgements that make an answer lost again and again, an honest upload's packets spoiled one by one, and
+   heads of packets spoiled on the way. An honest client is served after every round. Status 0 if all were; what is sent is decided by the seed, when it comes by the machine. */
 #include "../peer/frames.h"
 
 #include <inttypes.h>
@@ -11,7 +11,7 @@
 static uint16_t port;
 static uint64_t state;
 static struct {
-    unsigned long before, behind, spoiled, heads, packets, honest;
+    unsigned long before, behind, losing, spoiled, heads, packets, honest;
 } done;
 
 /* ---- chance */
@@ -153,6 +153,63 @@ static void behind(void) {
     done.behind++;
 }
 
+/* An ACK of some of the packets that have come, with gaps. */
+static uint8_t *put_some_ack(uint8_t *to, uint64_t most) {
+    uint64_t largest = dice(most + 1), left = largest, ranges = dice(12);
+    *to++ = 0x02;
+    to = put_integer(put_integer(put_integer(to, largest), dice(1000)), ranges);
+    for (uint64_t i = 0; i < 1 + 2 * ranges; i++) { /* a range, then gaps and ranges in turn */
+        uint64_t step = dice(left / 2 + 1);
+        to = put_integer(to, step);
+        left = left > step + 1 ? left - step - 1 : 0;
+    }
+    return to;
+}
+
+/* What a client may say of an answer under way. */
+static uint8_t *put_word(uint8_t *to, uint64_t most) {
+    uint64_t id = 4 * dice(6);
+    switch (dice(8)) {
+    case 0: /* STOP_SENDING */
+        *to++ = 0x05;
+        return put_integer(put_integer(to, id), 0x10c);
+    case 1: /* RESET_STREAM */
+        *to++ = 0x04;
+        return put_integer(put_integer(put_integer(to, id), 0x10c), dice(2) ? 0 : any_number());
+    case 2: /* MAX_STREAM_DATA */
+        *to++ = 0x11;
+        return put_integer(put_integer(to, id), 1000 * dice(2000));
+    case 3: /* MAX_DATA */
+        *to++ = 0x10;
+        return put_integer(to, 1000 * dice(20000));
+    default: return put_some_ack(to, most);
+    }
+}
+
+/* Answers to some requests, acknowledged in part, stopped, granted more. */
+static void losing(void) {
+    peer p;
+    if (dice(2)) stream_window = 1 + dice(100000);
+    bool open = peer_open(&p, port);
+    stream_window = 1 << 20;
+    if (!open) return;
+    uint8_t section[200], frames[4096];
+    size_t length = put_request(section, "GET", "/settings", NULL), heard = 2;
+    for (uint64_t id = 0; id < 4 * 6; id += 4) peer_send(&p, frames, (size_t)(put_stream(frames, id, 0, section, length, true) - frames));
+    for (uint64_t n = 5 + dice(60); n; n--) {
+        uint8_t *at = frames;
+        do at = put_word(at, heard);
+        while (at - frames < 800 && dice(3));
+        peer_send(&p, frames, (size_t)(at - frames));
+        done.packets++;
+        if (!dice(3)) pause_ms((unsigned)dice(4));
+        if (!dice(60)) pause_ms(120); /* for a timer of theirs */
+        heard += peer_heard(&p, NULL, 0);
+    }
+    client_drop(p.client);
+    done.losing++;
+}
+
 /* An upload whose packets are spoiled now and then. */
 static void spoiled(void) {
     client *c = client_connect(port, LIMIT);
@@ -202,7 +259,7 @@ static bool honest(void) {
 }
 
 int main(int count, char **words) {
-    static void (*const kinds[])(void) = {before, before, behind, behind, spoiled, heads};
+    static void (*const kinds[])(void) = {before, before, behind, behind, losing, losing, spoiled, heads};
     if (count < 4) return 2;
     port = (uint16_t)atoi(words[1]);
     state = strtoull(words[2], NULL, 10) | 1;
@@ -212,7 +269,7 @@ int main(int count, char **words) {
         for (int i = 0; i < ROUND; i++) kinds[dice(sizeof kinds / sizeof *kinds)]();
         served = honest();
     }
-    printf("%lu clients spoiled before the handshake, %lu behind it, %lu in an upload, %lu in their heads; %lu packets; %lu honest clients %s\n", done.before,
-           done.behind, done.spoiled, done.heads, done.packets, done.honest, served ? "served" : "of whom THE LAST WAS NOT SERVED");
+    printf("%lu clients spoiled before the handshake, %lu behind it, %lu losing answers, %lu in an upload, %lu in their heads; %lu packets; %lu honest clients %s\n",
+           done.before, done.behind, done.losing, done.spoiled, done.heads, done.packets, done.honest, served ? "served" : "of whom THE LAST WAS NOT SERVED");
     return !served;
 }
