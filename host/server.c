@@ -134,28 +134,52 @@ static bool gives_way(const struct connection *c, const struct connection *other
     return connection_progress(c) < connection_progress(other);
 }
 
-/* Of those with a handshake or without, and of those that have more than so much, the first to give way. Never the one that it is done for. */
-static struct connection *least(struct server *s, bool established, size_t more_than, const struct connection *but) {
+/* Hosts, as far as addresses tell: of IPv6, those of one network are one. */
+static bool is_same_host(const struct address *a, const struct address *b) {
+    if (a->any.sa_family != b->any.sa_family) return false;
+    if (a->any.sa_family == AF_INET) return a->v4.sin_addr.s_addr == b->v4.sin_addr.s_addr;
+    return !memcmp(&a->v6.sin6_addr, &b->v6.sin6_addr, 8);
+}
+
+/* Of those with a handshake or without, of a host if one is given, and of those that have more than so much, the first to give way. */
+static struct connection *least(struct server *s, bool established, const struct address *host, size_t more_than) {
     struct connection *found = NULL;
     for (size_t i = 0; i < s->count; i++) {
         struct connection *c = s->connections[i];
-        if (c != but && c->established == established && c->held >= more_than && gives_way(c, found)) found = c;
+        bool meant = c->established == established && c->held >= more_than && (!host || is_same_host(&c->from, host));
+        if (meant && gives_way(c, found)) found = c;
     }
     return found;
 }
 
-/* A handshake is done: the connection is one of those now. Where they are too many, whoever has moved on longest ago gives way. */
+static size_t count_of(struct server *s, bool established, const struct address *host) {
+    size_t n = 0;
+    for (size_t i = 0; i < s->count; i++) n += s->connections[i]->established == established && is_same_host(&s->connections[i]->from, host);
+    return n;
+}
+
+/* All of these places are taken: one is made free. A host that has more than a quarter of them gives way to itself. */
+static void make_room(struct server *s, bool established, const struct address *host) {
+    bool crowding = count_of(s, established, host) > (established ? ESTABLISHED : HALF_OPEN) / 4;
+    dismiss(least(s, established, crowding ? host : NULL, 0));
+}
+
+/* A handshake is done: the connection is one of those now. */
 static void seat(struct connection *c) {
     struct server *s = c->server;
+    if (s->count - s->half == ESTABLISHED) {
+        c->established = false; /* not yet: it does not give way to itself */
+        make_room(s, true, &c->from);
+        c->established = true;
+    }
     s->half--;
-    if (s->count - s->half > ESTABLISHED) dismiss(least(s, true, 0, c));
 }
 
 /* Where too much is kept in all, of those that have more than a fair share the one that has moved on longest ago is closed. */
 static void lighten(struct server *s) {
     while (s->held > HELD_MOST) {
-        struct connection *c = least(s, true, FAIR_SHARE, NULL);
-        if (!c) c = least(s, false, FAIR_SHARE, NULL);
+        struct connection *c = least(s, true, NULL, FAIR_SHARE);
+        if (!c) c = least(s, false, NULL, FAIR_SHARE);
         if (!c) return;
         gateway_note(s->gateway, "connection closed with 0x%04x, as memory was short and it did not move on", EISTULKO_EXCESSIVE_LOAD);
         dismiss(c);
@@ -223,7 +247,7 @@ static void welcome(struct server *s, const struct datagram *d) {
         else forget(c);
         return;
     }
-    if (s->half == HALF_OPEN) forget(least(s, false, 0, NULL));
+    if (s->half == HALF_OPEN) make_room(s, false, &c->from);
     place(c);
     make_due(c);
 }

@@ -443,16 +443,28 @@ static void order(void) {
 
 static bool is_answered(void *s) { return ((client_stream *)s)->fin_received; }
 
-/* A slow upload is under way while more come than there are places: it is not the one that gives way. */
+static void must_serve(client *c, const char *who) {
+    uint8_t section[200];
+    client_stream *s = client_open_bidi(c);
+    if (!s) fail("%s has no stream", who);
+    client_send(s, section, put_request(section, "GET", "/", NULL));
+    client_fin(s);
+    if (!client_run(c, is_answered, s, LIMIT)) fail("%s was not served", who);
+}
+
+/* A slow upload is under way, and another client idle, while more come from another host than there are places: neither gives way. */
 static void crowded(void) {
     enum { PART = 20000, EACH = 100 };
     static uint8_t part[PART];
     unsigned long count = number_or(1100), length = count / EACH * PART;
     uint8_t section[300];
     char stated[24];
-    client *c = client_connect(port, LIMIT);
+    client *at_rest = client_connect(port, LIMIT), *c = client_connect(port, LIMIT);
     client_stream *s = c ? client_open_bidi(c) : NULL;
-    if (!s) fail("no connection");
+    if (!s || !at_rest) fail("no connection");
+    must_serve(at_rest, "a client that comes early");
+    ngtcp2_conn_set_keep_alive_timeout(at_rest->quic, NGTCP2_SECONDS);
+    client_source++;
     snprintf(stated, sizeof stated, "%lu", length);
     client_send(s, section, put_request(section, "PUT", "/nowhere", stated));
     client_send(s, section, h3_put_frame_head(section, H3_DATA, length));
@@ -462,8 +474,11 @@ static void crowded(void) {
         if (crowd_count % EACH) continue;
         client_send(s, part, PART);
         client_run(c, NULL, NULL, 20);
+        client_run(at_rest, NULL, NULL, 1);
         ping_crowd();
     }
+    must_serve(at_rest, "a client that was idle");
+    client_close(at_rest, H3_NO_ERROR);
     client_fin(s);
     uint64_t code = 0;
     if (!client_run(c, is_answered, s, LIMIT)) fail("an upload gave way to a crowd: closure %d, code 0x%" PRIx64, client_closed(c, &code), code);

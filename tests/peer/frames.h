@@ -1,9 +1,10 @@
 /* A client that sends frames as they stand: client.c makes its handshake, the keys are taken where that encrypts, and packets are then made here.
    It is taken in whole, to reach what is below it, by tests that include this file before any other.
-   What a test may set before a connection is begun: what the client grants, and two hooks. */
+   What a test may set before a connection is begun: what the client grants, the address that it comes from, and two hooks. */
 #ifndef PEER_FRAMES_H
 #define PEER_FRAMES_H
 #define _GNU_SOURCE
+#include <netinet/in.h>
 #include <stdbool.h>
 #include <stdint.h>
 #include <stdio.h>
@@ -14,6 +15,8 @@
 #include <ngtcp2/ngtcp2_crypto.h>
 
 static unsigned long server_streams = 100, stream_window = 1 << 20, connection_window = 16 << 20;
+static uint32_t client_source = INADDR_LOOPBACK; /* any of 127.0.0.0/8 */
+#define CLIENT_SOURCE client_source
 #define SERVER_UNI_STREAMS server_streams
 #define STREAM_WINDOW stream_window
 #define CONNECTION_WINDOW connection_window
