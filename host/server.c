@@ -158,18 +158,50 @@ static size_t count_of(struct server *s, bool established, const struct address 
     return n;
 }
 
-/* All of these places are taken: one is made free. A host that has more than a quarter of them gives way to itself. */
-static void make_room(struct server *s, bool established, const struct address *host) {
-    bool crowding = count_of(s, established, host) > (established ? ESTABLISHED : HALF_OPEN) / 4;
-    dismiss(least(s, established, crowding ? host : NULL, 0));
+/* Hosts in one walk: whoever has more than a quarter is among the few that are left at its end (Misra and Gries). */
+enum { FEW = 4 };
+
+struct tally {
+    const struct address *host;
+    size_t weight; /* 0: none */
+};
+
+/* Where this host is, or could be; FEW where there is no room for it. */
+static size_t find_tally(const struct tally few[FEW], const struct address *host) {
+    size_t free = FEW;
+    for (size_t k = 0; k < FEW; k++) {
+        if (few[k].weight && is_same_host(few[k].host, host)) return k;
+        if (!few[k].weight) free = k;
+    }
+    return free;
 }
+
+static void tally_host(struct tally few[FEW], const struct address *host) {
+    size_t k = find_tally(few, host);
+    if (k < FEW) few[k] = (struct tally){host, few[k].weight + 1};
+    else
+        for (k = 0; k < FEW; k++) few[k].weight--;
+}
+
+/* A host that has more than a quarter of these places; null where none has. */
+static const struct address *crowding_host(struct server *s, bool established) {
+    struct tally few[FEW] = {{0}};
+    for (size_t i = 0; i < s->count; i++)
+        if (s->connections[i]->established == established) tally_host(few, &s->connections[i]->from);
+    for (size_t k = 0; k < FEW; k++)
+        if (few[k].weight && count_of(s, established, few[k].host) > (established ? ESTABLISHED : HALF_OPEN) / 4) return few[k].host;
+    return NULL;
+}
+
+/* All of these places are taken: one is made free, and it is one of a host that has too many, if there is such. */
+static void make_room(struct server *s, bool established) { dismiss(least(s, established, crowding_host(s, established), 0)); }
 
 /* A handshake is done: the connection is one of those now. */
 static void seat(struct connection *c) {
     struct server *s = c->server;
     if (s->count - s->half == ESTABLISHED) {
         c->established = false; /* not yet: it does not give way to itself */
-        make_room(s, true, &c->from);
+        make_room(s, true);
         c->established = true;
     }
     s->half--;
@@ -247,7 +279,7 @@ static void welcome(struct server *s, const struct datagram *d) {
         else forget(c);
         return;
     }
-    if (s->half == HALF_OPEN) make_room(s, false, &c->from);
+    if (s->half == HALF_OPEN) make_room(s, false);
     place(c);
     make_due(c);
 }
