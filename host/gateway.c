@@ -4,41 +4,75 @@
 #include <errno.h>
 #include <fcntl.h>
 #include <stdarg.h>
+#include <stdbool.h>
+#include <sys/file.h>
 #include <sys/stat.h>
 #include <time.h>
 #include <unistd.h>
 
-#define LOG_SHOWN (1 << 20) /* the last bytes of the log that are shown */
-#define LOG_KEPT (4 << 20)  /* a log of this size becomes the old one: whoever makes lines does not fill the disk */
+#define LOG_SHOWN (512 << 10) /* the last bytes of each file of lines that are shown */
+#define LOG_KEPT (4 << 20)    /* one of this size becomes the old one: whoever makes lines does not fill the disk */
+#define TIME 20               /* the length of a line's time */
 
 /* ---- files */
 
-static int open_log(struct gateway *g) {
-    return openat(g->folder, "log", O_CREAT | O_RDWR | O_APPEND | O_CLOEXEC, 0644);
+static int open_lines(int folder, const char *name) {
+    return openat(folder, name, O_CREAT | O_RDWR | O_APPEND | O_CLOEXEC, 0644);
+}
+
+static void close_all(struct gateway *g) {
+    close(g->log.file);
+    close(g->refused.file);
+    close(g->folder); /* and with it goes the lock */
+}
+
+/* Opens what is at the path and locks it against another gateway. */
+static int open_all(struct gateway *g) {
+    struct gateway fresh = {.path = g->path, .measure = g->measure, .log = {"log", "log.old", -1}, .refused = {"refused", "refused.old", -1}};
+    fresh.folder = open(g->path, O_RDONLY | O_DIRECTORY | O_CLOEXEC);
+    if (fresh.folder < 0) return -1;
+    if (!flock(fresh.folder, LOCK_EX | LOCK_NB)) {
+        fresh.log.file = open_lines(fresh.folder, "log");
+        fresh.refused.file = open_lines(fresh.folder, "refused");
+    }
+    if (fresh.log.file >= 0 && fresh.refused.file >= 0) {
+        *g = fresh;
+        return 0;
+    }
+    int why = errno;
+    close_all(&fresh);
+    errno = why;
+    return -1;
 }
 
 int gateway_open(struct gateway *g, const char *folder) {
+    *g = (struct gateway){.path = folder};
     if (mkdir(folder, 0755) && errno != EEXIST) return -1;
-    g->folder = open(folder, O_RDONLY | O_DIRECTORY | O_CLOEXEC);
-    if (g->folder < 0) return -1;
-    g->log = open_log(g);
-    return g->log < 0 ? -1 : 0;
+    return open_all(g);
 }
 
-/* Where that fails, the log at hand goes on. */
-static void turn_log(struct gateway *g) {
+void gateway_close(struct gateway *g) { close_all(g); }
+
+/* The folder at the path is the one at hand. Another that is there now, as after a disk was away, is taken in its place; none is made. */
+static bool is_at_home(struct gateway *g) {
+    struct stat there, here;
+    if (stat(g->path, &there)) return false;
+    if (!fstat(g->folder, &here) && here.st_dev == there.st_dev && here.st_ino == there.st_ino) return true;
+    struct gateway gone = *g;
+    if (open_all(g)) return false;
+    close_all(&gone);
+    return true;
+}
+
+/* Where that fails, the file at hand goes on. */
+static void turn_lines(struct gateway *g, struct lines *l) {
     struct stat about;
-    if (fstat(g->log, &about) || about.st_size < LOG_KEPT) return;
-    if (renameat(g->folder, "log", g->folder, "log.old") && errno != ENOENT) return;
-    int fresh = open_log(g);
+    if (fstat(l->file, &about) || about.st_size < LOG_KEPT) return;
+    if (renameat(g->folder, l->name, g->folder, l->old) && errno != ENOENT) return;
+    int fresh = open_lines(g->folder, l->name);
     if (fresh < 0) return;
-    close(g->log);
-    g->log = fresh;
-}
-
-void gateway_close(struct gateway *g) {
-    close(g->log);
-    close(g->folder);
+    close(l->file);
+    l->file = fresh;
 }
 
 static int write_all(int file, const uint8_t *from, size_t count) {
@@ -91,68 +125,110 @@ static int read_end(int file, size_t most, struct bytes *to) {
     return 0;
 }
 
-void gateway_note(struct gateway *g, const char *form, ...) {
+__attribute__((format(printf, 3, 0))) static void add_line(struct gateway *g, struct lines *l, const char *form, va_list rest) {
     char line[512];
     time_t t = time(NULL);
     struct tm utc;
-    size_t n = strftime(line, sizeof line, "%Y-%m-%dT%H:%M:%SZ ", gmtime_r(&t, &utc));
-    va_list rest;
-    va_start(rest, form);
+    size_t n = strftime(line, sizeof line, "%Y-%m-%dT%H:%M:%SZ", gmtime_r(&t, &utc));
+    line[n++] = ' ';
     int k = vsnprintf(line + n, sizeof line - n - 1, form, rest);
-    va_end(rest);
     if (k < 0) return;
     n += (size_t)k < sizeof line - n - 1 ? (size_t)k : sizeof line - n - 2;
     line[n++] = '\n';
-    turn_log(g);
-    if (write_all(g->log, (const uint8_t *)line, n)) perror("log");
+    turn_lines(g, l);
+    if (write_all(l->file, (const uint8_t *)line, n)) say("%s: %s", l->name, strerror(errno));
+}
+
+__attribute__((format(printf, 3, 4))) static void note(struct gateway *g, struct lines *l, const char *form, ...) {
+    va_list rest;
+    va_start(rest, form);
+    add_line(g, l, form, rest);
+    va_end(rest);
+}
+
+void gateway_note(struct gateway *g, const char *form, ...) {
+    if (!measure_allows(&g->measure)) return;
+    if (g->measure.left_out) note(g, &g->refused, "%lu lines left out", g->measure.left_out);
+    g->measure.left_out = 0;
+    va_list rest;
+    va_start(rest, form);
+    add_line(g, &g->refused, form, rest);
+    va_end(rest);
 }
 
 /* ---- requests */
 
-static void say(struct answer *a, int status, const char *text) {
+static void tell(struct answer *a, int status, const char *text) {
     a->status = status;
     a->content.count = 0;
     bytes_add(&a->content, text, strlen(text));
 }
 
 static void put_settings(struct gateway *g, const struct asked *q, struct answer *a) {
+    if (q->fields & ASKED_PART) return tell(a, 400, "a part is not taken for a whole\n");
     if (keep_settings(g, q->content, q->count)) {
-        gateway_note(g, "settings of %zu bytes not kept: %s", q->count, strerror(errno));
-        say(a, 500, "the settings could not be kept\n");
-        return;
+        note(g, &g->log, "settings of %zu bytes not kept: %s", q->count, strerror(errno));
+        return tell(a, 500, "the settings could not be kept\n");
     }
-    gateway_note(g, "settings of %zu bytes kept", q->count);
-    say(a, 200, "settings kept\n");
+    note(g, &g->log, "settings of %zu bytes kept", q->count);
+    tell(a, 200, "settings kept\n");
 }
 
 static void get_settings(struct gateway *g, struct answer *a) {
     int file = openat(g->folder, "settings", O_RDONLY | O_CLOEXEC);
     if (file < 0) {
-        say(a, 404, "no settings yet\n");
+        tell(a, 404, "no settings yet\n");
         return;
     }
     a->status = 200;
-    if (read_end(file, SIZE_MAX >> 1, &a->content)) say(a, 500, "the settings could not be read\n");
+    if (read_end(file, SIZE_MAX >> 1, &a->content)) tell(a, 500, "the settings could not be read\n");
     close(file);
 }
 
+/* Takes the first line of the bytes away, to the end of another's. */
+static void move_line(struct bytes *from, struct bytes *to) {
+    uint8_t *end = memchr(from->at, '\n', from->count);
+    size_t n = end ? (size_t)(end + 1 - from->at) : from->count;
+    bytes_add(to, from->at, n);
+    from->at += n;
+    from->count -= n;
+}
+
+/* Both files of lines as one, by their times. */
+static void merge(struct bytes a, struct bytes b, struct bytes *to) {
+    while (a.count || b.count) {
+        bool first = b.count < TIME || (a.count >= TIME && memcmp(a.at, b.at, TIME) <= 0);
+        move_line(a.count && (first || !b.count) ? &a : &b, to);
+    }
+}
+
 static void get_log(struct gateway *g, struct answer *a) {
+    struct bytes uploads = {0}, refused = {0};
     a->status = 200;
-    if (read_end(g->log, LOG_SHOWN, &a->content)) say(a, 500, "the log could not be read\n");
+    if (read_end(g->log.file, LOG_SHOWN, &uploads) || read_end(g->refused.file, LOG_SHOWN, &refused)) tell(a, 500, "the log could not be read\n");
+    else merge(uploads, refused, &a->content);
+    bytes_free(&uploads);
+    bytes_free(&refused);
+}
+
+/* Whether the condition that the request makes holds. No settings have a tag or a date that a client could know of. */
+static bool is_wanted(struct gateway *g, const struct asked *q) {
+    bool there = !faccessat(g->folder, "settings", F_OK, 0);
+    if (q->fields & (ASKED_IF_TAG | ASKED_IF_OLD)) return false;
+    return !(q->fields & ASKED_IF_ANY && !there) && !(q->fields & ASKED_IF_NONE && there);
 }
 
 void gateway_answer(struct gateway *g, const struct asked *q, struct answer *a) {
-    int get = !strcmp(q->method, "GET");
-    int put = !strcmp(q->method, "PUT");
-    if (!strcmp(q->path, "/log")) {
-        if (get) return get_log(g, a);
-        a->allow = "GET";
-    } else if (!strcmp(q->path, "/settings")) {
-        if (get) return get_settings(g, a);
-        if (put) return put_settings(g, q, a);
-        a->allow = "GET, PUT";
-    } else {
-        return say(a, 404, "no such thing here\n");
+    bool get = !strcmp(q->method, "GET"), put = !strcmp(q->method, "PUT");
+    bool log = !strcmp(q->path, "/log"), settings = !strcmp(q->path, "/settings");
+    if (!log && !settings) return tell(a, 404, "no such thing here\n");
+    if (!get && !(put && settings)) {
+        a->allow = log ? "GET" : "GET, PUT";
+        return tell(a, 405, "not with this method\n");
     }
-    say(a, 405, "not with this method\n");
+    if (!is_at_home(g)) return tell(a, 500, "the folder is not there\n");
+    if (log) return get_log(g, a);
+    if (!is_wanted(g, q)) return tell(a, get && (q->fields & ~ASKED_LENGTH) == ASKED_IF_NONE ? 304 : 412, "the condition does not hold\n");
+    if (put) return put_settings(g, q, a);
+    get_settings(g, a);
 }

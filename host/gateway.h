@@ -3,17 +3,38 @@
 #define GATEWAY_H
 
 #include "bytes.h"
+#include "say.h"
 
-/* A folder with `settings`, the settings in force, and `log`, a line for each thing that happened; `log.old` is what went before it. */
+/* A file of lines, with the time before each; `old` is what went before it. */
+struct lines {
+    const char *name, *old;
+    int file;
+};
+
+/* A folder with `settings`, the settings in force; `log`, a line for each upload; and `refused`, a line for what was refused, closed or lost. The two
+   are apart, so that no refusals ever wash an upload's line away. */
 struct gateway {
-    int folder, log;
+    const char *path;
+    int folder;
+    struct lines log, refused;
+    struct measure measure; /* of the lines in `refused` */
 };
 
 /* What a request asks for. The content is that of a whole request. */
 struct asked {
     const char *method, *path;
+    unsigned fields; /* of these: */
     const uint8_t *content;
     size_t count;
+};
+
+enum {
+    ASKED_LENGTH = 1, /* Content-Length */
+    ASKED_PART = 2,   /* Content-Range */
+    ASKED_IF_ANY = 4, /* If-Match: * */
+    ASKED_IF_TAG = 8, /* If-Match with tags */
+    ASKED_IF_NONE = 16, /* If-None-Match: * */
+    ASKED_IF_OLD = 32 /* If-Unmodified-Since */
 };
 
 struct answer {
@@ -22,14 +43,14 @@ struct answer {
     struct bytes content;
 };
 
-/* 0, or -1 with errno. */
+/* 0, or -1 with errno: EWOULDBLOCK where another gateway has the folder. The path is kept, not copied. */
 int gateway_open(struct gateway *g, const char *folder);
 void gateway_close(struct gateway *g);
 
 /* `a` begins empty and is filled; its content is the caller's to free. */
 void gateway_answer(struct gateway *g, const struct asked *q, struct answer *a);
 
-/* A line in the log, with the time. */
+/* A line of what was refused, closed or lost; beyond some a second they are counted. */
 void gateway_note(struct gateway *g, const char *form, ...) __attribute__((format(printf, 2, 3)));
 
 #endif

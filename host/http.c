@@ -8,7 +8,8 @@ struct request {
     struct request *next;
     uint64_t id;
     bool begun; /* the header section was taken; another section is trailers */
-    char *method, *path;
+    char method[8], path[16]; /* empty where longer than any that the gateway knows: nobody makes us keep 16 KiB of them */
+    unsigned fields;
     struct bytes section, content;
 };
 
@@ -37,8 +38,6 @@ static void drop(struct http *h, uint64_t id) {
         *at = r->next;
         bytes_free(&r->section);
         bytes_free(&r->content);
-        free(r->method);
-        free(r->path);
         free(r);
         return;
     }
@@ -94,9 +93,9 @@ static void send_frame(struct http *h, uint64_t id, uint64_t type, const uint8_t
     if (count) h->stack.send(h->stack.self, id, payload, count, fin);
 }
 
-/* HEAD gets the fields alone. */
+/* HEAD gets the fields alone, and so does who has what there is. */
 static void answer(struct http *h, const struct request *r, const struct answer *a) {
-    bool bare = !strcmp(r->method, "HEAD");
+    bool bare = !strcmp(r->method, "HEAD") || a->status == 304;
     char status[12], length[24];
     snprintf(status, sizeof status, "%d", a->status);
     snprintf(length, sizeof length, "%zu", a->content.count);
@@ -110,7 +109,7 @@ static void answer(struct http *h, const struct request *r, const struct answer 
 
 static void act(struct http *h, struct request *r) {
     struct answer a = {0};
-    struct asked q = {r->method, r->path, r->content.at, r->content.count};
+    struct asked q = {r->method, r->path, r->fields, r->content.at, r->content.count};
     h->whole++;
     gateway_answer(h->gateway, &q, &a);
     answer(h, r, &a);
@@ -119,30 +118,46 @@ static void act(struct http *h, struct request *r) {
 
 /* ---- sections */
 
-/* The value of a field of a block that the engine has accepted, as text of its own; null where it has none. */
-static char *value_of(const struct bytes *block, const char *name) {
-    size_t named = strlen(name);
-    for (const uint8_t *at = block->at, *end = at + block->count; at < end;) {
-        size_t length = (size_t)(at[0] | at[1] << 8), n = (size_t)(at[4] | at[5] << 8);
-        if (n == named && !memcmp(at + 6, name, n)) {
-            char *text = must(malloc(length - 4 - n + 1));
-            memcpy(text, at + 6 + n, length - 4 - n);
-            text[length - 4 - n] = 0;
-            return text;
-        }
-        at += 2 + length;
-    }
-    return NULL;
+/* A field line of a block that the engine has accepted. */
+struct read_line {
+    const uint8_t *name, *value;
+    size_t name_count, value_count;
+};
+
+static const uint8_t *read_line(const uint8_t *at, struct read_line *line) {
+    size_t length = (size_t)(at[0] | at[1] << 8), n = (size_t)(at[4] | at[5] << 8);
+    *line = (struct read_line){at + 6, at + 6 + n, n, length - 4 - n};
+    return at + 2 + length;
+}
+
+static bool is(const uint8_t *bytes, size_t count, const char *text) { return count == strlen(text) && !memcmp(bytes, text, count); }
+
+static void keep_text(char *to, size_t room, const struct read_line *line) {
+    if (line->value_count < room) memcpy(to, line->value, line->value_count); /* the rest is 0 */
+}
+
+/* What a line says of the request beside its method and its path. */
+static unsigned meaning(const struct read_line *line) {
+    bool any = is(line->value, line->value_count, "*");
+    if (is(line->name, line->name_count, "content-length")) return ASKED_LENGTH;
+    if (is(line->name, line->name_count, "content-range")) return ASKED_PART;
+    if (is(line->name, line->name_count, "if-match")) return any ? ASKED_IF_ANY : ASKED_IF_TAG;
+    if (is(line->name, line->name_count, "if-none-match")) return any ? ASKED_IF_NONE : 0; /* no settings have a tag */
+    if (is(line->name, line->name_count, "if-unmodified-since")) return ASKED_IF_OLD;
+    return 0;
 }
 
 /* A header section was accepted. Until the engine itself asks uploads for a length, the host refuses a PUT without one. */
 static void begin(struct http *h, struct request *r, const struct bytes *block) {
     r->begun = true;
-    r->method = value_of(block, ":method");
-    r->path = value_of(block, ":path");
-    char *length = value_of(block, "content-length");
-    if (!length && !strcmp(r->method, "PUT")) give_up(h, r->id, EISTULKO_REQUEST_REJECTED);
-    free(length);
+    for (const uint8_t *at = block->at, *end = at + block->count; at < end;) {
+        struct read_line line;
+        at = read_line(at, &line);
+        if (is(line.name, line.name_count, ":method")) keep_text(r->method, sizeof r->method, &line);
+        if (is(line.name, line.name_count, ":path")) keep_text(r->path, sizeof r->path, &line);
+        r->fields |= meaning(&line);
+    }
+    if (!(r->fields & ASKED_LENGTH) && !strcmp(r->method, "PUT")) give_up(h, r->id, EISTULKO_REQUEST_REJECTED);
 }
 
 /* The section is due: it is decoded and given. */

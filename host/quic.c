@@ -1,32 +1,18 @@
 #define _GNU_SOURCE
-#include "quic.h"
+#include "connection.h"
 
-#include "http.h"
-
-#include <arpa/inet.h>
-#include <errno.h>
 #include <gnutls/crypto.h>
-#include <inttypes.h>
 #include <malloc.h>
-#include <ngtcp2/ngtcp2.h>
-#include <ngtcp2/ngtcp2_crypto.h>
 #include <ngtcp2/ngtcp2_crypto_gnutls.h>
-#include <poll.h>
-#include <stdbool.h>
-#include <sys/socket.h>
-#include <time.h>
-#include <unistd.h>
 
-#define CID_LENGTH 16
-#define PACKET 1452            /* the most that a datagram of ours holds */
-#define PACKETS_A_TURN 64      /* of one connection, before the others' */
-#define READING_A_TURN (20 * NGTCP2_MILLISECONDS) /* settings that go to a slow disk hold up nobody's answers for longer */
-#define ONEWAYS_MORE 100       /* one-way streams granted to a client in all, beyond the first */
+#define PACKETS_A_TURN 64 /* of one connection, before the others' */
+#define ONEWAYS_MORE 100  /* one-way streams granted to a client in all, beyond the first */
 #define STREAM_WINDOW (256 << 10)
-#define WINDOW (256 << 10)    /* what a client can make libngtcp2 keep, of bytes that came before their turn */
-#define HELD_MOST (128 << 20) /* bytes kept for all connections: each could have 21 requests of 1 MiB open, or as many answers */
+#define WINDOW (256 << 10)
+#define CHUNK (64 << 10)
+#define QUANTUM (16 << 10) /* a stream moves on when so much more of it came, or was taken, or when it ends */
 
-/* Bytes handed to the stack: they stay in place until the stream is closed, since a lost packet is made anew from them. */
+/* Bytes handed to the stack: they stay in place until they are acknowledged, since a lost packet is made anew from them. */
 struct chunk {
     struct chunk *next;
     size_t count, sent;
@@ -38,43 +24,15 @@ struct stream {
     struct stream *next;
     int64_t id;
     struct chunk *first, *last;
-    bool fin, done, blocked; /* an end is due; all was handed over; the peer grants no more for now */
+    uint64_t taken; /* bytes of chunks that are gone */
+    bool begun, fin, done, blocked; /* an answer is; its end is due; all was handed over; the peer grants no more for now */
+    ngtcp2_tstamp moved;
+    size_t since; /* bytes that came or were taken since then */
 };
-
-struct connection {
-    struct server *server;
-    size_t slot;
-    ngtcp2_conn *quic;
-    gnutls_session_t tls;
-    ngtcp2_crypto_conn_ref ref;
-    ngtcp2_cid first; /* what the client called us in its first packets */
-    ngtcp2_tstamp heard; /* when its last packet came */
-    struct stream *streams;
-    struct http http;
-    uint64_t oneways; /* of the client's that are done */
-    size_t held; /* bytes kept for it when last counted */
-    bool over;   /* its requests and streams are gone */
-    bool failed; /* HTTP closes the connection, with this: */
-    uint64_t code;
-    uint8_t farewell[PACKET]; /* our CONNECTION_CLOSE, said again to whoever still sends */
-    size_t farewell_count;
-    uint64_t after; /* packets that came since */
-    ngtcp2_tstamp forget; /* when even that ends */
-};
-
-static ngtcp2_tstamp now(void) {
-    struct timespec t;
-    clock_gettime(CLOCK_MONOTONIC, &t);
-    return (uint64_t)t.tv_sec * NGTCP2_SECONDS + (uint64_t)t.tv_nsec;
-}
-
-static void random_bytes(void *to, size_t count) {
-    if (gnutls_rnd(GNUTLS_RND_RANDOM, to, count)) abort();
-}
 
 /* ---- streams that we send on */
 
-static struct stream *find_stream(struct connection *c, int64_t id) {
+static struct stream *find_stream(const struct connection *c, int64_t id) {
     struct stream *s = c->streams;
     while (s && s->id != id) s = s->next;
     return s;
@@ -83,9 +41,18 @@ static struct stream *find_stream(struct connection *c, int64_t id) {
 static struct stream *add_stream(struct connection *c, int64_t id) {
     struct stream *s = must(calloc(1, sizeof *s));
     s->id = id;
+    s->moved = now();
     s->next = c->streams;
     c->streams = s;
     return s;
+}
+
+static void drop_chunk(struct stream *s) {
+    struct chunk *k = s->first;
+    s->taken += k->count;
+    s->first = k->next;
+    if (!s->first) s->last = NULL;
+    free(k);
 }
 
 static void drop_stream(struct connection *c, int64_t id) {
@@ -93,11 +60,7 @@ static void drop_stream(struct connection *c, int64_t id) {
         struct stream *s = *at;
         if (s->id != id) continue;
         *at = s->next;
-        for (struct chunk *k = s->first; k;) {
-            struct chunk *next = k->next;
-            free(k);
-            k = next;
-        }
+        while (s->first) drop_chunk(s);
         free(s);
         return;
     }
@@ -107,9 +70,25 @@ static bool has_more(const struct stream *s) {
     return !s->done && (s->fin || (s->last && s->last->sent < s->last->count));
 }
 
+static void add_chunk(struct stream *s, const uint8_t *bytes, size_t count) {
+    struct chunk *k = must(malloc(sizeof *k + count));
+    *k = (struct chunk){.count = count};
+    memcpy(k->bytes, bytes, count);
+    if (s->last) s->last->next = k;
+    else s->first = k;
+    s->last = k;
+}
+
+static void move_on(struct stream *s, size_t count) {
+    s->since += count;
+    if (s->since < QUANTUM) return;
+    s->since = 0;
+    s->moved = now();
+}
+
 /* ---- what HTTP asks of the stack */
 
-static void close_connection(void *self, uint64_t code) {
+void connection_fail(void *self, uint64_t code) {
     struct connection *c = self;
     if (c->failed) return;
     c->failed = true;
@@ -119,20 +98,20 @@ static void close_connection(void *self, uint64_t code) {
 static uint64_t open_oneway(void *self) {
     struct connection *c = self;
     int64_t id = -1;
-    if (ngtcp2_conn_open_uni_stream(c->quic, &id, NULL)) close_connection(c, EISTULKO_STREAM_CREATION_ERROR);
+    if (ngtcp2_conn_open_uni_stream(c->quic, &id, NULL)) connection_fail(c, EISTULKO_STREAM_CREATION_ERROR);
     else add_stream(c, id);
     return (uint64_t)id;
 }
 
+/* In chunks, so that what was taken is freed early. */
 static void send_bytes(void *self, uint64_t id, const uint8_t *bytes, size_t count, int fin) {
     struct stream *s = find_stream(self, (int64_t)id);
     if (!s) return;
-    struct chunk *k = must(malloc(sizeof *k + count));
-    *k = (struct chunk){.count = count};
-    memcpy(k->bytes, bytes, count);
-    if (s->last) s->last->next = k;
-    else s->first = k;
-    s->last = k;
+    for (size_t part; count; bytes += part, count -= part) {
+        part = count < CHUNK ? count : CHUNK;
+        add_chunk(s, bytes, part);
+    }
+    s->begun = true;
     s->fin = fin;
 }
 
@@ -153,6 +132,10 @@ static int verdict(struct connection *c) {
 static int on_handshake(ngtcp2_conn *quic, void *self) {
     (void)quic;
     struct connection *c = self;
+    c->established = true;
+    c->moved = now();
+    http_begin(&c->http, (struct stack){c, open_oneway, send_bytes, refuse_stream, connection_fail}, c->server->gateway);
+    if (c->server->draining) http_drain(&c->http);
     http_handshake(&c->http);
     return 0;
 }
@@ -176,10 +159,13 @@ static void end_oneway(struct connection *c, int64_t id, const void *of_stream) 
 static int on_bytes(ngtcp2_conn *quic, uint32_t flags, int64_t id, uint64_t offset, const uint8_t *bytes, size_t count, void *self, void *of_stream) {
     (void)offset;
     struct connection *c = self;
-    http_bytes(&c->http, (uint64_t)id, count ? bytes : (const uint8_t *)"", count, (flags & NGTCP2_STREAM_DATA_FLAG_FIN) != 0);
+    bool fin = flags & NGTCP2_STREAM_DATA_FLAG_FIN;
+    struct stream *s = find_stream(c, id);
+    if (s) move_on(s, fin ? QUANTUM : count);
+    http_bytes(&c->http, (uint64_t)id, count ? bytes : (const uint8_t *)"", count, fin);
     ngtcp2_conn_extend_max_stream_offset(quic, id, count);
     ngtcp2_conn_extend_max_offset(quic, count);
-    if (flags & NGTCP2_STREAM_DATA_FLAG_FIN) end_oneway(c, id, of_stream);
+    if (fin) end_oneway(c, id, of_stream);
     return verdict(c);
 }
 
@@ -190,7 +176,7 @@ static int on_reset(ngtcp2_conn *quic, int64_t id, uint64_t size, uint64_t code,
     end_oneway(c, id, of_stream);
     struct stream *s = find_stream(c, id);
     /* A request that was taken back has no answer. Were our side not ended too, the stream would never close, and none be granted for it. */
-    if (s && !s->first) ngtcp2_conn_shutdown_stream_write(quic, id, EISTULKO_REQUEST_CANCELLED);
+    if (s && !s->begun) ngtcp2_conn_shutdown_stream_write(quic, id, EISTULKO_REQUEST_CANCELLED);
     return verdict(c);
 }
 
@@ -200,8 +186,18 @@ static int on_close(ngtcp2_conn *quic, uint32_t flags, int64_t id, uint64_t code
     bool ours = ngtcp2_conn_is_local_stream(quic, id);
     http_closed(&c->http, (uint64_t)id);
     drop_stream(c, id);
+    c->moved = now();
     if (!ours && ngtcp2_is_bidi_stream(id)) ngtcp2_conn_extend_max_streams_bidi(quic, 1);
     return verdict(c);
+}
+
+static int on_taken(ngtcp2_conn *quic, int64_t id, uint64_t offset, uint64_t count, void *self, void *of_stream) {
+    (void)quic, (void)of_stream;
+    struct stream *s = find_stream(self, id);
+    if (!s) return 0;
+    move_on(s, count);
+    while (s->first && s->taken + s->first->count <= offset + count) drop_chunk(s);
+    return 0;
 }
 
 static int on_grant(ngtcp2_conn *quic, int64_t id, uint64_t most, void *self, void *of_stream) {
@@ -216,26 +212,57 @@ static void on_random(uint8_t *to, size_t count, const ngtcp2_rand_ctx *context)
     random_bytes(to, count);
 }
 
-/* A connection ID of ours begins with the connection's slot, so that a packet names its connection. */
-static void new_cid(struct connection *c, ngtcp2_cid *cid, size_t count) {
-    cid->datalen = count;
-    random_bytes(cid->data, count);
-    cid->data[0] = (uint8_t)(c->slot >> 8);
-    cid->data[1] = (uint8_t)c->slot;
-}
-
 static int on_new_cid(ngtcp2_conn *quic, ngtcp2_cid *cid, uint8_t *token, size_t count, void *self) {
     (void)quic;
     struct connection *c = self;
-    new_cid(c, cid, count);
+    cid->datalen = count;
+    random_bytes(cid->data, count);
+    name_connection(c, cid);
     return ngtcp2_crypto_generate_stateless_reset_token(token, c->server->secret, sizeof c->server->secret, cid) ? NGTCP2_ERR_CALLBACK_FAILURE : 0;
+}
+
+static int on_old_cid(ngtcp2_conn *quic, const ngtcp2_cid *cid, void *self) {
+    (void)quic;
+    unname_connection(self, cid);
+    return 0;
+}
+
+/* ---- what libngtcp2 0.12.1 would end the process for, beside guard.h */
+
+enum { ALERT_UNEXPECTED_MESSAGE = 10, ALERT_MISSING_EXTENSION = 109 }; /* of TLS */
+
+/* A ClientHello without transport parameters: libngtcp2 would fail an assertion at its first Handshake packet. RFC 9001, 8.2. */
+static int on_tx_key(ngtcp2_conn *quic, ngtcp2_crypto_level level, void *self) {
+    (void)level;
+    struct connection *c = self;
+    if (ngtcp2_conn_get_remote_transport_params(quic)) return 0;
+    c->alert = ALERT_MISSING_EXTENSION;
+    return NGTCP2_ERR_CALLBACK_FAILURE;
+}
+
+/* Behind the handshake a client has nothing to say in TLS. GnuTLS would act on a KeyUpdate, for which libngtcp2 would fail an assertion. RFC 9001, 6. */
+static int on_crypto(ngtcp2_conn *quic, ngtcp2_crypto_level level, uint64_t offset, const uint8_t *bytes, size_t count, void *self) {
+    if (level != NGTCP2_CRYPTO_LEVEL_APPLICATION && !ngtcp2_conn_get_handshake_completed(quic))
+        return ngtcp2_crypto_recv_crypto_data_cb(quic, level, offset, bytes, count, self);
+    ((struct connection *)self)->alert = ALERT_UNEXPECTED_MESSAGE;
+    return NGTCP2_ERR_CRYPTO;
+}
+
+static struct connection *reading; /* whose packet libngtcp2 reads: it does not tell when it has one decrypted */
+
+static int on_decrypt(uint8_t *to, const ngtcp2_crypto_aead *aead, const ngtcp2_crypto_aead_ctx *context, const uint8_t *from, size_t count,
+                      const uint8_t *nonce, size_t nonces, const uint8_t *head, size_t heads) {
+    int failed = ngtcp2_crypto_decrypt_cb(to, aead, context, from, count, nonce, nonces, head, heads);
+    bool is_long = head[0] & 0x80; /* those have no frame to guard against, or are not read */
+    if (!failed && !is_long) guard_frames(&reading->guard, to, count - aead->max_overhead);
+    return failed;
 }
 
 static const ngtcp2_callbacks callbacks = {
     .recv_client_initial = ngtcp2_crypto_recv_client_initial_cb,
-    .recv_crypto_data = ngtcp2_crypto_recv_crypto_data_cb,
+    .recv_crypto_data = on_crypto,
     .encrypt = ngtcp2_crypto_encrypt_cb,
-    .decrypt = ngtcp2_crypto_decrypt_cb,
+    .decrypt = on_decrypt,
     .hp_mask = ngtcp2_crypto_hp_mask_cb,
     .update_key = ngtcp2_crypto_update_key_cb,
     .delete_crypto_aead_ctx = ngtcp2_crypto_delete_crypto_aead_ctx_cb,
@@ -244,45 +271,51 @@ static const ngtcp2_callbacks callbacks = {
     .version_negotiation = ngtcp2_crypto_version_negotiation_cb,
     .rand = on_random,
     .get_new_connection_id = on_new_cid,
+    .remove_connection_id = on_old_cid,
     .handshake_completed = on_handshake,
+    .recv_tx_key = on_tx_key,
     .stream_open = on_open,
     .recv_stream_data = on_bytes,
     .stream_reset = on_reset,
     .stream_close = on_close,
+    .acked_stream_data_offset = on_taken,
     .extend_max_stream_data = on_grant,
 };
 
-/* ---- connections */
+/* ---- memory */
 
-static void count_held(struct connection *c) {
-    size_t held = c->over ? 0 : http_held(&c->http);
+static void *counted(struct connection *c, void *memory) {
+    if (memory) c->stack += malloc_usable_size(memory);
+    return memory;
+}
+
+static void *stack_malloc(size_t size, void *self) { return counted(self, malloc(size)); }
+
+static void *stack_calloc(size_t count, size_t size, void *self) { return counted(self, calloc(count, size)); }
+
+static void stack_free(void *memory, void *self) {
+    struct connection *c = self;
+    if (memory) c->stack -= malloc_usable_size(memory);
+    free(memory);
+}
+
+static void *stack_realloc(void *memory, size_t size, void *self) {
+    struct connection *c = self;
+    size_t before = memory ? malloc_usable_size(memory) : 0;
+    void *moved = realloc(memory, size);
+    if (moved) c->stack -= before;
+    return counted(c, moved);
+}
+
+void connection_count(struct connection *c) {
+    size_t held = c->stack + (c->quic && c->established ? http_held(&c->http) : 0);
     for (struct stream *s = c->streams; s; s = s->next)
-        for (struct chunk *k = s->first; k; k = k->next) held += k->count;
+        for (struct chunk *k = s->first; k; k = k->next) held += sizeof *k + k->count;
     c->server->held += held - c->held;
     c->held = held;
 }
 
-/* No event comes any more: what was kept for it is freed, also where its CONNECTION_CLOSE is still to be said again. */
-static void end_streams(struct connection *c) {
-    if (c->over) return;
-    c->over = true;
-    printf("connection over: %" PRIu64 " whole, %" PRIu64 " refused", c->http.whole, c->http.refused);
-    http_end(&c->http);
-    printf(", %zu request records taken\n", http_open_requests(&c->http));
-    while (c->streams) drop_stream(c, c->streams->id);
-    count_held(c);
-}
-
-static void forget(struct connection *c) {
-    end_streams(c);
-    ngtcp2_conn_del(c->quic);
-    gnutls_deinit(c->tls);
-    struct server *s = c->server;
-    s->connections[c->slot] = NULL;
-    while (s->top && !s->connections[s->top - 1]) s->top--;
-    free(c);
-    if (!s->top) malloc_trim(0); /* what a crowd took is given back when it is gone */
-}
+/* ---- a connection's life */
 
 static ngtcp2_conn *conn_of(ngtcp2_crypto_conn_ref *ref) {
     return ((struct connection *)ref->user_data)->quic;
@@ -295,11 +328,11 @@ static int begin_tls(struct connection *c) {
     if (gnutls_init(&c->tls, GNUTLS_SERVER | GNUTLS_NO_AUTO_SEND_TICKET | GNUTLS_NO_END_OF_EARLY_DATA)) return -1;
     c->ref = (ngtcp2_crypto_conn_ref){conn_of, c};
     gnutls_session_set_ptr(c->tls, &c->ref);
-    return gnutls_priority_set_direct(c->tls, ciphers, NULL) || gnutls_credentials_set(c->tls, GNUTLS_CRD_CERTIFICATE, c->server->certificate) ||
+    return gnutls_priority_set_direct(c->tls, ciphers, NULL) || gnutls_credentials_set(c->tls, GNUTLS_CRD_CERTIFICATE, certificate_now(&c->server->certificate)) ||
            gnutls_alpn_set_protocols(c->tls, &h3, 1, GNUTLS_ALPN_MANDATORY) || ngtcp2_crypto_gnutls_configure_server_session(c->tls);
 }
 
-static int begin_quic(struct connection *c, const ngtcp2_pkt_hd *head, const ngtcp2_path *path) {
+static int begin_quic(struct connection *c, const ngtcp2_pkt_hd *head, const ngtcp2_path *path, const ngtcp2_cid *original) {
     ngtcp2_settings settings;
     ngtcp2_settings_default(&settings);
     settings.initial_ts = now();
@@ -310,59 +343,99 @@ static int begin_quic(struct connection *c, const ngtcp2_pkt_hd *head, const ngt
     grant.initial_max_streams_bidi = REQUESTS_AT_ONCE;
     grant.initial_max_streams_uni = ONEWAYS_AT_ONCE;
     grant.max_idle_timeout = c->server->idle * NGTCP2_SECONDS;
+    grant.max_udp_payload_size = LARGEST;
+    grant.disable_active_migration = 1; /* see `receive` of server.c */
     grant.original_dcid = head->dcid;
-    ngtcp2_cid ours;
-    new_cid(c, &ours, CID_LENGTH);
-    if (ngtcp2_conn_server_new(&c->quic, &head->scid, &ours, path, head->version, &callbacks, &settings, &grant, NULL, c)) return -1;
+    if (original) {
+        grant.original_dcid = *original;
+        grant.retry_scid = head->dcid;
+        grant.retry_scid_present = 1;
+        settings.token = head->token;
+    }
+    ngtcp2_cid ours = {.datalen = CID_LENGTH};
+    random_bytes(ours.data, CID_LENGTH);
+    if (ngtcp2_conn_server_new(&c->quic, &head->scid, &ours, path, head->version, &callbacks, &settings, &grant, &c->memory, c)) return -1;
     ngtcp2_conn_set_tls_native_handle(c->quic, c->tls);
+    name_connection(c, &head->dcid);
+    name_connection(c, &ours);
     return 0;
 }
 
-/* ---- packets out */
-
-static void transmit(struct server *s, const ngtcp2_path *path, const uint8_t *packet, size_t count) {
-    /* A packet that the socket does not take is lost like any other. */
-    if (sendto(s->socket, packet, count, 0, path->remote.addr, path->remote.addrlen) < 0 && errno != EAGAIN) perror("sendto");
+static ngtcp2_path path_of(struct connection *c) {
+    struct address *here = &c->listener->here;
+    return (ngtcp2_path){.local = {&here->any, here->size}, .remote = {&c->from.any, c->from.size}};
 }
 
-/* The connection is closed from our side: with HTTP's code, or with what went wrong below it. */
-static void bid_farewell(struct connection *c, int error) {
+struct connection *connection_new(struct server *s, struct listener *at, const struct address *from, const ngtcp2_pkt_hd *head, const ngtcp2_cid *original) {
+    struct connection *c = must(calloc(1, sizeof *c));
+    *c = (struct connection){.server = s, .listener = at, .from = *from, .place = NO_PLACE, .guard = guard_new(), .moved = now()};
+    c->memory = (ngtcp2_mem){c, stack_malloc, stack_free, stack_calloc, stack_realloc};
+    ngtcp2_path path = path_of(c);
+    if (!begin_tls(c) && !begin_quic(c, head, &path, original)) return c;
+    connection_free(c);
+    return NULL;
+}
+
+/* No event comes any more: what was kept for it is freed, also where its CONNECTION_CLOSE is still to be said again. */
+static void end_quic(struct connection *c) {
+    if (c->quic && c->established) {
+        struct over *over = &c->server->over;
+        http_end(&c->http);
+        over->connections++;
+        over->whole += c->http.whole;
+        over->refused += c->http.refused;
+        over->taken += http_open_requests(&c->http);
+    }
+    if (c->quic) ngtcp2_conn_del(c->quic);
+    if (c->tls) gnutls_deinit(c->tls);
+    c->quic = NULL;
+    c->tls = NULL;
+    while (c->streams) drop_stream(c, c->streams->id); /* libngtcp2 goes before the bytes that it points to */
+    connection_count(c);
+}
+
+void connection_free(struct connection *c) {
+    end_quic(c);
+    while (c->names) unname_connection(c, &c->names->id);
+    free(c);
+}
+
+int connection_read(struct connection *c, const uint8_t *packet, size_t count) {
+    ngtcp2_path path = path_of(c);
+    ngtcp2_pkt_info info = {0};
+    reading = c;
+    int error = ngtcp2_conn_read_pkt(c->quic, &path, &info, packet, count, now());
+    reading = NULL;
+    connection_count(c);
+    return error;
+}
+
+/* ---- the end */
+
+ngtcp2_duration connection_close(struct connection *c, int error) {
     ngtcp2_connection_close_error why;
     ngtcp2_connection_close_error_default(&why);
     if (c->failed) ngtcp2_connection_close_error_set_application_error(&why, c->code, NULL, 0);
-    else if (error == NGTCP2_ERR_CRYPTO) ngtcp2_connection_close_error_set_transport_error_tls_alert(&why, ngtcp2_conn_get_tls_alert(c->quic), NULL, 0);
+    else if (error == NGTCP2_ERR_CRYPTO || c->alert)
+        ngtcp2_connection_close_error_set_transport_error_tls_alert(&why, c->alert ? c->alert : ngtcp2_conn_get_tls_alert(c->quic), NULL, 0);
     else ngtcp2_connection_close_error_set_transport_error_liberr(&why, error, NULL, 0);
-    ngtcp2_path_storage path;
-    ngtcp2_path_storage_zero(&path);
     ngtcp2_pkt_info info;
-    ngtcp2_ssize n = ngtcp2_conn_write_connection_close(c->quic, &path.path, &info, c->farewell, sizeof c->farewell, &why, now());
-    if (n <= 0) {
-        forget(c);
-        return;
-    }
-    transmit(c->server, &path.path, c->farewell, (size_t)n);
+    ngtcp2_ssize n = ngtcp2_conn_write_connection_close(c->quic, NULL, &info, c->farewell, sizeof c->farewell, &why, now());
+    ngtcp2_duration again = 3 * ngtcp2_conn_get_pto(c->quic);
+    end_quic(c);
+    if (n <= 0) return 0;
     c->farewell_count = (size_t)n;
-    c->forget = now() + 3 * ngtcp2_conn_get_pto(c->quic);
-    end_streams(c);
+    transmit(c->listener, &c->from, c->farewell, c->farewell_count);
+    return again;
 }
 
 /* Ever more seldom, and never much longer than what asks for it: who sends under another's address does not make us flood that one. */
-static void repeat_farewell(struct connection *c, const ngtcp2_path *path, size_t count) {
+void connection_close_again(struct connection *c, size_t count) {
     c->after++;
-    if ((c->after & (c->after - 1)) == 0 && c->farewell_count <= 3 * count) transmit(c->server, path, c->farewell, c->farewell_count);
+    if ((c->after & (c->after - 1)) == 0 && c->farewell_count <= 3 * count) transmit(c->listener, &c->from, c->farewell, c->farewell_count);
 }
 
-/* Where too much is kept in all, the connection that has the most of it is closed: the others are served on. */
-static void lighten(struct server *s) {
-    while (s->held > HELD_MOST) {
-        struct connection *most = NULL;
-        for (size_t i = 0; i < s->top; i++)
-            if (s->connections[i] && (!most || s->connections[i]->held > most->held)) most = s->connections[i];
-        gateway_note(s->gateway, "connection closed with 0x%04x, as it took the most memory", EISTULKO_EXCESSIVE_LOAD);
-        close_connection(most, EISTULKO_EXCESSIVE_LOAD);
-        bid_farewell(most, 0);
-    }
-}
+/* ---- packets out */
 
 static struct stream *next_to_send(struct connection *c) {
     struct stream *s = c->streams;
@@ -390,226 +463,64 @@ static size_t gather(const struct stream *s, ngtcp2_vec *pieces, size_t most, bo
     return n;
 }
 
-static void write_packets(struct connection *c) {
+int connection_write(struct connection *c, bool *more) {
     uint8_t packet[PACKET];
     ngtcp2_tstamp at = now();
-    for (int k = 0; k < PACKETS_A_TURN;) {
+    int k = 0;
+    while (k < PACKETS_A_TURN) {
         struct stream *s = next_to_send(c);
         ngtcp2_vec pieces[8];
         bool last = false;
         size_t n = s ? gather(s, pieces, 8, &last) : 0;
         uint32_t flags = NGTCP2_WRITE_STREAM_FLAG_MORE | (last ? NGTCP2_WRITE_STREAM_FLAG_FIN : 0);
-        ngtcp2_path_storage path;
-        ngtcp2_path_storage_zero(&path);
         ngtcp2_pkt_info info;
         ngtcp2_ssize took = -1;
-        ngtcp2_ssize count = ngtcp2_conn_writev_stream(c->quic, &path.path, &info, packet, sizeof packet, &took, flags, s ? s->id : -1, pieces, n, at);
+        ngtcp2_ssize count = ngtcp2_conn_writev_stream(c->quic, NULL, &info, packet, sizeof packet, &took, flags, s ? s->id : -1, pieces, n, at);
         if (s && took >= 0) advance(s, (size_t)took);
         if (count == NGTCP2_ERR_WRITE_MORE) continue;
         if (count == NGTCP2_ERR_STREAM_DATA_BLOCKED) s->blocked = true;
         else if (count == NGTCP2_ERR_STREAM_SHUT_WR || count == NGTCP2_ERR_STREAM_NOT_FOUND) s->done = true;
-        else if (count < 0) {
-            bid_farewell(c, (int)count);
-            return;
-        } else if (count == 0) break;
+        else if (count < 0) return (int)count;
+        else if (count == 0) break;
         else {
-            transmit(c->server, &path.path, packet, (size_t)count);
+            transmit(c->listener, &c->from, packet, (size_t)count);
             k++;
         }
     }
+    *more = k == PACKETS_A_TURN;
     ngtcp2_conn_update_pkt_tx_time(c->quic, at);
+    connection_count(c);
+    return 0;
 }
 
-/* ---- places */
+/* ---- time */
 
-/* Who gives way first: one that is closed already, then one without a handshake, which costs a client nothing. */
-static int rank(struct connection *c) {
-    if (c->farewell_count) return 0;
-    return ngtcp2_conn_get_handshake_completed(c->quic) ? 2 : 1;
+static ngtcp2_tstamp oldest(const struct connection *c, ngtcp2_tstamp none) {
+    ngtcp2_tstamp first = none;
+    for (const struct stream *s = c->streams; s; s = s->next)
+        if (ngtcp2_is_bidi_stream(s->id) && s->moved < first) first = s->moved;
+    return first;
 }
 
-static bool gives_way(struct connection *c, struct connection *other) {
-    return rank(c) != rank(other) ? rank(c) < rank(other) : c->heard < other->heard;
+ngtcp2_tstamp connection_progress(const struct connection *c) {
+    return connection_is_busy(c) ? oldest(c, UINT64_MAX) : c->moved;
 }
 
-/* Where every place is taken, the one heard of longest ago gives way: many idle connections keep no new client out. */
-static size_t free_slot(struct server *s) {
-    size_t least = 0;
-    for (size_t i = 0; i < CONNECTIONS; i++) {
-        if (!s->connections[i]) return i;
-        if (gives_way(s->connections[i], s->connections[least])) least = i;
-    }
-    if (rank(s->connections[least]) == 2) {
-        close_connection(s->connections[least], EISTULKO_EXCESSIVE_LOAD);
-        bid_farewell(s->connections[least], 0);
-    }
-    if (s->connections[least]) forget(s->connections[least]);
-    return least;
+bool connection_is_busy(const struct connection *c) { return oldest(c, UINT64_MAX) != UINT64_MAX; }
+
+/* When a request or an answer of it must have moved on. */
+static ngtcp2_tstamp deadline(const struct connection *c) {
+    ngtcp2_tstamp first = oldest(c, UINT64_MAX);
+    return first == UINT64_MAX ? first : first + c->server->patience * NGTCP2_SECONDS;
 }
 
-static struct connection *accept_one(struct server *s, const ngtcp2_pkt_hd *head, const ngtcp2_path *path) {
-    size_t slot = free_slot(s);
-    struct connection *c = must(calloc(1, sizeof *c));
-    *c = (struct connection){.server = s, .slot = slot, .first = head->dcid};
-    if (begin_tls(c) || begin_quic(c, head, path)) {
-        if (c->tls) gnutls_deinit(c->tls);
-        free(c);
-        return NULL;
-    }
-    http_begin(&c->http, (struct stack){c, open_oneway, send_bytes, refuse_stream, close_connection}, s->gateway);
-    s->connections[slot] = c;
-    if (s->top <= slot) s->top = slot + 1;
-    return c;
+ngtcp2_tstamp connection_timer(const struct connection *c) {
+    ngtcp2_tstamp stack = ngtcp2_conn_get_expiry(c->quic), ours = deadline(c);
+    return stack < ours ? stack : ours;
 }
 
-/* ---- packets in */
-
-/* Whether the ID is one that we gave this connection: a new client's own may begin like one. */
-static bool is_its_own(struct connection *c, const ngtcp2_version_cid *to) {
-    ngtcp2_cid *ours = must(calloc(ngtcp2_conn_get_num_scid(c->quic) + 1, sizeof *ours));
-    size_t n = ngtcp2_conn_get_scid(c->quic, ours), i = 0;
-    while (i < n && (ours[i].datalen != to->dcidlen || memcmp(ours[i].data, to->dcid, to->dcidlen))) i++;
-    free(ours);
-    return i < n;
-}
-
-static struct connection *addressee(struct server *s, const ngtcp2_version_cid *to) {
-    size_t slot = to->dcidlen == CID_LENGTH ? (size_t)to->dcid[0] << 8 | to->dcid[1] : CONNECTIONS;
-    struct connection *c = slot < s->top ? s->connections[slot] : NULL;
-    if (c && is_its_own(c, to)) return c;
-    for (size_t i = 0; i < s->top; i++) {
-        c = s->connections[i];
-        if (c && c->first.datalen == to->dcidlen && !memcmp(c->first.data, to->dcid, to->dcidlen)) return c;
-    }
-    return NULL;
-}
-
-static void say_versions(struct server *s, const ngtcp2_version_cid *to, const ngtcp2_path *path) {
-    const uint32_t versions[] = {NGTCP2_PROTO_VER_V1};
-    uint8_t packet[256], any;
-    random_bytes(&any, 1);
-    ngtcp2_ssize n = ngtcp2_pkt_write_version_negotiation(packet, sizeof packet, any, to->scid, to->scidlen, to->dcid, to->dcidlen, versions, 1);
-    if (n > 0) transmit(s, path, packet, (size_t)n);
-}
-
-static void receive(struct server *s, const uint8_t *packet, size_t count, struct sockaddr_in *from) {
-    ngtcp2_path path = {.local = {(ngtcp2_sockaddr *)&s->here, sizeof s->here}, .remote = {(ngtcp2_sockaddr *)from, sizeof *from}};
-    ngtcp2_version_cid to;
-    int error = ngtcp2_pkt_decode_version_cid(&to, packet, count, CID_LENGTH);
-    if (error == NGTCP2_ERR_VERSION_NEGOTIATION) say_versions(s, &to, &path);
-    if (error) return;
-    struct connection *c = addressee(s, &to);
-    if (!c) {
-        ngtcp2_pkt_hd head;
-        if (s->draining || ngtcp2_accept(&head, packet, count)) return;
-        c = accept_one(s, &head, &path);
-        if (!c) return;
-    }
-    if (c->farewell_count) {
-        repeat_farewell(c, &path, count);
-        return;
-    }
-    ngtcp2_pkt_info info = {0};
-    c->heard = now();
-    error = ngtcp2_conn_read_pkt(c->quic, &path, &info, packet, count, c->heard);
-    count_held(c);
-    if (error == NGTCP2_ERR_DRAINING || error == NGTCP2_ERR_DROP_CONN) forget(c);
-    else if (error || c->failed) bid_farewell(c, error);
-    lighten(s);
-}
-
-/* ---- turns */
-
-static void each_timer(struct connection *c, ngtcp2_tstamp at) {
-    if (c->farewell_count) {
-        if (c->forget <= at) forget(c);
-        return;
-    }
-    if (ngtcp2_conn_get_expiry(c->quic) <= at) {
-        int error = ngtcp2_conn_handle_expiry(c->quic, at);
-        if (error == NGTCP2_ERR_IDLE_CLOSE || error == NGTCP2_ERR_HANDSHAKE_TIMEOUT) {
-            forget(c);
-            return;
-        }
-        if (error) {
-            bid_farewell(c, error);
-            return;
-        }
-    }
-    write_packets(c);
-}
-
-static int until_timer(struct server *s, int most_ms) {
-    ngtcp2_tstamp first = UINT64_MAX, at = now();
-    for (size_t i = 0; i < s->top; i++) {
-        struct connection *c = s->connections[i];
-        if (!c) continue;
-        ngtcp2_tstamp t = c->farewell_count ? c->forget : ngtcp2_conn_get_expiry(c->quic);
-        if (t < first) first = t;
-    }
-    if (first <= at) return 0;
-    uint64_t ms = (first - at) / NGTCP2_MILLISECONDS + 1;
-    return ms < (uint64_t)most_ms ? (int)ms : most_ms;
-}
-
-uint64_t server_ms(void) { return now() / NGTCP2_MILLISECONDS; }
-
-void server_turn(struct server *s, int most_ms) {
-    struct pollfd in = {.fd = s->socket, .events = POLLIN};
-    poll(&in, 1, until_timer(s, most_ms));
-    ngtcp2_tstamp until = now() + READING_A_TURN;
-    for (int k = 0; k < PACKETS_A_TURN && now() < until; k++) {
-        static uint8_t packet[65536];
-        struct sockaddr_in from;
-        socklen_t size = sizeof from;
-        ssize_t n = recvfrom(s->socket, packet, sizeof packet, 0, (struct sockaddr *)&from, &size);
-        if (n < 0) break;
-        if (n) receive(s, packet, (size_t)n, &from); /* an empty one is nothing, and others may wait behind it */
-    }
+int connection_expire(struct connection *c) {
     ngtcp2_tstamp at = now();
-    for (size_t i = 0; i < s->top; i++)
-        if (s->connections[i]) each_timer(s->connections[i], at);
-}
-
-int server_open(struct server *s, uint16_t port) {
-    socklen_t size = sizeof s->here;
-    s->here = (struct sockaddr_in){.sin_family = AF_INET, .sin_port = htons(port), .sin_addr.s_addr = htonl(INADDR_LOOPBACK)};
-    s->socket = socket(AF_INET, SOCK_DGRAM | SOCK_NONBLOCK | SOCK_CLOEXEC, 0);
-    if (s->socket < 0 || bind(s->socket, (struct sockaddr *)&s->here, sizeof s->here)) return -1;
-    random_bytes(s->secret, sizeof s->secret);
-    return getsockname(s->socket, (struct sockaddr *)&s->here, &size);
-}
-
-void server_drain(struct server *s) {
-    s->draining = 1;
-    for (size_t i = 0; i < s->top; i++)
-        if (s->connections[i]) http_drain(&s->connections[i]->http);
-}
-
-/* A request is open, or an answer was not taken yet by the client. */
-static bool is_busy(const struct connection *c) {
-    const struct stream *s = c->streams;
-    while (s && !ngtcp2_is_bidi_stream(s->id)) s = s->next;
-    return c->http.requests || s;
-}
-
-int server_is_idle(struct server *s) {
-    for (size_t i = 0; i < s->top; i++) {
-        struct connection *c = s->connections[i];
-        if (c && !c->farewell_count && is_busy(c)) return 0;
-    }
-    return 1;
-}
-
-void server_close(struct server *s) {
-    for (size_t i = 0; i < s->top; i++) {
-        struct connection *c = s->connections[i];
-        if (!c) continue;
-        if (rank(c) == 2) {
-            close_connection(c, H3_NO_ERROR);
-            bid_farewell(c, 0);
-        }
-        if (s->connections[i]) forget(c);
-    }
-    close(s->socket);
+    if (deadline(c) <= at) connection_fail(c, EISTULKO_EXCESSIVE_LOAD);
+    return ngtcp2_conn_get_expiry(c->quic) <= at ? ngtcp2_conn_handle_expiry(c->quic, at) : 0;
 }

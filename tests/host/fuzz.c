@@ -370,29 +370,30 @@ static void end_all(struct run *r) {
 }
 
 static bool is_known(const char *text) {
+    if (*text >= '1' && *text <= '9') return strstr(text, " lines left out") != NULL;
     static const char *known[] = {"request refused with 0x", "connection closed with 0x", "settings of ", "request lost with its connection"};
     for (size_t i = 0; i < sizeof known / sizeof *known; i++)
         if (!strncmp(text, known[i], strlen(known[i]))) return true;
     return false;
 }
 
-/* The log has whole lines of the known kinds alone. */
-static void check_log(void) {
+/* A file has whole lines of the known kinds alone. */
+static void check_lines(int file) {
     static char log[1 << 16];
-    ssize_t n = pread(gateway.log, log, sizeof log - 1, 0);
+    ssize_t n = pread(file, log, sizeof log - 1, 0);
     HOLDS(n >= 0);
     log[n] = 0;
     HOLDS((size_t)n == strlen(log));
     char *rest = NULL;
     for (char *line = strtok_r(log, "\n", &rest); line; line = strtok_r(NULL, "\n", &rest))
         HOLDS(n == sizeof log - 1 || (strlen(line) > 21 && line[19] == 'Z' && is_known(line + 21)));
-    HOLDS(!ftruncate(gateway.log, 0));
+    HOLDS(!ftruncate(file, 0));
 }
 
 /* A folder for this process, in the one that the runner gives and takes away. */
 static void begin_folder(void) {
     static char folder[4096];
-    if (gateway.log) return;
+    if (gateway.folder) return;
     const char *in = getenv("FUZZ_FOLDER");
     snprintf(folder, sizeof folder, "%s/XXXXXX", in ? in : "/dev/shm");
     HOLDS(mkdtemp(folder) && !gateway_open(&gateway, folder));
@@ -412,7 +413,8 @@ int LLVMFuzzerTestOneInput(const uint8_t *data, size_t count) {
     if (count & 1) end_all(r);
     http_end(r->http);
     check_settings(r, NULL);
-    check_log();
+    check_lines(gateway.log.file);
+    check_lines(gateway.refused.file);
     for (size_t i = 0; i < STREAMS; i++) {
         bytes_free(&r->requests[i].bytes);
         bytes_free(&r->oneways[i].bytes);

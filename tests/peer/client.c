@@ -313,6 +313,10 @@ static bool open_socket(client *c, uint16_t port) {
     c->remote.sin_addr.s_addr = htonl(INADDR_LOOPBACK);
     c->socket = socket(AF_INET, SOCK_DGRAM | SOCK_NONBLOCK | SOCK_CLOEXEC, 0);
     if (c->socket < 0) return false;
+#ifdef CLIENT_SOURCE /* the address that it comes from, where a test wants another than the system's choice */
+    struct sockaddr_in source = {.sin_family = AF_INET, .sin_addr.s_addr = htonl(CLIENT_SOURCE)};
+    if (bind(c->socket, (struct sockaddr *)&source, sizeof source)) return false;
+#endif
     if (connect(c->socket, (struct sockaddr *)&c->remote, sizeof c->remote)) return false;
     socklen_t length = sizeof c->local;
     return getsockname(c->socket, (struct sockaddr *)&c->local, &length) == 0;

@@ -115,10 +115,15 @@ static told read_said(bool *stopped) {
             *stopped = true;
             continue;
         }
-        sscanf(line, "connection over: %" SCNu64 " whole, %" SCNu64 " refused, %zu request records taken%n", &whole, &refused, &taken, &end);
-        if (!end || line[end]) fail("the gateway said: %s\n%s", line, rest);
+        size_t many = 1;
+        char *over = line;
+        if (*line >= '0' && *line <= '9') many = strtoul(line, &over, 10); /* a line for several, where there would be too many */
+        sscanf(over, many == 1 ? "connection over: %" SCNu64 " whole, %" SCNu64 " refused, %zu request records taken%n"
+                               : " connections over: %" SCNu64 " whole, %" SCNu64 " refused, %zu request records taken%n", &whole, &refused, &taken, &end);
+        end += (int)(over - line);
+        if (end == (int)(over - line) || line[end]) fail("the gateway said: %s\n%s", line, rest);
         if (taken) fail("%zu request records are still taken after a connection's end", taken);
-        t.connections++;
+        t.connections += many;
         t.whole += whole;
         t.refused += refused;
     }
