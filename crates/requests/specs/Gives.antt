@@ -4,11 +4,13 @@ use Prim.Native.Nat.{ℕ, zero, suc, _≤_, _<_}
 use native.Mathlib.Omega.{arith}
 use mathlib.Core.List.{List, []}
 use mathlib.Core.Bool.{Bool, true, false}
+use mathlib.Core.Logic.{⊎-elim}
 use lib.Dec.{eqb, lit≤}
 use borrow.Author.Tests.{eqb-true, eqb-false}
 use Rattle.rules.specs.Block.{Section, Lines, unreadable, readable, lines}
 use Rattle.rules.specs.Reading.{header-section, trailers, Next, stop, go}
 use Rattle.rules.specs.Section.{Reason, Judgement, Head, codeOf as section-code}
+use Rattle.section.specs.Answer.{two-codes}
 use Rattle.rules.specs.Section as section
 use Rattle.rules.specs.Message.{Message, Step, goes, refuses, heads, trails}
 use Rattle.rules.specs.Request.{document, header-by, trailer-by, next-of, headed-by, trailed-by, given as next-given}
@@ -36,31 +38,7 @@ use Rattle.requests.specs.Feeds.{due-not}
 -- ---- a section is refused with a code of the protocol
 
 section-high : (x : Reason) → 0x0103 ≤ section-code x
-unfolding section-code
-section-high section.too-large = lit≤ tt
-section-high section.bad-bytes = lit≤ tt
-section-high section.unknown-pseudo = lit≤ tt
-section-high section.repeated-pseudo = lit≤ tt
-section-high section.late-pseudo = lit≤ tt
-section-high section.pseudo-in-trailers = lit≤ tt
-section-high section.connection-field = lit≤ tt
-section-high section.other-te = lit≤ tt
-section-high section.bad-method = lit≤ tt
-section-high section.no-method = lit≤ tt
-section-high section.repeated-length = lit≤ tt
-section-high section.length-in-trailers = lit≤ tt
-section-high section.no-digits = lit≤ tt
-section-high section.length-above = lit≤ tt
-section-high section.repeated-host = lit≤ tt
-section-high section.connect = lit≤ tt
-section-high section.no-scheme-or-path = lit≤ tt
-section-high section.other-scheme = lit≤ tt
-section-high section.bad-path = lit≤ tt
-section-high section.no-authority = lit≤ tt
-section-high section.empty-authority = lit≤ tt
-section-high section.authorities-differ = lit≤ tt
-section-high section.at-in-authority = lit≤ tt
-section-high section.length-past-limit = lit≤ tt
+section-high x = ⊎-elim (λ e. rw e (lit≤ tt)) (λ e. rw e (lit≤ tt)) (two-codes x)
 
 abbrev High : Next Message → Type 0
 High (stop code) = 0x0103 ≤ code
