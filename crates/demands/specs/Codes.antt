@@ -3,6 +3,7 @@ use mathlib.Core.Path.{_≡_, refl, sym, ap, _∙_, subst}
 use Prim.Native.Nat.{ℕ}
 use mathlib.Core.List.{List, [], _∷_}
 use mathlib.Core.Bool.{Bool, true, false}
+use mathlib.Core.Logic.{⊎-elim}
 use Rattle.rules.specs.Numbers.{Code, of-stream, of-connection, ConnectionFault, stream-creation-error, codeNumber, coded}
 use Rattle.rules.specs.Text.{isOneOf}
 use Rattle.rules.specs.Reading.{Kept, Ruling}
@@ -16,6 +17,7 @@ use Rattle.meaning.specs.Feed as F
 use Rattle.meaning.specs.FeedUses.{Uses, RulesWithin, JudgesWithin, StateWithin, OutcomeWithin, feed-within}
 use Rattle.meaning.specs.TextLaws.{lookup-view}
 use Rattle.meaning.specs.OneWayFeed as O
+use Rattle.section.specs.Answer.{two-codes}
 use Rattle.control.specs.Codes.{judged-within}
 use Rattle.demands.specs.Streams.{streamCode, connCode}
 
@@ -49,31 +51,7 @@ any-state (M.due t p) = tt
 
 -- A SECTION that is refused by document 01's rules is a stream's fault
 pub section-of-stream : (r : S.Reason) → OfStream (S.codeOf r)
-unfolding S.codeOf
-section-of-stream S.too-large = tt
-section-of-stream S.bad-bytes = tt
-section-of-stream S.unknown-pseudo = tt
-section-of-stream S.repeated-pseudo = tt
-section-of-stream S.late-pseudo = tt
-section-of-stream S.pseudo-in-trailers = tt
-section-of-stream S.connection-field = tt
-section-of-stream S.other-te = tt
-section-of-stream S.bad-method = tt
-section-of-stream S.no-method = tt
-section-of-stream S.repeated-length = tt
-section-of-stream S.length-in-trailers = tt
-section-of-stream S.no-digits = tt
-section-of-stream S.length-above = tt
-section-of-stream S.repeated-host = tt
-section-of-stream S.connect = tt
-section-of-stream S.no-scheme-or-path = tt
-section-of-stream S.other-scheme = tt
-section-of-stream S.bad-path = tt
-section-of-stream S.no-authority = tt
-section-of-stream S.empty-authority = tt
-section-of-stream S.authorities-differ = tt
-section-of-stream S.at-in-authority = tt
-section-of-stream S.length-past-limit = tt
+section-of-stream r = ⊎-elim (λ e. subst OfStream (sym e) tt) (λ e. subst OfStream (sym e) tt) (two-codes r)
 
 -- ---- a one-way stream
 

@@ -80,40 +80,20 @@ use Rattle.settings.proofs.judge as settings-judge
 use Rattle.settings.proofs.judge.Symbol as settings-judge-is
 use Rattle.settings.proofs.only as settings-only
 use Rattle.settings.proofs.only.Symbol as settings-only-is
-use Rattle.fields.proofs.is_in as fields-is-in
-use Rattle.fields.proofs.is_in.Symbol as fields-is-in-is
-use Rattle.fields.proofs.is_name as fields-is-name
-use Rattle.fields.proofs.is_name.Symbol as fields-is-name-is
-use Rattle.fields.proofs.is_token as fields-is-token
-use Rattle.fields.proofs.is_token.Symbol as fields-is-token-is
-use Rattle.fields.proofs.is_value as fields-is-value
-use Rattle.fields.proofs.is_value.Symbol as fields-is-value-is
-use Rattle.fields.proofs.is_digit as fields-is-digit
-use Rattle.fields.proofs.is_digit.Symbol as fields-is-digit-is
-use Rattle.fields.proofs.is_blank as fields-is-blank
-use Rattle.fields.proofs.is_blank.Symbol as fields-is-blank-is
-use Rattle.fields.proofs.any_byte as fields-any-byte
-use Rattle.fields.proofs.any_byte.Symbol as fields-any-byte-is
-use Rattle.fields.proofs.all_in as fields-all-in
-use Rattle.fields.proofs.all_in.Symbol as fields-all-in-is
-use Rattle.fields.proofs.begins_so as fields-begins-so
-use Rattle.fields.proofs.begins_so.Symbol as fields-begins-so-is
-use Rattle.fields.proofs.ends_so as fields-ends-so
-use Rattle.fields.proofs.ends_so.Symbol as fields-ends-so-is
+use Rattle.fields.proofs.has_byte as fields-has-byte
+use Rattle.fields.proofs.has_byte.Symbol as fields-has-byte-is
+use Rattle.fields.proofs.begins_with as fields-begins-with
+use Rattle.fields.proofs.begins_with.Symbol as fields-begins-with-is
 use Rattle.fields.proofs.same_bytes as fields-same-bytes
 use Rattle.fields.proofs.same_bytes.Symbol as fields-same-bytes-is
-use Rattle.fields.proofs.bad_name as fields-bad-name
-use Rattle.fields.proofs.bad_name.Symbol as fields-bad-name-is
-use Rattle.fields.proofs.bad_value as fields-bad-value
-use Rattle.fields.proofs.bad_value.Symbol as fields-bad-value-is
+use Rattle.fields.proofs.any_outside as fields-any-outside
+use Rattle.fields.proofs.any_outside.Symbol as fields-any-outside-is
 use Rattle.fields.proofs.bad_line as fields-bad-line
 use Rattle.fields.proofs.bad_line.Symbol as fields-bad-line-is
 use Rattle.fields.proofs.decimal_of as fields-decimal-of
 use Rattle.fields.proofs.decimal_of.Symbol as fields-decimal-of-is
 use Rattle.fields.proofs.line_at as fields-line-at
 use Rattle.fields.proofs.line_at.Symbol as fields-line-at-is
-use Rattle.fields.proofs.readable as fields-readable
-use Rattle.fields.proofs.readable.Symbol as fields-readable-is
 use Rattle.fields.proofs.classes.Symbol as fields-classes-is
 use Rattle.section.proofs.code as section-code
 use Rattle.section.proofs.code.Symbol as section-code-is
@@ -342,23 +322,13 @@ module _ (w : World) where
 
   abbrev of-fields : List Function
   of-fields =
-      function fields-is-in-is.name fields-is-in.ended (fields-is-in.clauses (w .𝓤) (w .H) (w .𝓖 .A) (w .𝓜 .mem) (w .𝓡 .run)) (λ κs a g r q ws vs. equal)
-      ∷ function fields-is-name-is.name fields-is-name.ended (fields-is-name.clauses (w .𝓤) (w .H) (w .𝓖 .A) (w .𝓜 .mem) (w .𝓡 .run)) (λ κs a g r q ws vs. equal)
-      ∷ function fields-is-token-is.name fields-is-token.ended (fields-is-token.clauses (w .𝓤) (w .H) (w .𝓖 .A) (w .𝓜 .mem) (w .𝓡 .run)) (λ κs a g r q ws vs. equal)
-      ∷ function fields-is-value-is.name fields-is-value.ended (fields-is-value.clauses (w .𝓤) (w .H) (w .𝓖 .A) (w .𝓜 .mem) (w .𝓡 .run)) (λ κs a g r q ws vs. equal)
-      ∷ function fields-is-digit-is.name fields-is-digit.ended (fields-is-digit.clauses (w .𝓤) (w .H) (w .𝓖 .A) (w .𝓜 .mem) (w .𝓡 .run)) (λ κs a g r q ws vs. equal)
-      ∷ function fields-is-blank-is.name fields-is-blank.ended (fields-is-blank.clauses (w .𝓤) (w .H) (w .𝓖 .A) (w .𝓜 .mem) (w .𝓡 .run)) (λ κs a g r q ws vs. equal)
-      ∷ function fields-any-byte-is.name fields-any-byte.ended (fields-any-byte.clauses (w .𝓤) (w .H) (w .𝓖 .A) (w .𝓜 .mem) (w .𝓡 .run)) (λ κs a g r q ws vs. equal)
-      ∷ function fields-all-in-is.name fields-all-in.ended (fields-all-in.clauses (w .𝓤) (w .H) (w .𝓖 .A) (w .𝓜 .mem) (w .𝓡 .run)) (λ κs a g r q ws vs. equal)
-      ∷ function fields-begins-so-is.name fields-begins-so.ended (fields-begins-so.clauses (w .𝓤) (w .H) (w .𝓖 .A) (w .𝓜 .mem) (w .𝓡 .run)) (λ κs a g r q ws vs. equal)
-      ∷ function fields-ends-so-is.name fields-ends-so.ended (fields-ends-so.clauses (w .𝓤) (w .H) (w .𝓖 .A) (w .𝓜 .mem) (w .𝓡 .run)) (λ κs a g r q ws vs. equal)
+      function fields-has-byte-is.name fields-has-byte.ended (fields-has-byte.clauses (w .𝓤) (w .H) (w .𝓖 .A) (w .𝓜 .mem) (w .𝓡 .run)) (λ κs a g r q ws vs. equal)
+      ∷ function fields-begins-with-is.name fields-begins-with.ended (fields-begins-with.clauses (w .𝓤) (w .H) (w .𝓖 .A) (w .𝓜 .mem) (w .𝓡 .run)) (λ κs a g r q ws vs. equal)
       ∷ function fields-same-bytes-is.name fields-same-bytes.ended (fields-same-bytes.clauses (w .𝓤) (w .H) (w .𝓖 .A) (w .𝓜 .mem) (w .𝓡 .run)) (λ κs a g r q ws vs. equal)
-      ∷ function fields-bad-name-is.name fields-bad-name.ended (fields-bad-name.clauses (w .𝓤) (w .H) (w .𝓖 .A) (w .𝓜 .mem) (w .𝓡 .run)) (λ κs a g r q ws vs. equal)
-      ∷ function fields-bad-value-is.name fields-bad-value.ended (fields-bad-value.clauses (w .𝓤) (w .H) (w .𝓖 .A) (w .𝓜 .mem) (w .𝓡 .run)) (λ κs a g r q ws vs. equal)
+      ∷ function fields-any-outside-is.name fields-any-outside.ended (fields-any-outside.clauses (w .𝓤) (w .H) (w .𝓖 .A) (w .𝓜 .mem) (w .𝓡 .run)) (λ κs a g r q ws vs. equal)
       ∷ function fields-bad-line-is.name fields-bad-line.ended (fields-bad-line.clauses (w .𝓤) (w .H) (w .𝓖 .A) (w .𝓜 .mem) (w .𝓡 .run)) (λ κs a g r q ws vs. equal)
       ∷ function fields-decimal-of-is.name fields-decimal-of.ended (fields-decimal-of.clauses (w .𝓤) (w .H) (w .𝓖 .A) (w .𝓜 .mem) (w .𝓡 .run)) (λ κs a g r q ws vs. equal)
       ∷ function fields-line-at-is.name fields-line-at.ended (fields-line-at.clauses (w .𝓤) (w .H) (w .𝓖 .A) (w .𝓜 .mem) (w .𝓡 .run)) (λ κs a g r q ws vs. equal)
-      ∷ function fields-readable-is.name fields-readable.ended (fields-readable.clauses (w .𝓤) (w .H) (w .𝓖 .A) (w .𝓜 .mem) (w .𝓡 .run)) (λ κs a g r q ws vs. equal)
       ∷ []
 
   abbrev of-section : List Function
@@ -458,7 +428,7 @@ module _ (w : World) where
   functions = of-varint ++ (of-ids ++ (of-wire ++ (of-settings ++ (of-fields ++ (of-section ++ (of-streams ++ (of-record ++ (of-given ++ (of-oneway ++ (of-control ++ (of-requests ++ (of-doors ++ (of-oneways ++ (of-connection ++ (of-board)))))))))))))))
 
   pub listed : _≡_ {A = List Name} (map (λ (f : Function). f .name) functions)
-      ("varint::fresh" ∷ "varint::read_step" ∷ "varint::ends" ∷ "varint::value" ∷ "varint::read" ∷ "varint::size" ∷ "varint::put" ∷ "varint::write" ∷ "ids::is_request" ∷ "ids::is_one_way" ∷ "wire::write_header" ∷ "wire::write_integer_frame" ∷ "wire::write_opening" ∷ "wire::write_goaway" ∷ "settings::judge" ∷ "settings::only" ∷ "fields::is_in" ∷ "fields::is_name" ∷ "fields::is_token" ∷ "fields::is_value" ∷ "fields::is_digit" ∷ "fields::is_blank" ∷ "fields::any_byte" ∷ "fields::all_in" ∷ "fields::begins_so" ∷ "fields::ends_so" ∷ "fields::same_bytes" ∷ "fields::bad_name" ∷ "fields::bad_value" ∷ "fields::bad_line" ∷ "fields::decimal_of" ∷ "fields::line_at" ∷ "fields::readable" ∷ "section::code" ∷ "section::header_section" ∷ "section::trailers" ∷ "streams::ruled" ∷ "streams::end" ∷ "record::cells_in" ∷ "record::free" ∷ "record::is_free" ∷ "record::read" ∷ "record::row" ∷ "record::write" ∷ "record::in_content" ∷ "given::give" ∷ "oneway::close" ∷ "control::judge" ∷ "requests::reset" ∷ "requests::end" ∷ "requests::feed" ∷ "requests::give" ∷ "doors::fresh" ∷ "doors::open" ∷ "doors::send_goaway" ∷ "oneways::fresh" ∷ "oneways::feed" ∷ "oneways::give" ∷ "oneways::close" ∷ "connection::fresh" ∷ "connection::wanted" ∷ "connection::answer" ∷ "connection::decide" ∷ "connection::begin" ∷ "connection::swept" ∷ "connection::say_goaway" ∷ "board::step" ∷ "board::eistulko_start" ∷ "board::eistulko_open" ∷ "board::eistulko_feed" ∷ "board::eistulko_give" ∷ "board::eistulko_end" ∷ "board::eistulko_reset" ∷ "board::eistulko_goaway" ∷ "board::eistulko_write_header" ∷ "board::eistulko_write_integer_frame" ∷ "board::eistulko_write_opening" ∷ "board::eistulko_connection_size" ∷ "board::eistulko_record_size" ∷ "board::eistulko_report_size" ∷ "board::eistulko_written_size" ∷ [])
+      ("varint::fresh" ∷ "varint::read_step" ∷ "varint::ends" ∷ "varint::value" ∷ "varint::read" ∷ "varint::size" ∷ "varint::put" ∷ "varint::write" ∷ "ids::is_request" ∷ "ids::is_one_way" ∷ "wire::write_header" ∷ "wire::write_integer_frame" ∷ "wire::write_opening" ∷ "wire::write_goaway" ∷ "settings::judge" ∷ "settings::only" ∷ "fields::has_byte" ∷ "fields::begins_with" ∷ "fields::same_bytes" ∷ "fields::any_outside" ∷ "fields::bad_line" ∷ "fields::decimal_of" ∷ "fields::line_at" ∷ "section::code" ∷ "section::header_section" ∷ "section::trailers" ∷ "streams::ruled" ∷ "streams::end" ∷ "record::cells_in" ∷ "record::free" ∷ "record::is_free" ∷ "record::read" ∷ "record::row" ∷ "record::write" ∷ "record::in_content" ∷ "given::give" ∷ "oneway::close" ∷ "control::judge" ∷ "requests::reset" ∷ "requests::end" ∷ "requests::feed" ∷ "requests::give" ∷ "doors::fresh" ∷ "doors::open" ∷ "doors::send_goaway" ∷ "oneways::fresh" ∷ "oneways::feed" ∷ "oneways::give" ∷ "oneways::close" ∷ "connection::fresh" ∷ "connection::wanted" ∷ "connection::answer" ∷ "connection::decide" ∷ "connection::begin" ∷ "connection::swept" ∷ "connection::say_goaway" ∷ "board::step" ∷ "board::eistulko_start" ∷ "board::eistulko_open" ∷ "board::eistulko_feed" ∷ "board::eistulko_give" ∷ "board::eistulko_end" ∷ "board::eistulko_reset" ∷ "board::eistulko_goaway" ∷ "board::eistulko_write_header" ∷ "board::eistulko_write_integer_frame" ∷ "board::eistulko_write_opening" ∷ "board::eistulko_connection_size" ∷ "board::eistulko_record_size" ∷ "board::eistulko_report_size" ∷ "board::eistulko_written_size" ∷ [])
   listed = refl
 
   -- ---- and those that do not

@@ -7,16 +7,13 @@ use Rattle.rules.specs.Text.{all}
 use Rattle.rules.specs.Classes.{isName, isToken, isValue, isDigit, isBlank}
 use Rattle.rules.specs.Section.{isEmpty, begins, ends}
 use Rattle.fields.specs.declared.Class.{Class}
-use Rattle.fields.specs.declared.Class.the-variants.{Name, Token, Value, Digit, Blank}
-use Rattle.fields.specs.declared.Byte.{Byte}
-use Rattle.fields.specs.declared.Byte.the-variants.{Is, In, Outside}
+use Rattle.fields.specs.declared.Class.the-variants.{Name, Token, Value, Digit}
 
 abbrev pub isIn : Class → ℕ → Bool
 isIn Name = isName
 isIn Token = isToken
 isIn Value = isValue
 isIn Digit = isDigit
-isIn Blank = isBlank
 
 -- the class's bit in the table
 abbrev pub maskOf : Class → ℕ
@@ -24,12 +21,9 @@ maskOf Name = 1
 maskOf Token = 2
 maskOf Value = 4
 maskOf Digit = 8
-maskOf Blank = 16
 
-abbrev pub passesByte : Byte → ℕ → Bool
-passesByte (Is x) = eqb x
-passesByte (In c) = isIn c
-passesByte (Outside c) = λ b. not (isIn c b)
+abbrev pub outside : Class → ℕ → Bool
+outside c b = not (isIn c b)
 
 -- a field line's checks, on the bytes of its name and of its value
 unfoldable pub badNameBytes : List ℕ → Bool

@@ -11,40 +11,39 @@ use Rattle.rules.specs.Classes.{isName, isBlank}
 use Rattle.rules.specs.Section.{isEmpty, begins, ends}
 use Rattle.fields.specs.declared.Class.{Class}
 use Rattle.fields.specs.declared.Class.the-variants.{Name, Value}
-use Rattle.fields.specs.declared.Byte.the-variants.{Outside}
-use Rattle.fields.specs.Bytes.{isIn, passesByte, badNameBytes, badValueBytes}
+use Rattle.fields.specs.Bytes.{isIn, outside, badNameBytes, badValueBytes}
 use Rattle.fields.specs.Laws.{any-here, all-by-any, empty-is}
 use Rattle.fields.specs.Table.{marked, allRight, right-at, right-in}
 
 module _ (table : List ℕ) (t : T (allRight table)) (class : Class) (v : List ℕ) (i : ℕ) (h : i < length v) (byte : getD v i 0 < 256) where
   here : (r : Bool) → r ≡ marked (getD table (getD v i 0) 0) class
-      → any (passesByte (Outside class)) (drop i v) ≡ (not r || any (passesByte (Outside class)) (drop (i + 1) v))
+      → any (outside class) (drop i v) ≡ (not r || any (outside class) (drop (i + 1) v))
   here r e =
-      any-here (passesByte (Outside class)) v i h
-      ∙ ap (λ (b : Bool). not b || any (passesByte (Outside class)) (drop (i + 1) v)) (sym (e ∙ right-in (getD v i 0) (getD table (getD v i 0) 0) (right-at table t (getD v i 0) byte) class))
+      any-here (outside class) v i h
+      ∙ ap (λ (b : Bool). not b || any (outside class) (drop (i + 1) v)) (sym (e ∙ right-in (getD v i 0) (getD table (getD v i 0) 0) (right-at table t (getD v i 0) byte) class))
 
-  pub outside-here : (r : Bool) → r ≡ marked (getD table (getD v i 0) 0) class → not r ≡ true → any (passesByte (Outside class)) (drop i v) ≡ true
-  outside-here r e f = here r e ∙ ap (λ (b : Bool). b || any (passesByte (Outside class)) (drop (i + 1) v)) f
+  pub outside-here : (r : Bool) → r ≡ marked (getD table (getD v i 0) 0) class → not r ≡ true → any (outside class) (drop i v) ≡ true
+  outside-here r e f = here r e ∙ ap (λ (b : Bool). b || any (outside class) (drop (i + 1) v)) f
 
   pub inside-here : (r : Bool) → r ≡ marked (getD table (getD v i 0) 0) class → not r ≡ false
-      → any (passesByte (Outside class)) (drop i v) ≡ any (passesByte (Outside class)) (drop (i + 1) v)
-  inside-here r e f = here r e ∙ ap (λ (b : Bool). b || any (passesByte (Outside class)) (drop (i + 1) v)) f
+      → any (outside class) (drop i v) ≡ any (outside class) (drop (i + 1) v)
+  inside-here r e f = here r e ∙ ap (λ (b : Bool). b || any (outside class) (drop (i + 1) v)) f
 
 -- ---- a line's bytes, by the tests in order
 
-pub outside-all : (class : Class) (v : List ℕ) → not (all (isIn class) v) ≡ any (passesByte (Outside class)) v
-outside-all class v = ap not (all-by-any (isIn class) v) ∙ twice (any (passesByte (Outside class)) v)
+pub outside-all : (class : Class) (v : List ℕ) → not (all (isIn class) v) ≡ any (outside class) v
+outside-all class v = ap not (all-by-any (isIn class) v) ∙ twice (any (outside class) v)
   where
     twice : (t : Bool) → not (not t) ≡ t
     twice true = refl
     twice false = refl
 
 module _ (v : List ℕ) where
-  pub value-out : any (passesByte (Outside Value)) v ≡ true → true ≡ badValueBytes v
+  pub value-out : any (outside Value) v ≡ true → true ≡ badValueBytes v
   unfolding badValueBytes
   value-out e = sym (ap (λ (t : Bool). t || begins isBlank v || ends isBlank v) (outside-all Value v ∙ e))
 
-  pub value-in : any (passesByte (Outside Value)) v ≡ false → (begins isBlank v || ends isBlank v) ≡ badValueBytes v
+  pub value-in : any (outside Value) v ≡ false → (begins isBlank v || ends isBlank v) ≡ badValueBytes v
   unfolding badValueBytes
   value-in e = sym (ap (λ (t : Bool). t || begins isBlank v || ends isBlank v) (outside-all Value v ∙ e))
 
@@ -60,11 +59,11 @@ module _ (n : List ℕ) (x : Bool) where
   pub name-empty : begins (eqb 0x3a) n ≡ false → length n ≡ 0 → true ≡ (badNameBytes n || x)
   name-empty e f = sym (ap (λ (t : Bool). (t || not (all isName n)) || x) (empty-is n ∙ eq-eqb (length n) 0 f)) ∙ name-plain e
 
-  pub name-out : begins (eqb 0x3a) n ≡ false → (length n ≡ 0 → ⊥) → any (passesByte (Outside Name)) n ≡ true → true ≡ (badNameBytes n || x)
+  pub name-out : begins (eqb 0x3a) n ≡ false → (length n ≡ 0 → ⊥) → any (outside Name) n ≡ true → true ≡ (badNameBytes n || x)
   name-out e f g =
       sym (ap (λ (t : Bool). (t || not (all isName n)) || x) (empty-is n ∙ ne-eqb (length n) 0 f) ∙ ap (λ (t : Bool). t || x) (outside-all Name n ∙ g)) ∙ name-plain e
 
-  pub name-in : begins (eqb 0x3a) n ≡ false → (length n ≡ 0 → ⊥) → any (passesByte (Outside Name)) n ≡ false → x ≡ (badNameBytes n || x)
+  pub name-in : begins (eqb 0x3a) n ≡ false → (length n ≡ 0 → ⊥) → any (outside Name) n ≡ false → x ≡ (badNameBytes n || x)
   name-in e f g =
       sym (ap (λ (t : Bool). (t || not (all isName n)) || x) (empty-is n ∙ ne-eqb (length n) 0 f) ∙ ap (λ (t : Bool). t || x) (outside-all Name n ∙ g)) ∙ name-plain e
 

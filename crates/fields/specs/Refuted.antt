@@ -3,13 +3,12 @@
 use mathlib.Core.Path.{_≡_, refl}
 use mathlib.Core.Bool.{Bool, true, false}
 use mathlib.Core.List.{List, [], _∷_, map}
+use lib.Dec.{eqb}
 use Rattle.rules.specs.Text.{any, all, same, between, isOneOf, ascii}
 use Rattle.rules.specs.Classes.{isName, isToken, isValue, isDigit, isBlank, isSmall, isCapital, isMark}
 use Rattle.rules.specs.Block.{lines, linesFrom}
 use Rattle.rules.specs.Section.{begins, ends, isEmpty}
-use Rattle.fields.specs.declared.Class.the-variants.{Name, Blank}
-use Rattle.fields.specs.declared.Byte.the-variants.{Is, In}
-use Rattle.fields.specs.Bytes.{isIn, passesByte, badNameBytes, badValueBytes}
+use Rattle.fields.specs.Bytes.{badNameBytes, badValueBytes}
 use Rattle.fields.specs.Walk.{isReadable}
 
 pub record Row : Type 0 where
@@ -21,14 +20,14 @@ row a s = record { asked = a; says = s }
 
 unfoldable pub rows : List Row
 rows =
-    row (any (passesByte (Is 0x40)) (0x61 ∷ 0x40 ∷ [])) true  -- looks at the first byte only
-    ∷ row (any (passesByte (Is 0x40)) []) false  -- finds a byte in nothing
-    ∷ row (all (isIn Name) (0x61 ∷ 0x41 ∷ [])) false  -- looks at the first byte only
-    ∷ row (all (isIn Name) []) true  -- asks for a byte
-    ∷ row (begins (passesByte (In Blank)) (0x61 ∷ 0x20 ∷ [])) false  -- looks at the last byte, or at any
-    ∷ row (begins (passesByte (In Blank)) []) false  -- says so of nothing
-    ∷ row (ends (passesByte (In Blank)) (0x20 ∷ 0x61 ∷ [])) false  -- looks at the first byte, or at any
-    ∷ row (ends (passesByte (In Blank)) (0x61 ∷ 0x20 ∷ [])) true  -- wants every byte so
+    row (any (eqb 0x40) (0x61 ∷ 0x40 ∷ [])) true  -- looks at the first byte only
+    ∷ row (any (eqb 0x40) []) false  -- finds a byte in nothing
+    ∷ row (all isName (0x61 ∷ 0x41 ∷ [])) false  -- looks at the first byte only
+    ∷ row (all isName []) true  -- asks for a byte
+    ∷ row (begins (isBlank) (0x61 ∷ 0x20 ∷ [])) false  -- looks at the last byte, or at any
+    ∷ row (begins (isBlank) []) false  -- says so of nothing
+    ∷ row (ends (isBlank) (0x20 ∷ 0x61 ∷ [])) false  -- looks at the first byte, or at any
+    ∷ row (ends (isBlank) (0x61 ∷ 0x20 ∷ [])) true  -- wants every byte so
     ∷ row (same (0x61 ∷ []) (0x61 ∷ 0x62 ∷ [])) false  -- compares up to the shorter one's end
     ∷ row (same (0x61 ∷ []) (0x41 ∷ [])) false  -- folds case
     ∷ row (isToken 0x41) true  -- takes a token for a name

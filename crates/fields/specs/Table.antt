@@ -9,7 +9,7 @@ use lib.Dec.{T, eqb, eqb→eq}
 use lib.Bits.{bitAnd}
 use lib.ListN.{length, getD}
 use Rattle.fields.specs.declared.Class.{Class}
-use Rattle.fields.specs.declared.Class.the-variants.{Name, Token, Value, Digit, Blank}
+use Rattle.fields.specs.declared.Class.the-variants.{Name, Token, Value, Digit}
 use Rattle.fields.specs.Bytes.{isIn, maskOf}
 
 and-left : (a b : Bool) → T (a && b) → T a
@@ -35,17 +35,14 @@ agrees k x c = Bool·beq (marked x c) (isIn c k)
 
 -- the entry of a byte is right in every class
 unfoldable pub right : (byte entry : ℕ) → Bool
-right k x = agrees k x Name && (agrees k x Token && (agrees k x Value && (agrees k x Digit && agrees k x Blank)))
+right k x = agrees k x Name && (agrees k x Token && (agrees k x Value && agrees k x Digit))
 
 pub right-in : (k x : ℕ) → T (right k x) → (c : Class) → marked x c ≡ isIn c k
 unfolding right
 right-in k x t Name = same-bool _ _ (and-left (agrees k x Name) _ t)
 right-in k x t Token = same-bool _ _ (and-left (agrees k x Token) _ (and-right (agrees k x Name) _ t))
 right-in k x t Value = same-bool _ _ (and-left (agrees k x Value) _ (and-right (agrees k x Token) _ (and-right (agrees k x Name) _ t)))
-right-in k x t Digit =
-    same-bool _ _ (and-left (agrees k x Digit) _ (and-right (agrees k x Value) _ (and-right (agrees k x Token) _ (and-right (agrees k x Name) _ t))))
-right-in k x t Blank =
-    same-bool _ _ (and-right (agrees k x Digit) _ (and-right (agrees k x Value) _ (and-right (agrees k x Token) _ (and-right (agrees k x Name) _ t))))
+right-in k x t Digit = same-bool _ _ (and-right (agrees k x Value) _ (and-right (agrees k x Token) _ (and-right (agrees k x Name) _ t)))
 
 -- every entry is right, the bytes counted from k
 unfoldable pub rightFrom : (k : ℕ) → List ℕ → Bool

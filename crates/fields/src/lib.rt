@@ -2,15 +2,15 @@
 ghost use mathlib.Core.Path.{_≡_};
 ghost use mathlib.Core.Bool.{_||_};
 ghost use Prim.Native.Nat.{_+_, _*_, _-_, _<_, _≤_, _^_};
-ghost use lib.Dec.{T};
+ghost use lib.Dec.{T, eqb};
 ghost use lib.ListN.{length, getD};
-ghost use Rattle.rules.specs.Text.{any, all, same};
-ghost use Rattle.rules.specs.Classes.{isName, isToken, isValue, isDigit, isBlank};
-ghost use Rattle.rules.specs.Block.{little, lines};
+ghost use Rattle.rules.specs.Text.{any, same};
+ghost use Rattle.rules.specs.Classes.{isBlank};
+ghost use Rattle.rules.specs.Block.{little};
 ghost use Rattle.rules.specs.Section.{begins, ends, decimal};
-ghost use Rattle.fields.specs.Bytes.{isIn, maskOf, passesByte, badNameBytes, badValueBytes};
-ghost use Rattle.fields.specs.Table.{marked, right, allRight};
-ghost use Rattle.fields.specs.Walk.{recordAt, isReadable};
+ghost use Rattle.fields.specs.Bytes.{outside, maskOf, badNameBytes, badValueBytes};
+ghost use Rattle.fields.specs.Table.{marked, allRight};
+ghost use Rattle.fields.specs.Walk.{recordAt};
 ghost use Rattle.fields.specs.Decimal.{capped};
 
 // What a byte may be. A byte can be several of these.
@@ -19,10 +19,9 @@ pub enum Class {
     Token,
     Value,
     Digit,
-    Blank,
 }
 
-// The classes of each byte: 1 for a name's, 2 for a token's, 4 for a value's, 8 for a digit, 16 for a blank.
+// The classes of each byte: 1 for a name's, 2 for a token's, 4 for a value's, 8 for a digit.
 const CLASSES: [u8; 256] = [
     0, // 00
     0, // 01
@@ -33,7 +32,7 @@ const CLASSES: [u8; 256] = [
     0, // 06
     0, // 07
     0, // 08
-    20, // 09
+    4, // 09
     0, // 0A
     0, // 0B
     0, // 0C
@@ -56,7 +55,7 @@ const CLASSES: [u8; 256] = [
     0, // 1D
     0, // 1E
     0, // 1F
-    20, // 20
+    4, // 20
     7, // 21 !
     4, // 22 "
     7, // 23 #
@@ -297,7 +296,6 @@ fn mask(class: Class) -> u8
         Class::Token => 2,
         Class::Value => 4,
         Class::Digit => 8,
-        Class::Blank => 16,
     }
 }
 
@@ -308,76 +306,12 @@ fn has_class(entry: u8, class: Class) -> bool
     entry & mask(class) != 0
 }
 
-pub fn is_in(b: u8, class: Class) -> bool
-    ensures { λ r. ⌜ r ≡ isIn class b ⌝ }
+pub fn has_byte(v: &[u8], b: u8) -> bool
+    ensures { λ r. ⌜ r ≡ any (eqb b) (now (v .entry)) ⌝ }
 {
-    let table = classes();
-    has_class(table[b as usize], class)
-}
-
-pub fn is_name(b: u8) -> bool
-    ensures { λ r. ⌜ r ≡ isName b ⌝ }
-{
-    is_in(b, Class::Name)
-}
-
-pub fn is_token(b: u8) -> bool
-    ensures { λ r. ⌜ r ≡ isToken b ⌝ }
-{
-    is_in(b, Class::Token)
-}
-
-pub fn is_value(b: u8) -> bool
-    ensures { λ r. ⌜ r ≡ isValue b ⌝ }
-{
-    is_in(b, Class::Value)
-}
-
-pub fn is_digit(b: u8) -> bool
-    ensures { λ r. ⌜ r ≡ isDigit b ⌝ }
-{
-    is_in(b, Class::Digit)
-}
-
-pub fn is_blank(b: u8) -> bool
-    ensures { λ r. ⌜ r ≡ isBlank b ⌝ }
-{
-    is_in(b, Class::Blank)
-}
-
-// What is asked of one byte.
-pub enum Byte {
-    Is(u8),
-    In(Class),
-    Outside(Class),
-}
-
-fn passes(entry: u8, b: u8, test: Byte) -> bool
-    requires { ⌜ T (right b entry) ⌝ }
-    ensures { λ r. ⌜ r ≡ passesByte test b ⌝ }
-{
-    match test {
-        Byte::Is(x) => x == b,
-        Byte::In(class) => has_class(entry, class),
-        Byte::Outside(class) => !has_class(entry, class),
-    }
-}
-
-fn passes_alone(b: u8, test: Byte) -> bool
-    ensures { λ r. ⌜ r ≡ passesByte test b ⌝ }
-{
-    let table = classes();
-    passes(table[b as usize], b, test)
-}
-
-pub fn any_byte(v: &[u8], test: Byte) -> bool
-    ensures { λ r. ⌜ r ≡ any (passesByte test) (now (v .entry)) ⌝ }
-{
-    let table = classes();
     let mut i = 0;
     while i < v.len() {
-        let b = v[i];
-        if passes(table[b as usize], b, test) {
+        if b == v[i] {
             return true;
         }
         i += 1;
@@ -385,28 +319,13 @@ pub fn any_byte(v: &[u8], test: Byte) -> bool
     false
 }
 
-pub fn all_in(v: &[u8], class: Class) -> bool
-    ensures { λ r. ⌜ r ≡ all (isIn class) (now (v .entry)) ⌝ }
-{
-    !any_byte(v, Byte::Outside(class))
-}
-
-pub fn begins_so(v: &[u8], test: Byte) -> bool
-    ensures { λ r. ⌜ r ≡ begins (passesByte test) (now (v .entry)) ⌝ }
+pub fn begins_with(v: &[u8], b: u8) -> bool
+    ensures { λ r. ⌜ r ≡ begins (eqb b) (now (v .entry)) ⌝ }
 {
     if v.len() == 0 {
         return false;
     }
-    passes_alone(v[0], test)
-}
-
-pub fn ends_so(v: &[u8], test: Byte) -> bool
-    ensures { λ r. ⌜ r ≡ ends (passesByte test) (now (v .entry)) ⌝ }
-{
-    if v.len() == 0 {
-        return false;
-    }
-    passes_alone(v[v.len() - 1], test)
+    b == v[0]
 }
 
 pub fn same_bytes(a: &[u8], b: &[u8]) -> bool
@@ -425,35 +344,10 @@ pub fn same_bytes(a: &[u8], b: &[u8]) -> bool
     true
 }
 
-// A name that begins with a colon is left to the rules of pseudo-fields.
-pub fn bad_name(name: &[u8]) -> bool
-    ensures { λ r. ⌜ r ≡ badNameBytes (now (name .entry)) ⌝ }
-{
-    if begins_so(name, Byte::Is(b':')) {
-        return false;
-    }
-    if name.len() == 0 {
-        return true;
-    }
-    !all_in(name, Class::Name)
-}
-
-pub fn bad_value(value: &[u8]) -> bool
-    ensures { λ r. ⌜ r ≡ badValueBytes (now (value .entry)) ⌝ }
-{
-    if !all_in(value, Class::Value) {
-        return true;
-    }
-    if begins_so(value, Byte::In(Class::Blank)) {
-        return true;
-    }
-    ends_so(value, Byte::In(Class::Blank))
-}
-
-// The same with the table of the caller, who reads it once for many names and values.
+// Some byte is outside a class. The table is the caller's, who reads it once for many names and values.
 pub fn any_outside<'a>(table: &'a [u8; 256], v: &'a [u8], class: Class) -> bool
     requires { ⌜ T (allRight (now table)) ⌝ }
-    ensures { λ r. ⌜ r ≡ any (passesByte (Byte.Outside class)) (now (v .entry)) ⌝ }
+    ensures { λ r. ⌜ r ≡ any (outside class) (now (v .entry)) ⌝ }
 {
     let mut i = 0;
     while i < v.len() {
@@ -487,12 +381,12 @@ fn blank_ends(v: &[u8]) -> bool
     blank(v[v.len() - 1])
 }
 
-// A field line's bytes.
+// A field line's bytes. A name that begins with a colon is left to the rules of pseudo-fields.
 pub fn bad_line<'a>(table: &'a [u8; 256], name: &'a [u8], value: &'a [u8]) -> bool
     requires { ⌜ T (allRight (now table)) ⌝ }
     ensures { λ r. ⌜ r ≡ (badNameBytes (now (name .entry)) || badValueBytes (now (value .entry))) ⌝ }
 {
-    if !begins_so(name, Byte::Is(b':')) {
+    if !begins_with(name, b':') {
         if name.len() == 0 {
             return true;
         }
@@ -593,22 +487,5 @@ pub fn line_at(block: &[u8], at: usize) -> Record
         name: at + 6,
         value: at + 6 + named,
         next: at + 2 + len,
-    }
-}
-
-pub fn readable(block: &[u8]) -> bool
-    ensures { λ r. ⌜ r ≡ isReadable (lines (now (block .entry))) ⌝ }
-{
-    let mut at = 0;
-    loop {
-        match line_at(block, at) {
-            Record::End => return true,
-            Record::Unreadable => return false,
-            Record::Line {
-                name: _,
-                value: _,
-                next,
-            } => at = next,
-        }
     }
 }

@@ -3,7 +3,8 @@ use Prim.Native.Nat.{ℕ}
 use mathlib.Core.Path.{_≡_, refl, sym, ap, _∙_}
 use mathlib.Core.List.{List}
 use mathlib.Core.Option.{Option, none, some}
-use Rattle.rules.specs.Numbers.{codeNumber}
+use Rattle.rules.specs.Numbers.{codeNumber, of-stream, request-rejected, message-error}
+use mathlib.Core.Logic.{_⊎_, inl, inr}
 use Rattle.rules.specs.Text.{ascii}
 use Rattle.rules.specs.Block.{Line, Section, Lines, readable}
 use Rattle.rules.specs.Block as block
@@ -111,6 +112,35 @@ unfolding toldNumber trailerNumber readTrailers
 trailer-number trailer.Unreadable = refl
 trailer-number (trailer.Refused r) = refl
 trailer-number trailer.Sound = refl
+
+-- ---- a section's code is one of two
+
+pub two-codes : (r : rules.Reason) → (codeOf r ≡ of-stream message-error) ⊎ (codeOf r ≡ of-stream request-rejected)
+unfolding codeOf
+two-codes rules.too-large = inl refl
+two-codes rules.bad-bytes = inl refl
+two-codes rules.unknown-pseudo = inl refl
+two-codes rules.repeated-pseudo = inl refl
+two-codes rules.late-pseudo = inl refl
+two-codes rules.pseudo-in-trailers = inl refl
+two-codes rules.connection-field = inl refl
+two-codes rules.other-te = inl refl
+two-codes rules.bad-method = inl refl
+two-codes rules.no-method = inl refl
+two-codes rules.repeated-length = inl refl
+two-codes rules.length-in-trailers = inl refl
+two-codes rules.no-digits = inl refl
+two-codes rules.length-above = inl refl
+two-codes rules.repeated-host = inl refl
+two-codes rules.connect = inr refl
+two-codes rules.no-scheme-or-path = inl refl
+two-codes rules.other-scheme = inr refl
+two-codes rules.bad-path = inl refl
+two-codes rules.no-authority = inl refl
+two-codes rules.empty-authority = inl refl
+two-codes rules.authorities-differ = inl refl
+two-codes rules.at-in-authority = inl refl
+two-codes rules.length-past-limit = inr refl
 
 -- ---- a reading leaves one answer
 

@@ -13,7 +13,8 @@ use Rattle.rules.specs.Block.{Section, Lines, readable}
 use Rattle.rules.specs.Block as block
 use Rattle.rules.specs.Section as rules
 use Rattle.rules.specs.Section.{Check, refused, sound, isEmpty, begins, holds, decimal, decimalFrom, named, has, valueOf, methodOf, statedIn, unless, firstBroken, goodPath, size-limit, length-limit, size-check, bytes-check, unknown-check, repeated-check, late-check, in-trailers-check, connection-check, te-check, method-check, no-method-check, repeated-length-check, length-in-trailers-check, digits-check, length-above-check, repeated-host-check, connect-check, present-check, scheme-check, path-check, authority-check, empty-check, differ-check, at-check, length-check, header-checks, trailer-checks, header-section}
-use Rattle.fields.specs.Walk.{isReadable, held, part}
+use Rattle.fields.specs.Laws.{empty-is}
+use Rattle.fields.specs.Walk.{isReadable, held}
 use Rattle.fields.specs.Decimal.{capped, capped-below, past}
 use Rattle.section.specs.declared.Reason.{Reason}
 use Rattle.section.specs.declared.Reason.the-variants.{TooLarge, PseudoInTrailers, NoMethod, LengthInTrailers, Connect, NoSchemeOrPath, OtherScheme, BadPath, NoAuthority, EmptyAuthority, AuthoritiesDiffer, AtInAuthority, LengthPastLimit}
@@ -22,9 +23,9 @@ use Rattle.section.specs.declared.Stated.{Stated}
 use Rattle.section.specs.declared.HeaderAnswer.the-variants as header
 use Rattle.section.specs.Checks.{checks, at, reasonOf, lowest, lowerOf, fill, and-then, told, firstIn, first-told, told-reason, told-none}
 use Rattle.section.specs.Names.{method, scheme, authority, path, host, content-length, nameAt}
-use Rattle.section.specs.Finding.{first, fromOf, toOf}
-use Rattle.section.specs.Facts.{rowOf, factsOf, fromIn, toIn, valueAt, there-is, somewhere}
-use Rattle.section.specs.Places.{bytes-are, holds-by, empty-by}
+use Rattle.section.specs.Finding.{first, toOf}
+use Rattle.section.specs.Facts.{rowOf, factsOf, toIn, thereAt, valueAt, there-is, somewhere}
+use Rattle.section.specs.Places.{bytes-are, holds-by}
 use Rattle.section.specs.Answer.{methodName, lengthName, Told, unreadable, judged, Headed, methodLine, at-method, says, headOf, placed-in, tellHeader, tellTrailers, readStated, readHeader}
 
 -- ---- what each check says, in its place
@@ -63,35 +64,35 @@ trailerRow s =
 abbrev pub absent : Facts → (k : ℕ) → Bool
 absent f k = eqb (getD (f .to) k 0) 0
 
--- there, and empty
-abbrev pub emptyAt : Facts → (k : ℕ) → Bool
-emptyAt f k = not (absent f k) && eqb (getD (f .from) k 0) (getD (f .to) k 0)
-
 unfoldable pub byPlaces : Facts → ℕ
 byPlaces f =
     lowerOf
     (lowerOf
     (lowerOf
-    (lowerOf
-    (lowerOf
     (lowerOf (f .first) (at TooLarge) (ltb size-limit (f .size)))
     (at NoMethod) (absent f method))
-    (at NoSchemeOrPath) (absent f scheme || absent f path))
-    (at NoAuthority) (absent f authority && absent f host))
-    (at EmptyAuthority) (emptyAt f authority || emptyAt f host))
+    (at NoSchemeOrPath) (not (thereAt f scheme && thereAt f path)))
     (at LengthPastLimit) (ltb length-limit (f .stated))
 
-unfoldable pub byRequest : Section → (first : ℕ) → ℕ
-byRequest s n =
+unfoldable pub isHttp : List ℕ → Bool
+isHttp v = same v (ascii "http") || same v (ascii "https")
+
+unfoldable pub isPath : (path method : List ℕ) → Bool
+isPath p m = begins (eqb 0x2f) p || (same (ascii "*") p && same (ascii "OPTIONS") m)
+
+unfoldable pub byRequest : (method scheme path : List ℕ) (first : ℕ) → ℕ
+byRequest m h p n =
+    lowerOf (lowerOf (lowerOf n (at Connect) (same (ascii "CONNECT") m)) (at OtherScheme) (not (isHttp h))) (at BadPath) (not (isPath p m))
+
+unfoldable pub byAuthority : (authority : List ℕ) (given : Bool) (host : List ℕ) (hosted : Bool) (first : ℕ) → ℕ
+byAuthority a ta h th n =
     lowerOf
     (lowerOf
-    (lowerOf n
-    (at Connect) (connect-check .broken s))
-    (at OtherScheme) (scheme-check .broken s))
-    (at BadPath) (path-check .broken s)
-
-unfoldable pub byAuthority : Section → (first : ℕ) → ℕ
-byAuthority s n = lowerOf (lowerOf n (at AuthoritiesDiffer) (differ-check .broken s)) (at AtInAuthority) (at-check .broken s)
+    (lowerOf
+    (lowerOf n (at NoAuthority) (not (ta || th)))
+    (at EmptyAuthority) ((ta && eqb (length a) 0) || (th && eqb (length h) 0)))
+    (at AuthoritiesDiffer) ((ta && th) && not (same a h)))
+    (at AtInAuthority) (any (eqb 0x40) a)
 
 unfoldable pub byTrailers : Facts → ℕ
 byTrailers f = lowerOf (lowerOf (lowerOf (f .first) (at TooLarge) (ltb size-limit (f .size))) (at PseudoInTrailers) (f .pseudo)) (at LengthInTrailers) (not (absent f content-length))
@@ -120,110 +121,97 @@ module _ (name : List ℕ) where
       go true ih = somewhere l
       go false ih = ih
 
-not-both : (a b : Bool) → (not a || not b) ≡ not (a && b)
-not-both true b = refl
-not-both false b = refl
+empty-is-so : (o : Option (List ℕ)) → (not (not (isSome o)) && eqb (length (methodOf o)) 0) ≡ holds isEmpty o
+unfolding holds methodOf
+empty-is-so none = refl
+empty-is-so (some v) = sym (empty-is v)
 
-neither : (a b : Bool) → (not a && not b) ≡ not (a || b)
-neither true b = refl
-neither false b = refl
+differ-so : (o p : Option (List ℕ)) → ((not (not (isSome o)) && not (not (isSome p))) && not (same (methodOf o) (methodOf p))) ≡ holds (λ a. holds (λ h. not (same a h)) p) o
+unfolding holds methodOf
+differ-so none p = refl
+differ-so (some a) none = refl
+differ-so (some a) (some h) = refl
 
 module _ (s : Section) where
-  no-place : (absent (factsOf s) scheme || absent (factsOf s) path) ≡ present-check .broken s
-  unfolding factsOf present-check
-  no-place = rw (absent-is (nameAt scheme) s, absent-is (nameAt path) s) (not-both (has (nameAt scheme) s) (has (nameAt path) s))
-
-  no-authority : (absent (factsOf s) authority && absent (factsOf s) host) ≡ authority-check .broken s
-  unfolding factsOf authority-check
-  no-authority = rw (absent-is (nameAt authority) s, absent-is (nameAt host) s) (neither (has (nameAt authority) s) (has (nameAt host) s))
-
-  empties : (emptyAt (factsOf s) authority || emptyAt (factsOf s) host) ≡ empty-check .broken s
-  unfolding factsOf empty-check
-  empties = rw (empty-by (nameAt authority) s, empty-by (nameAt host) s)
-
-  too-long : ltb length-limit (factsOf s .stated) ≡ length-check .broken s
-  unfolding factsOf length-check length-limit decimal decimalFrom
-  too-long = past length-limit (decimal (valueAt s content-length)) (lit< tt) ∙ holds-by (λ v. ltb length-limit (decimal v)) (valueOf (nameAt content-length) s) refl
-
-  no-method : absent (factsOf s) method ≡ no-method-check .broken s
-  unfolding factsOf no-method-check
-  no-method = absent-is (nameAt method) s
+  abbrev there : ℕ → Bool
+  there k = not (eqb (toIn s (nameAt k)) 0)
 
   large : ltb size-limit (factsOf s .size) ≡ size-check .broken s
   unfolding factsOf size-check
   large = refl
 
-  -- what the code asks of the values
-  pub request-is : (n : ℕ)
-      → lowerOf
-      (lowerOf
-      (lowerOf n (at Connect) (same (ascii "CONNECT") (valueAt s method)))
-      (at OtherScheme) (not (same (valueAt s scheme) (ascii "http") || same (valueAt s scheme) (ascii "https"))))
-      (at BadPath) (not (begins (eqb 0x2f) (valueAt s path) || (same (ascii "*") (valueAt s path) && same (ascii "OPTIONS") (valueAt s method))))
-      ≡ byRequest s n
-  unfolding byRequest connect-check scheme-check path-check goodPath ascii same begins
-  request-is n =
-      rw (holds-by (same (ascii "CONNECT")) (valueOf (nameAt method) s) refl, holds-by (λ v. same v (ascii "http") || same v (ascii "https")) (valueOf (nameAt scheme) s) refl, holds-by (begins (eqb 0x2f)) (valueOf (nameAt path) s) refl, holds-by (same (ascii "*")) (valueOf (nameAt path) s) refl, holds-by (same (ascii "OPTIONS")) (valueOf (nameAt method) s) refl)
+  no-method : absent (factsOf s) method ≡ no-method-check .broken s
+  unfolding factsOf no-method-check
+  no-method = absent-is (nameAt method) s
 
-  differ : (o p : Option (List ℕ)) → ((not (not (isSome o)) && not (not (isSome p))) && not (same (methodOf o) (methodOf p))) ≡ holds (λ a. holds (λ h. not (same a h)) p) o
-  unfolding holds methodOf
-  differ none p = refl
-  differ (some a) none = refl
-  differ (some a) (some h) = refl
+  no-place : not (thereAt (factsOf s) scheme && thereAt (factsOf s) path) ≡ present-check .broken s
+  unfolding factsOf present-check
+  no-place = rw (there-is (nameAt scheme) s, there-is (nameAt path) s)
 
-  pub authority-is : (n : ℕ)
-      → lowerOf
-      (lowerOf n
-      (at AuthoritiesDiffer) ((not (eqb (toIn s (nameAt authority)) 0) && not (eqb (toIn s (nameAt host)) 0)) && not (same (valueAt s authority) (valueAt s host))))
-      (at AtInAuthority) (any (eqb 0x40) (valueAt s authority))
-      ≡ byAuthority s n
-  unfolding byAuthority differ-check at-check any
-  authority-is n =
-      rw (value-is (nameAt authority) s, value-is (nameAt host) s, differ (valueOf (nameAt authority) s) (valueOf (nameAt host) s), holds-by (any (eqb 0x40)) (valueOf (nameAt authority) s) refl)
+  too-long : ltb length-limit (factsOf s .stated) ≡ length-check .broken s
+  unfolding factsOf length-check length-limit decimal decimalFrom
+  too-long = past length-limit (decimal (valueAt s content-length)) (lit< tt) ∙ holds-by (λ v. ltb length-limit (decimal v)) (valueOf (nameAt content-length) s) refl
 
-  -- the row that the places and the size make
-  places-row : List Bool
-  places-row =
-      fill (at LengthPastLimit) (length-check .broken s)
-      (fill (at EmptyAuthority) (empty-check .broken s)
-      (fill (at NoAuthority) (authority-check .broken s)
-      (fill (at NoSchemeOrPath) (present-check .broken s)
-      (fill (at NoMethod) (no-method-check .broken s)
-      (fill (at TooLarge) (size-check .broken s)
-      (rowOf s))))))
+  connects : same (ascii "CONNECT") (valueAt s method) ≡ connect-check .broken s
+  unfolding connect-check ascii same
+  connects = holds-by (same (ascii "CONNECT")) (valueOf (nameAt method) s) refl
+
+  other-scheme : not (isHttp (valueAt s scheme)) ≡ scheme-check .broken s
+  unfolding scheme-check isHttp ascii same
+  other-scheme = ap not (holds-by (λ v. same v (ascii "http") || same v (ascii "https")) (valueOf (nameAt scheme) s) refl)
+
+  bad-path : not (isPath (valueAt s path) (valueAt s method)) ≡ path-check .broken s
+  unfolding path-check goodPath isPath ascii same begins
+  bad-path =
+      rw (holds-by (begins (eqb 0x2f)) (valueOf (nameAt path) s) refl, holds-by (same (ascii "*")) (valueOf (nameAt path) s) refl, holds-by (same (ascii "OPTIONS")) (valueOf (nameAt method) s) refl)
+
+  no-authority : not (there authority || there host) ≡ authority-check .broken s
+  unfolding authority-check
+  no-authority = rw (there-is (nameAt authority) s, there-is (nameAt host) s)
+
+  empties : ((there authority && eqb (length (valueAt s authority)) 0) || (there host && eqb (length (valueAt s host)) 0)) ≡ empty-check .broken s
+  unfolding empty-check
+  empties = rw (value-is (nameAt authority) s, value-is (nameAt host) s, empty-is-so (valueOf (nameAt authority) s), empty-is-so (valueOf (nameAt host) s))
+
+  differs : ((there authority && there host) && not (same (valueAt s authority) (valueAt s host))) ≡ differ-check .broken s
+  unfolding differ-check
+  differs = rw (value-is (nameAt authority) s, value-is (nameAt host) s) (differ-so (valueOf (nameAt authority) s) (valueOf (nameAt host) s))
+
+  at-sign : any (eqb 0x40) (valueAt s authority) ≡ at-check .broken s
+  unfolding at-check any
+  at-sign = holds-by (any (eqb 0x40)) (valueOf (nameAt authority) s) refl
 
   first-is : factsOf s .first ≡ lowest (rowOf s)
   unfolding factsOf
   first-is = refl
 
-  by-places : byPlaces (factsOf s) ≡ lowest places-row
-  unfolding byPlaces places-row rowOf fill
-  by-places =
-      and-then _ (at LengthPastLimit) (length-check .broken s)
-      (and-then _ (at EmptyAuthority) (empty-check .broken s)
-      (and-then _ (at NoAuthority) (authority-check .broken s)
-      (and-then _ (at NoSchemeOrPath) (present-check .broken s)
-      (and-then _ (at NoMethod) (no-method-check .broken s)
-      (and-then (rowOf s) (at TooLarge) (size-check .broken s) first-is (lit< tt) refl large)
-      (lit< tt) refl no-method)
-      (lit< tt) refl no-place)
-      (lit< tt) refl no-authority)
-      (lit< tt) refl empties)
-      (lit< tt) refl too-long
-
-  pub header-lowest : byAuthority s (byRequest s (byPlaces (factsOf s))) ≡ lowest (headerRow s)
-  unfolding byAuthority byRequest headerRow places-row rowOf fill
+  pub header-lowest : byAuthority (valueAt s authority) (there authority) (valueAt s host) (there host)
+      (byRequest (valueAt s method) (valueAt s scheme) (valueAt s path) (byPlaces (factsOf s)))
+      ≡ lowest (headerRow s)
+  unfolding byAuthority byRequest byPlaces headerRow rowOf fill
   header-lowest =
       and-then _ (at AtInAuthority) (at-check .broken s)
       (and-then _ (at AuthoritiesDiffer) (differ-check .broken s)
+      (and-then _ (at EmptyAuthority) (empty-check .broken s)
+      (and-then _ (at NoAuthority) (authority-check .broken s)
       (and-then _ (at BadPath) (path-check .broken s)
       (and-then _ (at OtherScheme) (scheme-check .broken s)
-      (and-then _ (at Connect) (connect-check .broken s) by-places
-      (lit< tt) refl refl)
-      (lit< tt) refl refl)
-      (lit< tt) refl refl)
-      (lit< tt) refl refl)
-      (lit< tt) refl refl
+      (and-then _ (at Connect) (connect-check .broken s)
+      (and-then _ (at LengthPastLimit) (length-check .broken s)
+      (and-then _ (at NoSchemeOrPath) (present-check .broken s)
+      (and-then _ (at NoMethod) (no-method-check .broken s)
+      (and-then (rowOf s) (at TooLarge) (size-check .broken s) first-is
+      (lit< tt) refl large)
+      (lit< tt) refl no-method)
+      (lit< tt) refl no-place)
+      (lit< tt) refl too-long)
+      (lit< tt) refl connects)
+      (lit< tt) refl other-scheme)
+      (lit< tt) refl bad-path)
+      (lit< tt) refl no-authority)
+      (lit< tt) refl empties)
+      (lit< tt) refl differs)
+      (lit< tt) refl at-sign
 
   in-trailers : factsOf s .pseudo ≡ in-trailers-check .broken s
   unfolding factsOf in-trailers-check

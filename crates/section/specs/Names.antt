@@ -81,31 +81,40 @@ ofSeven n = cond (same n (ascii ":method")) method (cond (same n (ascii ":scheme
 unfoldable pub ofTen : List ℕ → ℕ
 ofTen n = cond (same n (ascii ":authority")) authority (cond (same n (ascii "connection")) connection (oneName (ascii "keep-alive") connection n))
 
-unfoldable pub byLength : (length : ℕ) → List ℕ → ℕ
-byLength m n =
+unfoldable pub longBy : (length : ℕ) → List ℕ → ℕ
+longBy m n =
+    cond (eqb m 14) (oneName (ascii "content-length") content-length n)
+    (cond (eqb m 16) (oneName (ascii "proxy-connection") connection n)
+    (cond (eqb m 17) (oneName (ascii "transfer-encoding") connection n)
+    (otherName n)))
+
+unfoldable pub longName : List ℕ → ℕ
+longName n = longBy (length n) n
+
+unfoldable pub nameBy : (length : ℕ) → List ℕ → ℕ
+nameBy m n =
     cond (eqb m 7) (ofSeven n)
     (cond (eqb m 10) (ofTen n)
     (cond (eqb m 5) (oneName (ascii ":path") path n)
-    (cond (eqb m 14) (oneName (ascii "content-length") content-length n)
     (cond (eqb m 4) (oneName (ascii "host") host n)
     (cond (eqb m 2) (oneName (ascii "te") te n)
-    (cond (eqb m 16) (oneName (ascii "proxy-connection") connection n)
-    (cond (eqb m 17) (oneName (ascii "transfer-encoding") connection n)
-    (otherName n))))))))
+    (longName n)))))
 
 unfoldable pub nameOf : List ℕ → ℕ
-nameOf n = byLength (length n) n
+nameOf n = nameBy (length n) n
 
 -- the length that was told of is the name's
-pub of-length : (n : List ℕ) {m r : ℕ} → length n ≡ m → r ≡ byLength m n → r ≡ nameOf n
-unfolding nameOf
-of-length n e f = f ∙ ap (λ k. byLength k n) (sym e)
+pub of-length : (by : ℕ → List ℕ → ℕ) (n : List ℕ) {m r : ℕ} → length n ≡ m → r ≡ by m n → r ≡ by (length n) n
+of-length by n e f = f ∙ ap (λ k. by k n) (sym e)
 
-pub no-length : (n : List ℕ) {r : ℕ} → (length n ≡ 7 → ⊥) → (length n ≡ 10 → ⊥) → (length n ≡ 5 → ⊥) → (length n ≡ 14 → ⊥) → (length n ≡ 4 → ⊥) → (length n ≡ 2 → ⊥)
-    → (length n ≡ 16 → ⊥) → (length n ≡ 17 → ⊥) → r ≡ otherName n → r ≡ nameOf n
-unfolding nameOf byLength
-no-length n a b c d e f g h p =
-    rw (ne-eqb (length n) 7 a, ne-eqb (length n) 10 b, ne-eqb (length n) 5 c, ne-eqb (length n) 14 d, ne-eqb (length n) 4 e, ne-eqb (length n) 2 f, ne-eqb (length n) 16 g, ne-eqb (length n) 17 h) p
+pub no-long : (n : List ℕ) {r : ℕ} → (length n ≡ 14 → ⊥) → (length n ≡ 16 → ⊥) → (length n ≡ 17 → ⊥) → r ≡ otherName n → r ≡ longName n
+unfolding longName longBy
+no-long n a b c p = rw (ne-eqb (length n) 14 a, ne-eqb (length n) 16 b, ne-eqb (length n) 17 c) p
+
+pub no-short : (n : List ℕ) {r : ℕ} → (length n ≡ 7 → ⊥) → (length n ≡ 10 → ⊥) → (length n ≡ 5 → ⊥) → (length n ≡ 4 → ⊥) → (length n ≡ 2 → ⊥)
+    → r ≡ longName n → r ≡ nameOf n
+unfolding nameOf nameBy
+no-short n a b c d e p = rw (ne-eqb (length n) 7 a, ne-eqb (length n) 10 b, ne-eqb (length n) 5 c, ne-eqb (length n) 4 d, ne-eqb (length n) 2 e) p
 
 -- ---- what is told of a name holds of it
 
@@ -129,7 +138,7 @@ same-is (x ∷ a) (y ∷ b) e = go (eqb x y) refl e (same-is a b)
 
 -- each of the seven is told for what it is
 own : (k : ℕ) → k < connection → nameOf (nameAt k) ≡ k
-unfolding nameOf byLength ofSeven ofTen oneName otherName ascii same begins
+unfolding nameOf nameBy longName longBy ofSeven ofTen oneName otherName ascii same begins
 own zero h = refl
 own (suc zero) h = refl
 own (suc (suc zero)) h = refl
@@ -164,16 +173,16 @@ module _ (n : List ℕ) where
   in-cond false a b p q = q
 
   holds-so : Holds n (nameOf n)
-  unfolding nameOf byLength ofSeven ofTen ascii same any begins connection-fields
+  unfolding nameOf nameBy longName longBy ofSeven ofTen ascii same any begins connection-fields
   holds-so =
       in-cond (eqb (length n) 7) _ _
       (in-test (ascii ":method") method _ (refl, (refl, lit< tt)) (in-test (ascii ":scheme") scheme _ (refl, (refl, lit< tt)) (in-one (ascii "upgrade") connection (refl, (refl, lit< tt)))))
       (in-cond (eqb (length n) 10) _ _
       (in-test (ascii ":authority") authority _ (refl, (refl, lit< tt)) (in-test (ascii "connection") connection _ (refl, (refl, lit< tt)) (in-one (ascii "keep-alive") connection (refl, (refl, lit< tt)))))
       (in-cond (eqb (length n) 5) _ _ (in-one (ascii ":path") path (refl, (refl, lit< tt)))
-      (in-cond (eqb (length n) 14) _ _ (in-one (ascii "content-length") content-length (refl, (refl, lit< tt)))
       (in-cond (eqb (length n) 4) _ _ (in-one (ascii "host") host (refl, (refl, lit< tt)))
       (in-cond (eqb (length n) 2) _ _ (in-one (ascii "te") te (refl, (refl, lit< tt)))
+      (in-cond (eqb (length n) 14) _ _ (in-one (ascii "content-length") content-length (refl, (refl, lit< tt)))
       (in-cond (eqb (length n) 16) _ _ (in-one (ascii "proxy-connection") connection (refl, (refl, lit< tt)))
       (in-cond (eqb (length n) 17) _ _ (in-one (ascii "transfer-encoding") connection (refl, (refl, lit< tt)))
       in-other)))))))
@@ -211,7 +220,7 @@ module _ (n : List ℕ) where
       go false f g ih = ih g
 
   pub connection-told : isOneName connection-fields n ≡ eqb (nameOf n) connection
-  unfolding nameOf byLength ofSeven ofTen oneName otherName ascii same begins connection-fields all-so
+  unfolding nameOf nameBy longName longBy ofSeven ofTen oneName otherName ascii same begins connection-fields all-so
   connection-told = by-told connection (isOneName connection-fields n) (one-of connection-fields (refl, (refl, (refl, (refl, (refl, tt)))))) (told-so connection)
 
   pub pseudo-told : begins (eqb 0x3a) n ≡ pseudoName (nameOf n)

@@ -1,24 +1,21 @@
 -- The lines of a block stand where they say; so what was collected of a name tells its value. Assumes nothing.
-use Prim.Native.Nat.{ℕ, zero, suc, _+_, _-_, _≤_, _<_}
+use Prim.Native.Nat.{ℕ, zero, suc, _-_, _≤_, _<_}
 use mathlib.Core.Path.{_≡_, refl, sym, ap, _∙_, subst}
-use mathlib.Core.List.{List, [], _∷_, map}
-use mathlib.Core.Bool.{Bool, true, false, cond, not, _||_, _&&_}
+use mathlib.Core.List.{List, [], _∷_}
+use mathlib.Core.Bool.{Bool, true, false, cond}
 use mathlib.Core.Option.{Option, none, some}
 use native.Mathlib.Omega.{arith}
-use lib.Dec.{eqb}
 use lib.ListN.{length, getD}
-use borrow.Author.Tests.{eq-eqb, ne-eqb, eqb-true, eqb-false}
 use Rattle.rules.specs.Block.{Line, Section}
-use Rattle.rules.specs.Section.{isEmpty, named, valueOf, methodOf, holds}
+use Rattle.rules.specs.Section.{named, valueOf, methodOf, holds}
 use Rattle.fields.specs.declared.Record.{Record}
 use Rattle.fields.specs.declared.Record.the-variants as variant
-use Rattle.fields.specs.Laws.{empty-is}
 use Rattle.fields.specs.Walk.{part, recordAt, lineOf, byRecord, walk, walkFrom, held}
 use Rattle.fields.specs.Lines.{placed}
 use Rattle.section.specs.declared.Facts.{Facts}
 use Rattle.section.specs.Names.{nameAt}
 use Rattle.section.specs.Finding.{first, valueFrom, valueTo, fromOf, toOf, length-part}
-use Rattle.section.specs.Facts.{factsOf, fromIn, toIn, valueAt, valueIn, value-first, somewhere}
+use Rattle.section.specs.Facts.{factsOf, fromIn, toIn, valueAt, valueIn, value-first}
 
 pub record Sits (block : List ℕ) (l : Line) : Type 0 where
   pub bytes : part (valueFrom l) (valueTo l) block ≡ l .value
@@ -121,22 +118,3 @@ pub holds-by : (test : List ℕ → Bool) (o : Option (List ℕ)) → test [] �
 unfolding holds methodOf
 holds-by test none e = e
 holds-by test (some v) e = refl
-
--- there, and empty
-pub empty-by : (name : List ℕ) (s : Section) → (not (eqb (toIn s name) 0) && eqb (fromIn s name) (toIn s name)) ≡ holds isEmpty (valueOf name s)
-unfolding first valueOf fromOf toOf holds
-empty-by name [] = refl
-empty-by name (l ∷ s) = go (named name l) (empty-by name s)
-  where
-    here : eqb (valueFrom l) (valueTo l) ≡ eqb (length (l .value)) 0
-    here = by (eqb (length (l .value)) 0) refl
-      where
-        by : (t : Bool) → eqb (length (l .value)) 0 ≡ t → eqb (valueFrom l) (valueTo l) ≡ t
-        by true e = let f = eqb-true (length (l .value)) 0 e in eq-eqb (valueFrom l) (valueTo l) (omega arith)
-        by false e = ne-eqb (valueFrom l) (valueTo l) (λ f. eqb-false (length (l .value)) 0 e (omega arith))
-
-    go : (t : Bool) → (not (eqb (toIn s name) 0) && eqb (fromIn s name) (toIn s name)) ≡ holds isEmpty (valueOf name s)
-        → (not (eqb (toOf (cond t (some l) (first (named name) s))) 0) && eqb (fromOf (cond t (some l) (first (named name) s))) (toOf (cond t (some l) (first (named name) s))))
-        ≡ holds isEmpty (elim t [ true ↦ some (l .value) | false ↦ valueOf name s ])
-    go true ih = ap (λ t. not t && eqb (valueFrom l) (valueTo l)) (somewhere l) ∙ here ∙ sym (empty-is (l .value))
-    go false ih = ih

@@ -10,7 +10,7 @@ use Rattle.fields.specs.declared.Record.the-variants as variant
 use Rattle.fields.specs.Walk.{part, recordAt, lineOf, sectionFrom, held, isReadable, toldFrom}
 use Rattle.fields.specs.Lines.{placed, walk-end, walk-flaw, walk-line, isTold, told-next, readable-is}
 use Rattle.section.specs.declared.Facts.{Facts}
-use Rattle.section.specs.Finding.{length-part, valueFrom, valueTo}
+use Rattle.section.specs.Finding.{length-part, valueFrom}
 use Rattle.section.specs.Facts.{noFacts, none-yet, lineStep, step-is, factsOf, Walks}
 use Rattle.section.specs.Places.{line-from, line-to}
 

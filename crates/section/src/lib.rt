@@ -1,6 +1,5 @@
 // Header sections and trailers (document 01, "Requests"): one walk of a section block's lines collects what the rules ask of them. Of the
 // checks that are broken the lowest in document 01's order is the reason.
-use fields::Byte;
 use fields::Class;
 use fields::Record;
 ghost use mathlib.Core.Path.{_≡_};
@@ -17,9 +16,9 @@ ghost use Rattle.fields.specs.Bytes.{isIn};
 ghost use Rattle.fields.specs.Table.{allRight};
 ghost use Rattle.fields.specs.Walk.{held};
 ghost use Rattle.section.specs.Checks.{at, reasonOf, lowerOf, lowest};
-ghost use Rattle.section.specs.Names.{method, host, content-length, te, unknown, otherName, oneName, ofSeven, ofTen, nameOf};
+ghost use Rattle.section.specs.Names.{method, host, content-length, te, unknown, otherName, oneName, ofSeven, ofTen, longName, nameOf};
 ghost use Rattle.section.specs.Facts.{noFacts, keptOf, keepAt, knownBy, plainBy, noteBy, lineStep, factsOf, valueAt, Walks};
-ghost use Rattle.section.specs.Judging.{headerRow, emptyAt, byPlaces, byRequest, byAuthority, byTrailers, statedBy};
+ghost use Rattle.section.specs.Judging.{headerRow, byPlaces, isHttp, isPath, byRequest, byAuthority, byTrailers, statedBy};
 ghost use Rattle.section.specs.Answer.{readStated, readHeader, tellHeader, readTrailers, tellTrailers};
 
 // ---- reasons
@@ -154,7 +153,7 @@ const PLAIN: usize = 9;
 fn other_name(name: &[u8]) -> usize
     ensures { λ r. ⌜ r ≡ otherName (now (name .entry)) ⌝ }
 {
-    if fields::begins_so(name, Byte::Is(b':')) {
+    if fields::begins_with(name, b':') {
         return UNKNOWN;
     }
     PLAIN
@@ -194,6 +193,17 @@ fn of_ten(name: &[u8]) -> usize
     one_name(name, b"keep-alive", CONNECTION)
 }
 
+fn long_name(name: &[u8]) -> usize
+    ensures { λ r. ⌜ r ≡ longName (now (name .entry)) ⌝ }
+{
+    match name.len() {
+        14 => one_name(name, b"content-length", LENGTH),
+        16 => one_name(name, b"proxy-connection", CONNECTION),
+        17 => one_name(name, b"transfer-encoding", CONNECTION),
+        _ => other_name(name),
+    }
+}
+
 // By its length, and then by the names of that length.
 fn name_of(name: &[u8]) -> usize
     ensures { λ r. ⌜ r ≡ nameOf (now (name .entry)) ⌝ }
@@ -202,12 +212,9 @@ fn name_of(name: &[u8]) -> usize
         7 => of_seven(name),
         10 => of_ten(name),
         5 => one_name(name, b":path", PATH),
-        14 => one_name(name, b"content-length", LENGTH),
         4 => one_name(name, b"host", HOST),
         2 => one_name(name, b"te", TE),
-        16 => one_name(name, b"proxy-connection", CONNECTION),
-        17 => one_name(name, b"transfer-encoding", CONNECTION),
-        _ => other_name(name),
+        _ => long_name(name),
     }
 }
 
@@ -320,7 +327,10 @@ fn host_line(f: Facts, from: usize, to: usize) -> Facts
     ensures { λ r. ⌜ r ≡ noteBy host f [] from to ⌝ }
 {
     let first = lower(f.first, Reason::RepeatedHost as usize, f.to[HOST] != 0);
-    plain_line(keep(f, HOST, from, to), first)
+    let mut g = keep(f, HOST, from, to);
+    g.first = first;
+    g.plain = true;
+    g
 }
 
 fn kept_number(there: usize, old: u64, new: u64) -> u64
@@ -346,7 +356,9 @@ fn length_line<'a>(f: Facts, table: &'a [u8; 256], value: &'a [u8], from: usize,
     );
     let first = lower(n, Reason::LengthAbove as usize, LARGEST < number);
     let stated = kept_number(there, f.stated, number);
-    let mut g = plain_line(keep(f, LENGTH, from, to), first);
+    let mut g = keep(f, LENGTH, from, to);
+    g.first = first;
+    g.plain = true;
     g.stated = stated;
     g
 }
@@ -475,78 +487,72 @@ fn value_of(block: &[u8], f: Facts, k: usize) -> &[u8]
     &block[from..to]
 }
 
-// There, and empty.
-fn empty_at(f: Facts, k: usize) -> bool
-    requires { ⌜ k < 6 ⌝ }
-    ensures { λ r. ⌜ r ≡ emptyAt f k ⌝ }
-{
-    both(f.to[k] != 0, f.from[k] == f.to[k])
-}
-
-// What is there, and the size.
+// The size, and what must be there.
 fn places_fault(f: Facts) -> usize
     ensures { λ r. ⌜ r ≡ byPlaces f ⌝ }
 {
     let n = lower(f.first, Reason::TooLarge as usize, SIZE_LIMIT < f.size);
     let n = lower(n, Reason::NoMethod as usize, f.to[METHOD] == 0);
-    let n = lower(
-        n,
-        Reason::NoSchemeOrPath as usize,
-        either(f.to[SCHEME] == 0, f.to[PATH] == 0),
-    );
-    let n = lower(
-        n,
-        Reason::NoAuthority as usize,
-        both(f.to[AUTHORITY] == 0, f.to[HOST] == 0),
-    );
-    let n = lower(
-        n,
-        Reason::EmptyAuthority as usize,
-        either(empty_at(f, AUTHORITY), empty_at(f, HOST)),
-    );
+    let two = both(f.to[SCHEME] != 0, f.to[PATH] != 0);
+    let n = lower(n, Reason::NoSchemeOrPath as usize, !two);
     lower(n, Reason::LengthPastLimit as usize, LENGTH_LIMIT < f.stated)
 }
 
-// What the method, the scheme and the path say. `*` is fine with OPTIONS.
-fn request_fault(block: &[u8], f: Facts, n: usize) -> usize
-    requires { ⌜ f ≡ factsOf (held (now block)) ⌝ }
-    ensures { λ r. ⌜ r ≡ byRequest (held (now (block .entry))) n ⌝ }
+fn is_http(scheme: &[u8]) -> bool
+    ensures { λ r. ⌜ r ≡ isHttp (now (scheme .entry)) ⌝ }
 {
-    let method = value_of(block, f, METHOD);
-    let scheme = value_of(block, f, SCHEME);
-    let path = value_of(block, f, PATH);
-    let http = either(
+    either(
         fields::same_bytes(scheme, b"http"),
         fields::same_bytes(scheme, b"https"),
-    );
+    )
+}
+
+// `*` is fine with OPTIONS.
+fn is_path<'a>(path: &'a [u8], method: &'a [u8]) -> bool
+    ensures { λ r. ⌜ r ≡ isPath (now (path .entry)) (now (method .entry)) ⌝ }
+{
     let star = both(
         fields::same_bytes(b"*", path),
         fields::same_bytes(b"OPTIONS", method),
     );
-    let good = either(fields::begins_so(path, Byte::Is(b'/')), star);
+    either(fields::begins_with(path, b'/'), star)
+}
+
+// What the method, the scheme and the path say.
+fn request_fault<'a>(method: &'a [u8], scheme: &'a [u8], path: &'a [u8], n: usize) -> usize
+    ensures { λ r. ⌜ r ≡ byRequest (now (method .entry)) (now (scheme .entry)) (now (path .entry)) n ⌝ }
+{
     let n = lower(
         n,
         Reason::Connect as usize,
         fields::same_bytes(b"CONNECT", method),
     );
-    let n = lower(n, Reason::OtherScheme as usize, !http);
-    lower(n, Reason::BadPath as usize, !good)
+    let n = lower(n, Reason::OtherScheme as usize, !is_http(scheme));
+    lower(n, Reason::BadPath as usize, !is_path(path, method))
 }
 
-// What the authority and the host say.
-fn authority_fault(block: &[u8], f: Facts, n: usize) -> usize
-    requires { ⌜ f ≡ factsOf (held (now block)) ⌝ }
-    ensures { λ r. ⌜ r ≡ byAuthority (held (now (block .entry))) n ⌝ }
+// What the authority and the host say, each with whether it is there.
+fn authority_fault<'a>(
+    authority: &'a [u8],
+    given: bool,
+    host: &'a [u8],
+    hosted: bool,
+    n: usize,
+) -> usize
+    ensures { λ r. ⌜ r ≡ byAuthority (now (authority .entry)) given (now (host .entry)) hosted n ⌝ }
 {
-    let authority = value_of(block, f, AUTHORITY);
-    let host = value_of(block, f, HOST);
-    let two = both(f.to[AUTHORITY] != 0, f.to[HOST] != 0);
-    let differ = both(two, !fields::same_bytes(authority, host));
+    let n = lower(n, Reason::NoAuthority as usize, !either(given, hosted));
+    let empty = either(
+        both(given, authority.len() == 0),
+        both(hosted, host.len() == 0),
+    );
+    let n = lower(n, Reason::EmptyAuthority as usize, empty);
+    let differ = both(both(given, hosted), !fields::same_bytes(authority, host));
     let n = lower(n, Reason::AuthoritiesDiffer as usize, differ);
     lower(
         n,
         Reason::AtInAuthority as usize,
-        fields::any_byte(authority, Byte::Is(b'@')),
+        fields::has_byte(authority, b'@'),
     )
 }
 
@@ -554,8 +560,19 @@ fn header_fault(block: &[u8], f: Facts) -> usize
     requires { ⌜ f ≡ factsOf (held (now block)) ⌝ }
     ensures { λ r. ⌜ r ≡ lowest (headerRow (held (now (block .entry)))) ⌝ }
 {
-    let n = request_fault(block, f, places_fault(f));
-    authority_fault(block, f, n)
+    let n = request_fault(
+        value_of(block, f, METHOD),
+        value_of(block, f, SCHEME),
+        value_of(block, f, PATH),
+        places_fault(f),
+    );
+    authority_fault(
+        value_of(block, f, AUTHORITY),
+        f.to[AUTHORITY] != 0,
+        value_of(block, f, HOST),
+        f.to[HOST] != 0,
+        n,
+    )
 }
 
 // The Content-Length that a header section states.

@@ -1,22 +1,18 @@
 -- `fields::any_outside` meets its contract. Assumes nothing.
 use Rattle.fields.specs.Outside.{outside-here, inside-here}
 use Prim.Native.Nat.{_≤_, _-_}
-use mathlib.Core.Path.{_≡_, refl, sym, ap, _∙_}
-use mathlib.Core.Bool.{not}
+use mathlib.Core.Path.{_≡_, refl, sym, _∙_}
 use native.Mathlib.Omega.{arith}
 use lib.ListN.{length, drop}
 use borrow.Author.Needs.{needs}
-use borrow.Author.Tests.{not-true, not-false}
 use Rattle.rules.specs.Text.{any}
-use Rattle.fields.specs.Bytes.{passesByte}
-use Rattle.fields.specs.declared.Byte.the-variants.{Outside}
-use Rattle.fields.specs.Laws.{any-here, any-none}
-use Rattle.fields.specs.Table.{right-at, right-in}
+use Rattle.fields.specs.Bytes.{outside}
+use Rattle.fields.specs.Laws.{any-none}
 use Rattle.fields.proofs.any_outside.Statement.{statement}
 use Rattle.fields.proofs.any_outside.Tie as tie
 
 abbrev Inv-loop : tie.InvT-loop
-Inv-loop table v class i₀ i = (i ≤ length v) × (any (passesByte (Outside class)) v ≡ any (passesByte (Outside class)) (drop i v))
+Inv-loop table v class i₀ i = (i ≤ length v) × (any (outside class) v ≡ any (outside class) (drop i v))
 
 abbrev μ-loop : tie.MeasureT-loop
 μ-loop table v class i₀ i = length v - i

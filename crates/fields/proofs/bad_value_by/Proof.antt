@@ -1,6 +1,6 @@
 -- `fields::bad_value_by` meets its contract. Assumes nothing.
 use Rattle.fields.specs.Outside.{value-out, value-in}
-use mathlib.Core.Path.{refl, sym, ap, _∙_}
+use mathlib.Core.Path.{sym, _∙_}
 use borrow.Author.Needs.{needs}
 use Rattle.fields.proofs.bad_value_by.Statement.{statement}
 use Rattle.fields.proofs.bad_value_by.Tie as tie

@@ -1,6 +1,5 @@
 -- `fields::blank` meets its contract. Assumes nothing.
 use Rattle.rules.specs.Classes.{isBlank}
-use mathlib.Core.Path.{refl, sym, ap, _∙_}
 use borrow.Author.Tests.{eq-eqb, ne-eqb}
 use Rattle.fields.proofs.blank.Statement.{statement}
 use Rattle.fields.proofs.blank.Tie as tie

@@ -3,7 +3,7 @@ use Rattle.rules.specs.Section.{ends}
 use mathlib.Core.Bool.{Bool, _||_}
 use Rattle.rules.specs.Classes.{isBlank}
 use Rattle.fields.specs.Laws.{begins-none, ends-none, begins-first, ends-last}
-use mathlib.Core.Path.{refl, sym, ap, _∙_}
+use mathlib.Core.Path.{sym, ap, _∙_}
 use borrow.Author.Needs.{needs}
 use Rattle.fields.proofs.blank_ends.Statement.{statement}
 use Rattle.fields.proofs.blank_ends.Tie as tie

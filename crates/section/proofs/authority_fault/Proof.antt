@@ -1,64 +1,79 @@
 -- `section::authority_fault` meets its contract. Assumes nothing.
-use Rattle.section.specs.Facts.{factsOf}
-use Rattle.section.specs.Judging.{authority-is}
+use Rattle.section.specs.Judging.{byAuthority}
 use borrow.Author.Needs.{needs}
 use Rattle.section.proofs.authority_fault.Statement.{statement}
 use Rattle.section.proofs.authority_fault.Tie as tie
 
-value-of-requires : tie.Need-value-of-requires
-value-of-requires c κs = search needs
-
-value-of-requires-2 : tie.Need-value-of-requires-2
-value-of-requires-2 c κs = search needs
-
-element-copy-out-both : tie.Need-element-copy-out-both
-element-copy-out-both c = search needs
-
-element-copy-out-both-2 : tie.Need-element-copy-out-both-2
-element-copy-out-both-2 c = search needs
-
-both-requires : tie.Need-both-requires
-both-requires c κs = search needs
-
-same-bytes-requires : tie.Need-same-bytes-requires
-same-bytes-requires c κs = search needs
-
-both-requires-2 : tie.Need-both-requires-2
-both-requires-2 c κs = search needs
-
 cast-lower : tie.Need-cast-lower
 cast-lower c = search needs
+
+either-requires : tie.Need-either-requires
+either-requires c κs = search needs
 
 lower-requires : tie.Need-lower-requires
 lower-requires c κs = search needs
 
+both-requires : tie.Need-both-requires
+both-requires c κs = search needs
+
+both-requires-2 : tie.Need-both-requires-2
+both-requires-2 c κs = search needs
+
+either-requires-2 : tie.Need-either-requires-2
+either-requires-2 c κs = search needs
+
 cast-lower-2 : tie.Need-cast-lower-2
 cast-lower-2 c = search needs
-
-any-byte-requires : tie.Need-any-byte-requires
-any-byte-requires c κs = search needs
 
 lower-requires-2 : tie.Need-lower-requires-2
 lower-requires-2 c κs = search needs
 
+both-requires-3 : tie.Need-both-requires-3
+both-requires-3 c κs = search needs
+
+same-bytes-requires : tie.Need-same-bytes-requires
+same-bytes-requires c κs = search needs
+
+both-requires-4 : tie.Need-both-requires-4
+both-requires-4 c κs = search needs
+
+cast-lower-3 : tie.Need-cast-lower-3
+cast-lower-3 c = search needs
+
+lower-requires-3 : tie.Need-lower-requires-3
+lower-requires-3 c κs = search needs
+
+cast-lower-4 : tie.Need-cast-lower-4
+cast-lower-4 c = search needs
+
+has-byte-requires : tie.Need-has-byte-requires
+has-byte-requires c κs = search needs
+
+lower-requires-4 : tie.Need-lower-requires-4
+lower-requires-4 c κs = search needs
+
 returns : tie.Need-returns
-unfolding factsOf
-returns c = rw (c .lower2 .ensures, c .before .any-byte .ensures, c .before .before .lower .ensures, c .before .before .before .both2 .ensures, c .before .before .before .before .same-bytes .ensures, c .before .before .before .before .before .both .ensures, c .before .before .before .before .before .before .before .before .value-of2 .ensures, c .before .before .before .before .before .before .before .before .before .value-of .ensures, c .before .before .before .before .before .before .before .before .before .before .before .pre) (authority-is _ _)
+unfolding byAuthority
+returns c = rw (c .lower4 .ensures, c .before .has-byte .ensures, c .before .before .lower3 .ensures, c .before .before .before .both4 .ensures, c .before .before .before .before .same-bytes .ensures, c .before .before .before .before .before .both3 .ensures, c .before .before .before .before .before .before .lower2 .ensures, c .before .before .before .before .before .before .before .either2 .ensures, c .before .before .before .before .before .before .before .before .both2 .ensures, c .before .before .before .before .before .before .before .before .before .both .ensures, c .before .before .before .before .before .before .before .before .before .before .lower .ensures, c .before .before .before .before .before .before .before .before .before .before .before .either .ensures)
 
 pub authority-fault-spec : {M : Type 1} → statement M
 authority-fault-spec =
     tie.close
     (tie.spec
-    value-of-requires
-    value-of-requires-2
-    element-copy-out-both
-    element-copy-out-both-2
-    both-requires
-    same-bytes-requires
-    both-requires-2
     cast-lower
+    either-requires
     lower-requires
+    both-requires
+    both-requires-2
+    either-requires-2
     cast-lower-2
-    any-byte-requires
     lower-requires-2
+    both-requires-3
+    same-bytes-requires
+    both-requires-4
+    cast-lower-3
+    lower-requires-3
+    cast-lower-4
+    has-byte-requires
+    lower-requires-4
     returns)

@@ -1,5 +1,5 @@
 -- `section::host_line` meets its contract. Assumes nothing.
-use Rattle.section.specs.Facts.{keepAt, plainBy, noteBy}
+use Rattle.section.specs.Facts.{keepAt, noteBy}
 use borrow.Author.Needs.{needs}
 use Rattle.section.proofs.host_line.Statement.{statement}
 use Rattle.section.proofs.host_line.Tie as tie
@@ -16,20 +16,10 @@ lower-requires c κs = search needs
 keep-requires : tie.Need-keep-requires
 keep-requires c κs = search needs
 
-plain-line-requires : tie.Need-plain-line-requires
-plain-line-requires c κs = search needs
-
 returns : tie.Need-returns
-unfolding noteBy keepAt plainBy
-returns c = rw (c .plain-line .ensures, c .before .keep .ensures, c .before .before .lower .ensures)
+unfolding noteBy keepAt
+returns c = rw (c .keep .ensures, c .before .lower .ensures)
 
 pub host-line-spec : {M : Type 1} → statement M
 host-line-spec =
-    tie.close
-    (tie.spec
-    cast-lower
-    element-copy-out-lower
-    lower-requires
-    keep-requires
-    plain-line-requires
-    returns)
+    tie.close (tie.spec cast-lower element-copy-out-lower lower-requires keep-requires returns)

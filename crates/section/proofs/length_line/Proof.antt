@@ -1,6 +1,6 @@
 -- `section::length_line` meets its contract. Assumes nothing.
 use Rattle.rules.specs.Integers.{largest}
-use Rattle.section.specs.Facts.{keepAt, plainBy, noteBy}
+use Rattle.section.specs.Facts.{keepAt, noteBy}
 use borrow.Author.Needs.{needs}
 use Rattle.section.proofs.length_line.Statement.{statement}
 use Rattle.section.proofs.length_line.Tie as tie
@@ -38,12 +38,9 @@ kept-number-requires c κs = search needs
 keep-requires : tie.Need-keep-requires
 keep-requires c κs = search needs
 
-plain-line-requires : tie.Need-plain-line-requires
-plain-line-requires c κs = search needs
-
 returns : tie.Need-returns
-unfolding noteBy keepAt plainBy largest
-returns c = rw (c .plain-line .ensures, c .before .keep .ensures, c .before .before .kept-number .ensures, c .before .before .before .lower3 .ensures, c .before .before .before .before .lower2 .ensures, c .before .before .before .before .before .not-all .ensures, c .before .before .before .before .before .before .lower .ensures, c .before .before .before .before .before .before .before .decimal-of .ensures)
+unfolding noteBy keepAt largest
+returns c = rw (c .keep .ensures, c .before .kept-number .ensures, c .before .before .lower3 .ensures, c .before .before .before .lower2 .ensures, c .before .before .before .before .not-all .ensures, c .before .before .before .before .before .lower .ensures, c .before .before .before .before .before .before .decimal-of .ensures)
 
 pub length-line-spec : {M : Type 1} → statement M
 length-line-spec =
@@ -60,5 +57,4 @@ length-line-spec =
     lower-requires-3
     kept-number-requires
     keep-requires
-    plain-line-requires
     returns)

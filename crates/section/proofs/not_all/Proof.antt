@@ -1,7 +1,5 @@
 -- `section::not_all` meets its contract. Assumes nothing.
-use mathlib.Core.Path.{sym, ap, _∙_}
-use mathlib.Core.Bool.{not, _||_}
-use Rattle.rules.specs.Text.{all}
+use mathlib.Core.Path.{sym, _∙_}
 use Rattle.fields.specs.Laws.{empty-is}
 use Rattle.fields.specs.Outside.{outside-all}
 use borrow.Author.Tests.{eq-eqb, ne-eqb}

@@ -6,16 +6,16 @@ use borrow.Author.Needs.{needs}
 use Rattle.section.proofs.other_name.Statement.{statement}
 use Rattle.section.proofs.other_name.Tie as tie
 
-begins-so-requires : tie.Need-begins-so-requires
-begins-so-requires c κs = search needs
+begins-with-requires : tie.Need-begins-with-requires
+begins-with-requires c κs = search needs
 
 returns : tie.Need-returns
 unfolding otherName
-returns c = chosen _ _ (c .before .begins-so .ensures) (c .if1 .taken)
+returns c = chosen _ _ (c .before .begins-with .ensures) (c .if1 .taken)
 
 returns-2 : tie.Need-returns-2
 unfolding otherName
-returns-2 c = otherwise _ _ (c .before .begins-so .ensures) (c .if1 .left) refl
+returns-2 c = otherwise _ _ (c .before .begins-with .ensures) (c .if1 .left) refl
 
 pub other-name-spec : {M : Type 1} → statement M
-other-name-spec = tie.close (tie.spec begins-so-requires returns returns-2)
+other-name-spec = tie.close (tie.spec begins-with-requires returns returns-2)
