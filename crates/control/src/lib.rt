@@ -142,7 +142,7 @@ fn judge_goaway(kept: Kept, id: PushId) -> Verdict
         return with_goaway(kept, id);
     }
     if earlier.0 < id.0 {
-        refused(0x0108, kept)
+        refused(rules::ID_ERROR, kept)
     } else {
         with_goaway(kept, id)
     }
@@ -157,7 +157,7 @@ fn judge_max_push(kept: Kept, id: PushId) -> Verdict
         return with_max_push(kept, id);
     }
     if id.0 < earlier.0 {
-        refused(0x0108, kept)
+        refused(rules::ID_ERROR, kept)
     } else {
         with_max_push(kept, id)
     }
@@ -172,9 +172,9 @@ fn judge_id(which: u64, kept: Kept, id: PushId) -> Verdict
     } else if which == 10 {
         judge_max_push(kept, id)
     } else if which == 8 {
-        refused(0x0105, kept)
+        refused(rules::FRAME_UNEXPECTED, kept)
     } else {
-        refused(0x0108, kept)
+        refused(rules::ID_ERROR, kept)
     }
 }
 
@@ -182,7 +182,7 @@ fn judge_integer(which: u64, kept: Kept, payload: &[u8]) -> Verdict
     ensures { λ r. ⌜ r ≡ integerOf which kept (only (integer 0 (now (payload .entry)))) ⌝ }
 {
     match settings::only(payload) {
-        Single::Not => refused(0x0106, kept),
+        Single::Not => refused(rules::FRAME_ERROR, kept),
         Single::Is(id) => judge_id(which, kept, PushId(id)),
     }
 }

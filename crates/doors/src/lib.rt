@@ -97,7 +97,7 @@ fn open_request(d: Doors, id: StreamId, free: u64) -> Opening
     }
     if barred(d, id) {
         Opening {
-            number: 0x010b,
+            number: rules::REQUEST_REJECTED,
             doors: next_request(d),
         }
     } else {

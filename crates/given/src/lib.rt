@@ -63,7 +63,7 @@ fn give_header(c: Cells, block: &[u8]) -> Given
                 }
             } else {
                 Given {
-                    number: 0x0105,
+                    number: rules::FRAME_UNEXPECTED,
                     cells: c,
                 }
             }
@@ -91,7 +91,7 @@ fn give_trailers(c: Cells, block: &[u8]) -> Given
                 }
             } else {
                 Given {
-                    number: 0x0105,
+                    number: rules::FRAME_UNEXPECTED,
                     cells: c,
                 }
             }

@@ -56,7 +56,7 @@ fn end_line(p: Place, total: usize) -> Line
     if p.phase == 0 {
         Line::Refused {
             bytes: total,
-            code: 0x010d,
+            code: rules::REQUEST_INCOMPLETE,
         }
     } else {
         Line::Whole(total)
@@ -163,7 +163,7 @@ pub fn next(s: &[u8], p: Place) -> Line
     if here == 0 {
         return Line::Refused {
             bytes: total,
-            code: 0x0106,
+            code: rules::FRAME_ERROR,
         };
     }
     let ftype = varint::value(s, at);
@@ -171,7 +171,7 @@ pub fn next(s: &[u8], p: Place) -> Line
     if from == 0 {
         return Line::Refused {
             bytes: total,
-            code: 0x0106,
+            code: rules::FRAME_ERROR,
         };
     }
     ruled_line(p, from, ftype, varint::value(s, here))

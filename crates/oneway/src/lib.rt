@@ -48,7 +48,11 @@ pub struct OneAnswer {
 fn once(came: u64, kind: u64) -> u64
     ensures { λ r. ⌜ r ≡ onceOf came kind ⌝ }
 {
-    if came == 0 { kind } else { 0x0103 }
+    if came == 0 {
+        kind
+    } else {
+        rules::STREAM_CREATION_ERROR
+    }
 }
 
 // The kind of a stream of this type, or the code that refuses it.
@@ -58,7 +62,7 @@ fn kind_of(t: u64, seen: Seen) -> u64
     if t == 0 {
         once(seen.control, 3)
     } else if t == 1 {
-        0x0103
+        rules::STREAM_CREATION_ERROR
     } else if t == 2 {
         once(seen.encoder, 4)
     } else if t == 3 {
@@ -293,6 +297,6 @@ pub fn close(w: OneWay) -> u64
     } else if 5 < w.kind {
         0
     } else {
-        0x0104
+        rules::CLOSED_CRITICAL_STREAM
     }
 }

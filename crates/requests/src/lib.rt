@@ -23,16 +23,16 @@ pub struct Reply {
 fn left(number: u64, r: Record) -> Record
     ensures { λ a. ⌜ a ≡ leftBy number r ⌝ }
 {
-    if number == 0x010b {
+    if number == rules::REQUEST_REJECTED {
         return record::free();
     }
-    if number == 0x010c {
+    if number == rules::REQUEST_CANCELLED {
         return record::free();
     }
-    if number == 0x010d {
+    if number == rules::REQUEST_INCOMPLETE {
         return record::free();
     }
-    if number == 0x010e {
+    if number == rules::MESSAGE_ERROR {
         return record::free();
     }
     r

@@ -92,8 +92,8 @@ pub fn code(reason: Reason) -> u64
     ensures { λ r. ⌜ r ≡ codeNumber (codeOf (reasonOf reason)) ⌝ }
 {
     match reason {
-        Reason::Connect | Reason::OtherScheme | Reason::LengthPastLimit => 0x010b,
-        _ => 0x010e,
+        Reason::Connect | Reason::OtherScheme | Reason::LengthPastLimit => rules::REQUEST_REJECTED,
+        _ => rules::MESSAGE_ERROR,
     }
 }
 

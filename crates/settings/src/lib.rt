@@ -133,17 +133,17 @@ fn walk(payload: &[u8], at: usize, limited: bool, size: u64, capacity: u64, bloc
         return Judged::Kept(keep(limited, size, capacity, blocked));
     }
     match pair_at(payload, at) {
-        Found::Cut => Judged::Refused(0x0106),
+        Found::Cut => Judged::Refused(rules::FRAME_ERROR),
         Found::Pair {
             identifier,
             value,
             shorter,
         } => {
             if reserved(identifier) {
-                return Judged::Refused(0x0109);
+                return Judged::Refused(rules::SETTINGS_ERROR);
             }
             if seen(payload, at, identifier) {
-                return Judged::Refused(0x0109);
+                return Judged::Refused(rules::SETTINGS_ERROR);
             }
             walk(
                 payload,

@@ -27,9 +27,13 @@ fn data_rule(has: u64, stated: u64, sum: u64, len: u64) -> u64
 {
     let total = sum + len;
     if has == 0 {
-        if 1048576 < total { 0x010c } else { 1 }
+        if 1048576 < total {
+            rules::REQUEST_CANCELLED
+        } else {
+            1
+        }
     } else if stated < total {
-        0x010e
+        rules::MESSAGE_ERROR
     } else {
         1
     }
@@ -44,20 +48,20 @@ fn request_rule(phase: u64, has: u64, stated: u64, sum: u64, ftype: u64, len: u6
         if phase == 1 {
             data_rule(has, stated, sum, len)
         } else {
-            0x0105
+            rules::FRAME_UNEXPECTED
         }
     } else if ftype == 1 {
         if phase == 2 {
-            0x0105
+            rules::FRAME_UNEXPECTED
         } else if 16384 < len {
-            0x0107
+            rules::EXCESSIVE_LOAD
         } else {
             phase + 2
         }
     } else if ftype < 10 {
-        0x0105
+        rules::FRAME_UNEXPECTED
     } else if ftype == 13 {
-        0x0105
+        rules::FRAME_UNEXPECTED
     } else {
         0
     }
@@ -70,9 +74,9 @@ fn control_rule(phase: u64, ftype: u64, len: u64) -> u64
 {
     if phase == 3 {
         if ftype == 4 {
-            if 256 < len { 0x0107 } else { 4 }
+            if 256 < len { rules::EXCESSIVE_LOAD } else { 4 }
         } else {
-            0x010a
+            rules::MISSING_SETTINGS
         }
     } else if ftype == 7 {
         one_integer(len, 5)
@@ -81,7 +85,7 @@ fn control_rule(phase: u64, ftype: u64, len: u64) -> u64
     } else if ftype == 3 {
         one_integer(len, 7)
     } else if ftype < 10 {
-        0x0105
+        rules::FRAME_UNEXPECTED
     } else {
         0
     }
@@ -92,9 +96,9 @@ fn one_integer(len: u64, use_number: u64) -> u64
     ensures { λ r. ⌜ r ≡ oneOf len use_number ⌝ }
 {
     if len == 0 {
-        0x0106
+        rules::FRAME_ERROR
     } else if 8 < len {
-        0x0106
+        rules::FRAME_ERROR
     } else {
         use_number
     }
@@ -650,22 +654,30 @@ fn tallied(phase: u64, has: u64, stated: u64, sum: u64) -> u64
     ensures { λ r. ⌜ r ≡ tallyOf phase has stated sum ⌝ }
 {
     if 2 < phase {
-        return 0x0104;
+        return rules::CLOSED_CRITICAL_STREAM;
     }
     if phase == 0 {
-        return 0x010d;
+        return rules::REQUEST_INCOMPLETE;
     }
     if has == 0 {
         return 0;
     }
-    if sum == stated { 0 } else { 0x010e }
+    if sum == stated {
+        0
+    } else {
+        rules::MESSAGE_ERROR
+    }
 }
 
 // Inside a frame.
 fn cut_off(phase: u64) -> u64
     ensures { λ r. ⌜ r ≡ cutOf phase ⌝ }
 {
-    if 2 < phase { 0x0104 } else { 0x0106 }
+    if 2 < phase {
+        rules::CLOSED_CRITICAL_STREAM
+    } else {
+        rules::FRAME_ERROR
+    }
 }
 
 // The end of a stream: 0 whole, 4 a section is due, else the code.
