@@ -139,7 +139,7 @@ pub extern "C" fn eistulko_start(conn: &mut Connection, row: &mut [Record]) -> u
 pub extern "C" fn eistulko_open(conn: &mut Connection, row: &mut [Record], id: u64) -> Report
     ensures { λ r. ⌜ Opened (now (conn .entry)) (now (row .entry)) id (now (conn .exit)) (now (row .exit)) r ⌝ }
 {
-    step(conn, row, 0, id, 0, b"")
+    step(conn, row, rules::OPEN, id, 0, b"")
 }
 
 #[no_mangle]
@@ -153,14 +153,14 @@ pub extern "C" fn eistulko_feed(
     ensures { λ r. ⌜ Fed (now (conn .entry)) (now (row .entry)) id (now (piece .entry)) allow (now (conn .exit)) (now (row .exit)) r ⌝ }
 {
     if row.len() == 24 {
-        let f = seek(&*row, 1, id);
+        let f = seek(&*row, rules::FEED, id);
         let b = connection::brisk(conn.doors.code, f, allow, piece);
         if b.report.number == 0 {
             store_content(row, f.at, b.row);
             return b.report;
         }
     }
-    let t = step(conn, row, 1, id, allow, piece);
+    let t = step(conn, row, rules::FEED, id, allow, piece);
     t
 }
 
@@ -173,21 +173,21 @@ pub extern "C" fn eistulko_give(
 ) -> Report
     ensures { λ r. ⌜ Given (now (conn .entry)) (now (row .entry)) id (now (block .entry)) (now (conn .exit)) (now (row .exit)) r ⌝ }
 {
-    step(conn, row, 2, id, 0, block)
+    step(conn, row, rules::GIVE, id, 0, block)
 }
 
 #[no_mangle]
 pub extern "C" fn eistulko_end(conn: &mut Connection, row: &mut [Record], id: u64) -> Report
     ensures { λ r. ⌜ Ended (now (conn .entry)) (now (row .entry)) id (now (conn .exit)) (now (row .exit)) r ⌝ }
 {
-    step(conn, row, 3, id, 0, b"")
+    step(conn, row, rules::END, id, 0, b"")
 }
 
 #[no_mangle]
 pub extern "C" fn eistulko_reset(conn: &mut Connection, row: &mut [Record], id: u64) -> Report
     ensures { λ r. ⌜ Reset (now (conn .entry)) (now (row .entry)) id (now (conn .exit)) (now (row .exit)) r ⌝ }
 {
-    step(conn, row, 4, id, 0, b"")
+    step(conn, row, rules::RESET, id, 0, b"")
 }
 
 #[no_mangle]

@@ -93,7 +93,7 @@ fn numbered_report(number: u64) -> Report
 {
     Report {
         number,
-        event: 0,
+        event: rules::NOTHING,
         start: 0,
         len: 0,
         used: 0,
@@ -149,7 +149,7 @@ fn code_kept(d: Doors, number: u64) -> Doors
 pub fn wanted(call: u64, id: u64, r: Record) -> bool
     ensures { λ b. ⌜ Decides (Wanted call id r) b ⌝ }
 {
-    if call == 0 {
+    if call == rules::OPEN {
         return record::is_free(r);
     }
     if r.id != id {
@@ -225,13 +225,13 @@ fn open_stream(d: Doors, f: Found, id: StreamId) -> Near
 fn ask(r: Record, call: u64, allow: u64, piece: &[u8]) -> Reply
     ensures { λ a. ⌜ Asks r call allow (now (piece .entry)) a ⌝ }
 {
-    if call == 1 {
+    if call == rules::FEED {
         return requests::feed(r, piece, allow);
     }
-    if call == 2 {
+    if call == rules::GIVE {
         return requests::give(r, piece);
     }
-    if call == 3 {
+    if call == rules::END {
         return requests::end(r);
     }
     requests::reset(r)
@@ -261,10 +261,10 @@ fn reply_turn(d: Doors, a: Reply) -> Near
 fn heed(r: Record, d: Side, call: u64, allow: u64, piece: &[u8]) -> Heard
     ensures { λ a. ⌜ Hears r d call allow (now (piece .entry)) a ⌝ }
 {
-    if call == 1 {
+    if call == rules::FEED {
         return oneways::feed(r, d, piece, allow);
     }
-    if call == 2 {
+    if call == rules::GIVE {
         return oneways::give(r, d);
     }
     oneways::close(r, d)
@@ -298,16 +298,16 @@ pub fn answer(d: Doors, f: Found, call: u64, id: u64, allow: u64, piece: &[u8]) 
     ensures { λ r. ⌜ Nearly d f call id allow (now (piece .entry)) r ⌝ }
 {
     if f.len != 24 {
-        return refused(9, d, f);
+        return refused(rules::NOT_24, d, f);
     }
     if d.code != 0 {
         return refused(d.code, d, f);
     }
-    if call == 0 {
+    if call == rules::OPEN {
         return open_stream(d, f, StreamId(id));
     }
     if 24 <= f.at {
-        return refused(1, d, f);
+        return refused(rules::NOT_OPEN, d, f);
     }
     let row = f.row;
     // 1 to a record that is not an open stream's, here and aside.
@@ -379,7 +379,7 @@ pub fn brisk(code: u64, f: Found, allow: u64, piece: &[u8]) -> Brief
     }
     Brief {
         row,
-        report: numbered_report(1),
+        report: numbered_report(rules::NOT_OPEN),
     }
 }
 
@@ -395,7 +395,10 @@ pub fn begin(c: Connection, len: usize) -> Begun
             conn: fresh(),
         }
     } else {
-        Begun { number: 9, conn: c }
+        Begun {
+            number: rules::NOT_24,
+            conn: c,
+        }
     }
 }
 

@@ -39,7 +39,7 @@ fn refused(code: u64, kept: Kept) -> Verdict
 {
     Verdict {
         number: code,
-        event: 0,
+        event: rules::NOTHING,
         id: PushId(0),
         kept,
     }
@@ -80,7 +80,7 @@ fn judge_settings(kept: Kept, payload: &[u8]) -> Verdict
         Judged::Refused(code) => refused(code, kept),
         Judged::Kept(s) => Verdict {
             number: 0,
-            event: 8,
+            event: rules::SETTINGS,
             id: PushId(0),
             kept: keep_settings(s),
         },
@@ -95,7 +95,7 @@ fn with_goaway(kept: Kept, id: PushId) -> Verdict
     let push = kept.push;
     Verdict {
         number: 0,
-        event: 9,
+        event: rules::CLIENT_GOAWAY,
         id,
         kept: Kept {
             set: 1,
@@ -117,7 +117,7 @@ fn with_max_push(kept: Kept, id: PushId) -> Verdict
     let goaway = kept.goaway;
     Verdict {
         number: 0,
-        event: 10,
+        event: rules::MAX_PUSH_ID,
         id,
         kept: Kept {
             set: 1,

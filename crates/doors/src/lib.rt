@@ -79,7 +79,7 @@ fn admitted(free: u64, next: Doors, d: Doors) -> Opening
     ensures { λ r. ⌜ r ≡ admittedAs free next d ⌝ }
 {
     if free == 0 {
-        refused(3, d)
+        refused(rules::NO_RECORD, d)
     } else {
         Opening {
             number: 0,
@@ -93,7 +93,7 @@ fn open_request(d: Doors, id: StreamId, free: u64) -> Opening
     ensures { λ r. ⌜ r ≡ requestOf d (id .0) free ⌝ }
 {
     if id.0 != d.requests {
-        return refused(2, d);
+        return refused(rules::NOT_NEXT, d);
     }
     if barred(d, id) {
         Opening {
@@ -110,7 +110,7 @@ fn open_one_way(d: Doors, id: StreamId, free: u64) -> Opening
     ensures { λ r. ⌜ r ≡ oneWayOf d (id .0) free ⌝ }
 {
     if id.0 != d.oneways {
-        return refused(2, d);
+        return refused(rules::NOT_NEXT, d);
     }
     admitted(free, next_one_way(d), d)
 }
@@ -123,7 +123,7 @@ pub fn open(d: Doors, id: StreamId, free: u64) -> Opening
         return refused(d.code, d);
     }
     if 4611686018427387904 <= id.0 {
-        return refused(2, d);
+        return refused(rules::NOT_NEXT, d);
     }
     if id.0 % 4 == 0 {
         return open_request(d, id, free);
@@ -131,7 +131,7 @@ pub fn open(d: Doors, id: StreamId, free: u64) -> Opening
     if id.0 % 4 == 2 {
         return open_one_way(d, id, free);
     }
-    refused(2, d)
+    refused(rules::NOT_NEXT, d)
 }
 
 // ---- our GOAWAY

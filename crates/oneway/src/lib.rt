@@ -149,9 +149,9 @@ fn control(s: &[u8], at: usize, w: OneWay, c: Cells, allow: u64) -> OneAnswer
                 cells: left,
             },
         }
-    } else if a.event == 4 {
+    } else if a.event == rules::FAULT {
         OneAnswer {
-            event: 4,
+            event: rules::FAULT,
             start: at + a.used,
             len: a.len,
             used: at + a.used,
@@ -159,9 +159,9 @@ fn control(s: &[u8], at: usize, w: OneWay, c: Cells, allow: u64) -> OneAnswer
             payload: 0,
             stream: w,
         }
-    } else if a.event == 5 {
+    } else if a.event == rules::KEPT {
         OneAnswer {
-            event: 5,
+            event: rules::KEPT,
             start: at + a.start,
             len: a.len,
             used: at + a.used,
@@ -174,7 +174,7 @@ fn control(s: &[u8], at: usize, w: OneWay, c: Cells, allow: u64) -> OneAnswer
         }
     } else {
         OneAnswer {
-            event: 6,
+            event: rules::KEPT_PART,
             start: at + a.start,
             len: a.len,
             used: at + a.used,
@@ -193,7 +193,7 @@ fn quiet(to: usize, w: OneWay) -> OneAnswer
     ensures { λ r. ⌜ r ≡ quietAt to w ⌝ }
 {
     OneAnswer {
-        event: 0,
+        event: rules::NOTHING,
         start: to,
         len: 0,
         used: to,
@@ -212,7 +212,7 @@ fn bare(s: &[u8], at: usize, w: OneWay) -> OneAnswer
         quiet(s.len(), w)
     } else if at < s.len() {
         OneAnswer {
-            event: 7,
+            event: rules::QPACK_BYTES,
             start: at,
             len: (s.len() - at) as u64,
             used: s.len(),
@@ -245,7 +245,7 @@ fn typed(s: &[u8], c: Cells, seen: Seen, allow: u64) -> OneAnswer
     let kind = kind_of(e.acc, seen);
     if 6 < kind {
         return OneAnswer {
-            event: 4,
+            event: rules::FAULT,
             start: e.next,
             len: kind,
             used: e.next,

@@ -226,7 +226,7 @@ fn refuse(number: u64, used: usize, heads: u64, r: Record, d: Side) -> Heard
 {
     Heard {
         number,
-        event: 0,
+        event: rules::NOTHING,
         start: 0,
         len: 0,
         used,
@@ -243,13 +243,13 @@ fn taken_number(which: u64) -> u64
     ensures { λ r. ⌜ r ≡ takenNumber (keptAt which) ⌝ }
 {
     if which == 8 {
-        8
+        rules::SETTINGS
     } else if which == 9 {
-        9
+        rules::CLIENT_GOAWAY
     } else if which == 10 {
-        10
+        rules::MAX_PUSH_ID
     } else {
-        0
+        rules::NOTHING
     }
 }
 
@@ -322,7 +322,7 @@ fn on_kept(r: Record, c: Cells, d: Side, piece: &[u8], allow: u64) -> Heard
         e.acc = c.acc - came;
         Heard {
             number: 0,
-            event: 0,
+            event: rules::NOTHING,
             start: 0,
             len: 0,
             used: piece.len(),
@@ -344,7 +344,7 @@ fn qpack_type(kind: u64) -> u64
 fn begun(event: u64, len: u64) -> usize
     ensures { λ r. ⌜ r ≡ begunIn event len ⌝ }
 {
-    if event == 6 {
+    if event == rules::KEPT_PART {
         if len < 256 { len as usize } else { 256 }
     } else {
         0
@@ -388,10 +388,10 @@ fn on(r: Record, c: Cells, d: Side, piece: &[u8], allow: u64) -> Heard
         },
         allow,
     );
-    if a.event == 4 {
+    if a.event == rules::FAULT {
         return refuse(a.len, a.used, a.heads, r, d);
     }
-    if a.event == 5 {
+    if a.event == rules::KEPT {
         let from = a.start;
         let to = a.used;
         return judged(a.payload, c.phase, &piece[from..to], a.used, a.heads, r, d);
@@ -400,10 +400,10 @@ fn on(r: Record, c: Cells, d: Side, piece: &[u8], allow: u64) -> Heard
     let e = w.cells;
     let row = row_of(w.kind, r.id, e);
     let side = side_of(w.kind, c.phase, d, piece, a.start, begun(a.event, a.len));
-    if a.event == 7 {
+    if a.event == rules::QPACK_BYTES {
         return Heard {
             number: 0,
-            event: 7,
+            event: rules::QPACK_BYTES,
             start: a.start,
             len: a.len,
             used: a.used,
@@ -415,7 +415,7 @@ fn on(r: Record, c: Cells, d: Side, piece: &[u8], allow: u64) -> Heard
     }
     Heard {
         number: 0,
-        event: 0,
+        event: rules::NOTHING,
         start: 0,
         len: 0,
         used: a.used,
@@ -459,7 +459,7 @@ pub fn feed(r: Record, d: Side, piece: &[u8], allow: u64) -> Heard
             on_kept(r, c, d, piece, allow)
         }
     } else {
-        refuse(1, 0, 0, r, d)
+        refuse(rules::NOT_OPEN, 0, 0, r, d)
     }
 }
 
@@ -468,9 +468,9 @@ pub fn give(r: Record, d: Side) -> Heard
     ensures { λ a. ⌜ HeardAs r d (givenHere r d) a ⌝ }
 {
     if heeds(r) {
-        refuse(5, 0, 0, r, d)
+        refuse(rules::NONE_DUE, 0, 0, r, d)
     } else {
-        refuse(1, 0, 0, r, d)
+        refuse(rules::NOT_OPEN, 0, 0, r, d)
     }
 }
 
@@ -488,7 +488,7 @@ pub fn close(r: Record, d: Side) -> Heard
         if n == 0 {
             Heard {
                 number: 0,
-                event: 12,
+                event: rules::FREED,
                 start: 0,
                 len: 0,
                 used: 0,
@@ -501,6 +501,6 @@ pub fn close(r: Record, d: Side) -> Heard
             refuse(n, 0, 0, r, d)
         }
     } else {
-        refuse(1, 0, 0, r, d)
+        refuse(rules::NOT_OPEN, 0, 0, r, d)
     }
 }

@@ -134,37 +134,37 @@ fn event(room: &mut [u8; 2048], to: usize, kept: Kept, r: Report) -> usize
     requires { ⌜ to + 75 ≤ 2048 ⌝ }
     ensures { λ q. ⌜ Puts (now (room .entry)) to (eventText kept r) 75 (now (room .exit)) q ⌝ }
 {
-    if r.event == 1 {
+    if r.event == rules::CONTENT {
         return part(room, to, b"content", r.start, r.len);
     }
-    if r.event == 2 {
+    if r.event == rules::SECTION_BYTES {
         let a = part(room, to, b"section", r.start, r.len);
         return listing::put(room, a, b" 0");
     }
-    if r.event == 3 {
+    if r.event == rules::SECTION_END {
         let a = part(room, to, b"section", r.start, r.len);
         return listing::put(room, a, b" 1");
     }
-    if r.event == 7 {
+    if r.event == rules::QPACK_BYTES {
         let a = part(room, to, b"qpack", r.value, r.start);
         return spaced(room, a, r.len);
     }
-    if r.event == 8 {
+    if r.event == rules::SETTINGS {
         let a = listing::put(room, to, b"settings");
         return settings(room, a, kept);
     }
-    if r.event == 9 {
+    if r.event == rules::CLIENT_GOAWAY {
         let a = listing::put(room, to, b"goaway");
         return spaced(room, a, r.value);
     }
-    if r.event == 10 {
+    if r.event == rules::MAX_PUSH_ID {
         let a = listing::put(room, to, b"maxpush");
         return spaced(room, a, r.value);
     }
-    if r.event == 11 {
+    if r.event == rules::WHOLE {
         return listing::put(room, to, b"whole");
     }
-    if r.event == 12 {
+    if r.event == rules::FREED {
         return listing::put(room, to, b"freed");
     }
     listing::put(room, to, b"-")

@@ -66,9 +66,9 @@ pub fn reset(r: Record) -> Reply
 {
     let s = record::read(r);
     if s.kind == 1 {
-        told(0, 12, record::free())
+        told(rules::ACCEPTED, rules::FREED, record::free())
     } else {
-        told(1, 0, r)
+        told(rules::NOT_OPEN, rules::NOTHING, r)
     }
 }
 
@@ -81,12 +81,12 @@ pub fn end(r: Record) -> Reply
         let c = s.cells;
         let n = streams::end(c);
         if n == 0 {
-            told(0, 11, record::free())
+            told(rules::ACCEPTED, rules::WHOLE, record::free())
         } else {
-            told(n, 0, left(n, r))
+            told(n, rules::NOTHING, left(n, r))
         }
     } else {
-        told(1, 0, r)
+        told(rules::NOT_OPEN, rules::NOTHING, r)
     }
 }
 
@@ -98,16 +98,16 @@ pub fn feed(r: Record, piece: &[u8], allow: u64) -> Reply
     if s.kind == 1 {
         let c = s.cells;
         if c.mode == 6 {
-            return told(4, 0, r);
+            return told(rules::SECTION_DUE, rules::NOTHING, r);
         }
         if c.mode == 7 {
-            return told(4, 0, r);
+            return told(rules::SECTION_DUE, rules::NOTHING, r);
         }
         let a = streams::feed(piece, c, allow);
-        if a.event == 4 {
+        if a.event == rules::FAULT {
             return Reply {
                 number: a.len,
-                event: 0,
+                event: rules::NOTHING,
                 start: 0,
                 len: 0,
                 used: a.used,
@@ -117,10 +117,10 @@ pub fn feed(r: Record, piece: &[u8], allow: u64) -> Reply
         }
         let d = a.cells;
         let q = kept(r.id, d);
-        if a.event == 0 {
+        if a.event == rules::NOTHING {
             return Reply {
                 number: 0,
-                event: 0,
+                event: rules::NOTHING,
                 start: 0,
                 len: 0,
                 used: a.used,
@@ -129,10 +129,10 @@ pub fn feed(r: Record, piece: &[u8], allow: u64) -> Reply
             };
         }
         // No payload of a request is kept, so no event above 4 comes.
-        if 4 < a.event {
+        if rules::FAULT < a.event {
             return Reply {
                 number: 0,
-                event: 0,
+                event: rules::NOTHING,
                 start: 0,
                 len: 0,
                 used: a.used,
@@ -150,7 +150,7 @@ pub fn feed(r: Record, piece: &[u8], allow: u64) -> Reply
             row: q,
         }
     } else {
-        told(1, 0, r)
+        told(rules::NOT_OPEN, rules::NOTHING, r)
     }
 }
 
@@ -161,7 +161,7 @@ pub fn brisk(r: Record, piece: &[u8], allow: u64) -> Reply
     if record::in_body(r) {
         let c = record::cells_in(r);
         let b = streams::brisk(piece, c, allow);
-        if b.event == 1 {
+        if b.event == rules::CONTENT {
             let d = b.cells;
             return Reply {
                 number: 0,
@@ -174,7 +174,7 @@ pub fn brisk(r: Record, piece: &[u8], allow: u64) -> Reply
             };
         }
     }
-    told(1, 0, r)
+    told(rules::NOT_OPEN, rules::NOTHING, r)
 }
 
 // The section that is due.
@@ -187,12 +187,12 @@ pub fn give(r: Record, block: &[u8]) -> Reply
         let g = given::give(c, block);
         if g.number == 0 {
             let d = g.cells;
-            told(0, 0, kept(r.id, d))
+            told(rules::ACCEPTED, rules::NOTHING, kept(r.id, d))
         } else {
             let n = g.number;
-            told(n, 0, left(n, r))
+            told(n, rules::NOTHING, left(n, r))
         }
     } else {
-        told(1, 0, r)
+        told(rules::NOT_OPEN, rules::NOTHING, r)
     }
 }

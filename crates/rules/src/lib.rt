@@ -42,3 +42,41 @@ pub const REQUEST_CANCELLED: u64 = 0x010c;
 pub const REQUEST_INCOMPLETE: u64 = 0x010d;
 
 pub const MESSAGE_ERROR: u64 = 0x010e;
+
+// A call on one stream.
+pub const OPEN: u64 = 0;
+
+pub const FEED: u64 = 1;
+
+pub const GIVE: u64 = 2;
+
+pub const END: u64 = 3;
+
+pub const RESET: u64 = 4;
+
+// What a call tells: an event of its report (docs/DECISIONS, N13). A fault and the parts of a kept payload are told inside the engine alone.
+pub const NOTHING: u64 = 0;
+
+pub const CONTENT: u64 = 1;
+
+pub const SECTION_BYTES: u64 = 2;
+
+pub const SECTION_END: u64 = 3;
+
+pub const FAULT: u64 = 4;
+
+pub const KEPT: u64 = 5;
+
+pub const KEPT_PART: u64 = 6;
+
+pub const QPACK_BYTES: u64 = 7;
+
+pub const SETTINGS: u64 = 8;
+
+pub const CLIENT_GOAWAY: u64 = 9;
+
+pub const MAX_PUSH_ID: u64 = 10;
+
+pub const WHOLE: u64 = 11;
+
+pub const FREED: u64 = 12;

@@ -333,7 +333,7 @@ fn quiet(used: usize, heads: u64, cells: Cells) -> Answer
     ensures { λ r. ⌜ r ≡ answer 0 used 0 used heads cells ⌝ }
 {
     Answer {
-        event: 0,
+        event: rules::NOTHING,
         start: used,
         len: 0,
         used,
@@ -465,7 +465,7 @@ fn stopped(s: &[u8], number: u64, to: usize, len: u64, rest: u64, c: Cells, head
         handed(s, to, len, number + 4, c, heads)
     } else {
         Answer {
-            event: 4,
+            event: rules::FAULT,
             start: to,
             len: number,
             used: to,
