@@ -86,8 +86,32 @@ enum {
 };
 
 /* Whether a number closes the connection, and whether it refuses one stream. */
-static inline int eistulko_is_connection_fault(uint64_t number) { return number >= 0x0103 && number <= 0x010a; }
-static inline int eistulko_is_stream_fault(uint64_t number) { return number >= 0x010b && number <= 0x010e; }
+static inline int eistulko_is_connection_fault(uint64_t number) {
+    switch (number) {
+    case EISTULKO_STREAM_CREATION_ERROR:
+    case EISTULKO_CLOSED_CRITICAL_STREAM:
+    case EISTULKO_FRAME_UNEXPECTED:
+    case EISTULKO_FRAME_ERROR:
+    case EISTULKO_EXCESSIVE_LOAD:
+    case EISTULKO_ID_ERROR:
+    case EISTULKO_SETTINGS_ERROR:
+    case EISTULKO_MISSING_SETTINGS:
+        return 1;
+    default:
+        return 0;
+    }
+}
+static inline int eistulko_is_stream_fault(uint64_t number) {
+    switch (number) {
+    case EISTULKO_REQUEST_REJECTED:
+    case EISTULKO_REQUEST_CANCELLED:
+    case EISTULKO_REQUEST_INCOMPLETE:
+    case EISTULKO_MESSAGE_ERROR:
+        return 1;
+    default:
+        return 0;
+    }
+}
 
 /* ---- events: what an accepted call tells, at most one a call ---- */
 enum {

@@ -69,12 +69,24 @@ impl Refused {
 
     /// Whether one stream is refused: reset it with the number.
     pub fn is_stream_fault(self) -> bool {
-        matches!(self.number(), 0x010b..=0x010e)
+        use Refused::*;
+        matches!(self, RequestRejected | RequestCancelled | RequestIncomplete | MessageError)
     }
 
     /// Whether the connection is dead: close it with the number.
     pub fn is_connection_fault(self) -> bool {
-        matches!(self.number(), 0x0103..=0x010a)
+        use Refused::*;
+        matches!(
+            self,
+            StreamCreationError
+                | ClosedCriticalStream
+                | FrameUnexpected
+                | FrameError
+                | ExcessiveLoad
+                | IdError
+                | SettingsError
+                | MissingSettings
+        )
     }
 
     /// The answer of a call by its number; 0 is accepted.
