@@ -35,7 +35,8 @@ static bool is_closed(void *c) { return client_closed(c, NULL) != CONNECTION_OPE
 static void must_close(client *c, uint64_t expected) {
     uint64_t code;
     client_run(c, is_closed, c, LIMIT);
-    if (client_closed(c, &code) != CLOSED_BY_TRANSPORT || code != expected) fail("not closed with 0x%" PRIx64 " but %d, 0x%" PRIx64, expected, client_closed(c, &code), code);
+    client_closure how = client_closed(c, &code);
+    if (how != CLOSED_BY_TRANSPORT || code != expected) fail("not closed with 0x%" PRIx64 " but %d, 0x%" PRIx64, expected, (int)how, code);
     client_drop(c);
 }
 
