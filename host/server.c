@@ -304,7 +304,8 @@ static void receive(struct server *s, const struct datagram *d) {
     ngtcp2_version_cid to = {0};
     int error = ngtcp2_pkt_decode_version_cid(&to, d->bytes, d->count, CID_LENGTH);
     bool other = to.version && to.version != NGTCP2_PROTO_VER_V1; /* libngtcp2 would take others too */
-    if (error == NGTCP2_ERR_VERSION_NEGOTIATION || (!error && other)) say_versions(d, &to);
+    bool large = d->count >= NGTCP2_MAX_UDP_PAYLOAD_SIZE;         /* as a first packet must be: we answer with less */
+    if (error == NGTCP2_ERR_VERSION_NEGOTIATION || (!error && other && large)) say_versions(d, &to);
     if (error || other) return;
     struct connection *c = addressee(s, to.dcid, to.dcidlen);
     if (!c) welcome(s, d);
