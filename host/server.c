@@ -105,9 +105,10 @@ static void forget(struct connection *c) {
     while (*at && *at != c) at = &(*at)->next_due;
     if (*at) *at = c->next_due;
     timers_unset(&s->timers, &c->timer);
+    bool was_last = c->place != NO_PLACE && s->count == 1;
     if (c->place != NO_PLACE) leave_place(c);
     connection_free(c);
-    if (!s->count) malloc_trim(0); /* what a crowd took is given back when it is gone */
+    if (was_last) malloc_trim(0); /* what a crowd took is given back when it is gone */
 }
 
 /* The connection is closed from our side: with HTTP's code, or with what went wrong below it. */
