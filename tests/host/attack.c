@@ -161,6 +161,18 @@ static void moving(void) {
     }
 }
 
+/* A packet that ends within a frame's type: what quinn-proto 0.9.2 panics for. */
+static void cut(void) {
+    static const uint8_t types[] = {0xc0, 0, 0, 0, 0, 0, 0};
+    for (size_t count = 1; count <= sizeof types; count++) {
+        peer p;
+        must_open(&p);
+        peer_send(&p, types, count);
+        pause_ms(5);
+        client_drop(p.client);
+    }
+}
+
 /* ---- memory and time */
 
 /* A crowd of peers, each kept open by a PING now and then. */
@@ -592,7 +604,7 @@ static void comers(void) {
 static const struct {
     const char *name;
     void (*run)(void);
-} attacks[] = {{"noparams", noparams}, {"messages", messages}, {"ids", ids}, {"retiring", retiring}, {"moving", moving},
+} attacks[] = {{"noparams", noparams}, {"messages", messages}, {"ids", ids}, {"retiring", retiring}, {"moving", moving}, {"cut", cut},
              {"gaps", gaps}, {"paths", paths}, {"parts", parts}, {"unread", unread}, {"idle", idle}, {"initials", initials}, {"half", half},
              {"order", order}, {"crowded", crowded}, {"garbage", garbage}, {"versions", versions}, {"refusals", refusals}, {"stops", stops}, {"comers", comers}};
 
