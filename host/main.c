@@ -95,7 +95,8 @@ static void listen_to(struct server *s, const struct words *w, uint16_t port) {
         char text[INET6_ADDRSTRLEN];
         bool v4 = here->any.sa_family == AF_INET;
         inet_ntop(here->any.sa_family, v4 ? (const void *)&here->v4.sin_addr : &here->v6.sin6_addr, text, sizeof text);
-        say(v4 ? "listening on %s:%d%s%s" : "listening on [%s]:%d%s%s", text, port_of(&s->listeners[i]), i ? "" : ", certificate pin ", i ? "" : s->certificate.pin);
+        const char *form = v4 ? "listening on %s:%d%s%s" : "listening on [%s]:%d%s%s"; /* the pin is said once */
+        say(form, text, port_of(&s->listeners[i]), i ? "" : ", certificate pin ", i ? "" : s->certificate.pin);
     }
 }
 

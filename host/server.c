@@ -105,9 +105,10 @@ static void forget(struct connection *c) {
     while (*at && *at != c) at = &(*at)->next_due;
     if (*at) *at = c->next_due;
     timers_unset(&s->timers, &c->timer);
+    bool was_last = c->place != NO_PLACE && s->count == 1;
     if (c->place != NO_PLACE) leave_place(c);
     connection_free(c);
-    if (!s->count) malloc_trim(0); /* what a crowd took is given back when it is gone */
+    if (was_last) malloc_trim(0); /* what a crowd took is given back when it is gone */
 }
 
 /* The connection is closed from our side: with HTTP's code, or with what went wrong below it. */
@@ -304,7 +305,8 @@ static void receive(struct server *s, const struct datagram *d) {
     ngtcp2_version_cid to = {0};
     int error = ngtcp2_pkt_decode_version_cid(&to, d->bytes, d->count, CID_LENGTH);
     bool other = to.version && to.version != NGTCP2_PROTO_VER_V1; /* libngtcp2 would take others too */
-    if (error == NGTCP2_ERR_VERSION_NEGOTIATION || (!error && other)) say_versions(d, &to);
+    bool large = d->count >= NGTCP2_MAX_UDP_PAYLOAD_SIZE;         /* as a first packet must be: we answer with less */
+    if (error == NGTCP2_ERR_VERSION_NEGOTIATION || (!error && other && large)) say_versions(d, &to);
     if (error || other) return;
     struct connection *c = addressee(s, to.dcid, to.dcidlen);
     if (!c) welcome(s, d);

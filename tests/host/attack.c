@@ -35,7 +35,8 @@ static bool is_closed(void *c) { return client_closed(c, NULL) != CONNECTION_OPE
 static void must_close(client *c, uint64_t expected) {
     uint64_t code;
     client_run(c, is_closed, c, LIMIT);
-    if (client_closed(c, &code) != CLOSED_BY_TRANSPORT || code != expected) fail("not closed with 0x%" PRIx64 " but %d, 0x%" PRIx64, expected, client_closed(c, &code), code);
+    client_closure how = client_closed(c, &code);
+    if (how != CLOSED_BY_TRANSPORT || code != expected) fail("not closed with 0x%" PRIx64 " but %d, 0x%" PRIx64, expected, (int)how, code);
     client_drop(c);
 }
 
@@ -156,6 +157,18 @@ static void moving(void) {
             peer_send(&p, frames, (size_t)(at - frames));
             pause_ms(2);
         }
+        client_drop(p.client);
+    }
+}
+
+/* A packet that ends within a frame's type: what quinn-proto 0.9.2 panics for. */
+static void cut(void) {
+    static const uint8_t types[] = {0xc0, 0, 0, 0, 0, 0, 0};
+    for (size_t count = 1; count <= sizeof types; count++) {
+        peer p;
+        must_open(&p);
+        peer_send(&p, types, count);
+        pause_ms(5);
         client_drop(p.client);
     }
 }
@@ -591,7 +604,7 @@ static void comers(void) {
 static const struct {
     const char *name;
     void (*run)(void);
-} attacks[] = {{"noparams", noparams}, {"messages", messages}, {"ids", ids}, {"retiring", retiring}, {"moving", moving},
+} attacks[] = {{"noparams", noparams}, {"messages", messages}, {"ids", ids}, {"retiring", retiring}, {"moving", moving}, {"cut", cut},
              {"gaps", gaps}, {"paths", paths}, {"parts", parts}, {"unread", unread}, {"idle", idle}, {"initials", initials}, {"half", half},
              {"order", order}, {"crowded", crowded}, {"garbage", garbage}, {"versions", versions}, {"refusals", refusals}, {"stops", stops}, {"comers", comers}};
 

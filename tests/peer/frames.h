@@ -124,18 +124,16 @@ static bool peer_open(peer *p, uint16_t port) {
 
 /* One packet. */
 static void peer_send(peer *p, const uint8_t *frames, size_t count) {
-    static uint8_t packet[65536], padded[65536];
-    enum { LEAST = 24, TAG = 16 };
+    static uint8_t packet[65536];
+    enum { TAG = 16 };
     size_t at = 1 + p->keys.to_length, head = at + NUMBER;
-    memcpy(padded, frames, count);
-    for (; count < LEAST; count++) padded[count] = 0; /* PADDING: a sample for the mask is wanted */
     uint32_t number = p->keys.number++;
     uint8_t nonce[12], mask[16];
     nonce_of(nonce, p->keys.iv, number);
     packet[0] = 0x40 | (NUMBER - 1);
     memcpy(packet + 1, p->keys.to, p->keys.to_length);
     for (int i = 0; i < NUMBER; i++) packet[at + (size_t)i] = (uint8_t)(number >> (8 * (NUMBER - 1 - i)));
-    if (ngtcp2_crypto_encrypt_cb(packet + head, &p->keys.aead, &p->keys.sealing, padded, count, nonce, sizeof nonce, packet, head)) abort();
+    if (ngtcp2_crypto_encrypt_cb(packet + head, &p->keys.aead, &p->keys.sealing, frames, count, nonce, sizeof nonce, packet, head)) abort();
     if (ngtcp2_crypto_hp_mask_cb(mask, &p->keys.cipher, &p->keys.masking, packet + head)) abort();
     packet[0] ^= mask[0] & 0x1f;
     for (int i = 0; i < NUMBER; i++) packet[at + (size_t)i] ^= mask[1 + i];

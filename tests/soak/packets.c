@@ -1,6 +1,7 @@
 /* packets PORT SEED SECONDS: a fuzzer of decrypted packets. Clients of their own making send what no stack would: TLS and frames spoiled before the handshake
    is done, any frames under true keys behind it, acknowledgements that make an answer lost again and again, an honest upload's packets spoiled one by one, and
-   heads of packets spoiled on the way. An honest client is served after every round. Status 0 if all were; what is sent is decided by the seed, when it comes by the machine. */
+   heads of packets spoiled on the way. An honest client is served after every round. Status 0 if all were. What is sent is decided by the seed, when it comes
+   by the machine. */
 #include "../peer/frames.h"
 
 #include <inttypes.h>
