@@ -1,10 +1,10 @@
 // The connection record and every call by value (document 01, "Calls and the host's memory").
 use doors::Doors;
-use ids::StreamId;
 use oneways::Heard;
 use oneways::Side;
 use record::Record;
 use requests::Reply;
+use wire::ids::StreamId;
 ghost use mathlib.Core.Path.{_≡_};
 ghost use lib.ListN.{length};
 ghost use Rattle.record.specs.Sound.{Decides};

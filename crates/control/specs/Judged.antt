@@ -11,7 +11,7 @@ use Rattle.rules.specs.Numbers.{FRAME-UNEXPECTED, FRAME-ERROR, ID-ERROR}
 use Rattle.rules.specs.Integers.{integer}
 use Rattle.rules.specs.Reading.{Next, stop, go}
 use Rattle.rules.specs.Control.{Settings, settings-of, only}
-use Rattle.ids.specs.declared.PushId.{PushId}
+use Rattle.wire.specs.declared.ids.PushId.{PushId}
 use Rattle.settings.specs.declared.SectionSize.{SectionSize}
 use Rattle.settings.specs.declared.SectionSize.the-variants.{Unlimited, AtMost}
 use Rattle.settings.specs.declared.Settings as kept-settings

@@ -9,7 +9,7 @@ use Rattle.rules.specs.Writer.{Write, refused, wrote, write-goaway}
 use Rattle.varint.specs.Write.{wroteOf, leftIn, Meets}
 use Rattle.varint.specs.declared.Wrote.{Wrote}
 use Rattle.varint.specs.declared.Wrote.the-variants.{Refused, Count}
-use Rattle.ids.specs.declared.StreamId.{StreamId}
+use Rattle.wire.specs.declared.ids.StreamId.{StreamId}
 use Rattle.wire.specs.declared.Sent.{Sent}
 use Rattle.wire.specs.declared.Sent.the-variants.{Nothing, Up}
 use Rattle.wire.specs.Goaway.{sentOf}

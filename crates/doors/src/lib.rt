@@ -1,7 +1,7 @@
 // Which streams a connection lets in (document 01, "Calls and the host's memory"), by value.
-use ids::StreamId;
 use varint::Wrote;
 use wire::Sent;
+use wire::ids::StreamId;
 ghost use mathlib.Core.Path.{_≡_};
 ghost use Prim.Native.Nat.{_<_, _^_};
 ghost use Rattle.wire.specs.Goaway.{sentOf};

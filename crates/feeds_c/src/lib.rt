@@ -1,11 +1,11 @@
 // Calls on one stream for a tester in another language (tests/feeds): by value, in numbers, for any numbers.
 use control::Kept;
-use ids::PushId;
 use oneway::OneAnswer;
 use oneway::OneWay;
 use oneway::Seen;
 use streams::Answer;
 use streams::Cells;
+use wire::ids::PushId;
 ghost use mathlib.Core.Path.{_≡_};
 ghost use Rattle.varint.specs.ByByte.{part, Good};
 ghost use Rattle.streams.specs.Answers.{Sane};

@@ -1,5 +1,4 @@
 // The leaves for a tester in another language (tests/leaves): each answer as numbers, and no logic of its own.
-use ids::StreamId;
 use section::HeaderAnswer;
 use section::Stated;
 use section::TrailerAnswer;
@@ -8,6 +7,7 @@ use settings::SectionSize;
 use varint::Whole;
 use varint::Wrote;
 use wire::Sent;
+use wire::ids::StreamId;
 ghost use mathlib.Core.Path.{_≡_};
 ghost use lib.ListN.{length, drop};
 ghost use Rattle.rules.specs.Integers.{integer};

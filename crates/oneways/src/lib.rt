@@ -1,12 +1,12 @@
 // The calls of one one-way stream over its record and what the connection keeps beside it (document 01, "Frames"), by value: a number, and the
 // record and the side that it leaves.
 use control::Kept;
-use ids::PushId;
 use oneway::OneWay;
 use oneway::Seen;
 use record::Record;
 use record::Stream;
 use streams::Cells;
+use wire::ids::PushId;
 ghost use mathlib.Core.Path.{_≡_};
 ghost use Prim.Native.Nat.{ℕ, _+_, _-_, _%_, _≤_, _<_, _^_, min};
 ghost use mathlib.Core.List.{_++_};

@@ -1,6 +1,5 @@
 // RFC 9000's sample integers and document 01's worked bytes, one line each; what is to come stands in the file stdout.
 use fields::Record;
-use ids::StreamId;
 use libc::STDOUT_FILENO;
 use section::HeaderAnswer;
 use section::Stated;
@@ -12,6 +11,7 @@ use settings::Single;
 use varint::Whole;
 use varint::Wrote;
 use wire::Sent;
+use wire::ids::StreamId;
 
 fn text(t: &[u8]) {
     io::write_all(STDOUT_FILENO, t);
