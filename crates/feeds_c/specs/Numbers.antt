@@ -11,7 +11,7 @@ use Rattle.streams.specs.declared.Cells.{Cells}
 use Rattle.streams.specs.declared.Answer.{Answer}
 use Rattle.streams.specs.Answers.{Sane}
 use Rattle.streams.specs.Fed.{Fed}
-use Rattle.given.specs.declared.Given.{Given}
+use Rattle.requests.specs.declared.given.Given.{Given}
 use Rattle.feeds_c.specs.declared.Stand.{Stand}
 use Rattle.feeds_c.specs.declared.Report.{Report}
 use Rattle.feeds_c.specs.declared.Gave.{Gave}

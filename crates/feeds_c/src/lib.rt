@@ -10,7 +10,7 @@ ghost use mathlib.Core.Path.{_≡_};
 ghost use Rattle.varint.specs.ByByte.{part, Good};
 ghost use Rattle.streams.specs.Answers.{Sane};
 ghost use Rattle.streams.specs.End.{Ends};
-ghost use Rattle.given.specs.Taken.{givenOf};
+ghost use Rattle.requests.specs.Taken.{givenOf};
 ghost use Rattle.oneway.specs.Stands.{OneSound};
 ghost use Rattle.control.specs.Judged.{judgedOf};
 ghost use Rattle.feeds_c.specs.Numbers.{Tells, cellsOf, standOf, refused, reportOf, Reported, gaveOf};
@@ -186,7 +186,7 @@ pub extern "C" fn eist_feed(at: Stand, piece: &[u8], allow: u64) -> Report
 pub extern "C" fn eist_give(at: Stand, block: &[u8]) -> Gave
     ensures { λ r. ⌜ r ≡ gaveOf (givenOf (cellsOf at) (now (block .entry))) ⌝ }
 {
-    let g = given::give(cells_of(at), block);
+    let g = requests::given::give(cells_of(at), block);
     let left = g.cells;
     Gave {
         number: g.number,

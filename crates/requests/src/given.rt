@@ -6,7 +6,7 @@ use streams::Cells;
 ghost use mathlib.Core.Path.{_≡_};
 ghost use Rattle.rules.specs.Block.{lines};
 ghost use Rattle.section.specs.Answer.{readStated};
-ghost use Rattle.given.specs.Taken.{cellsAt, bodyCells, headedAs, headerOf, trailedAs, trailerOf, givenOf};
+ghost use Rattle.requests.specs.Taken.{cellsAt, bodyCells, headedAs, headerOf, trailedAs, trailerOf, givenOf};
 
 // The number, and where the stream stands then.
 pub struct Given {

@@ -1,11 +1,11 @@
 use Rattle.section.specs.Answer.{readStated}
-use Rattle.given.specs.Taken.{bodyCells}
+use Rattle.requests.specs.Taken.{bodyCells}
 use borrow.Author.Needs.{needs}
-use Rattle.given.proofs.body_cells.Statement.{statement}
-use Rattle.given.proofs.body_cells.Tie as tie
-use Rattle.given.proofs.body_cells.Reads as reads
-use Rattle.given.proofs.body_cells.Lts as lts
-use Rattle.given.proofs.cells_at.Reads as cells-at-reads
+use Rattle.requests.proofs.given.body_cells.Statement.{statement}
+use Rattle.requests.proofs.given.body_cells.Tie as tie
+use Rattle.requests.proofs.given.body_cells.Reads as reads
+use Rattle.requests.proofs.given.body_cells.Lts as lts
+use Rattle.requests.proofs.given.cells_at.Reads as cells-at-reads
 
 -- src/lib.rt:37:28
 enum-told : tie.Need-enum-told

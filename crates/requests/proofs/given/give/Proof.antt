@@ -1,13 +1,13 @@
 use denote.Ref.{now}
 use native.Mathlib.Omega.{arith}
-use Rattle.given.specs.Taken.{given-control, given-header, given-trailers, given-undue}
+use Rattle.requests.specs.Taken.{given-control, given-header, given-trailers, given-undue}
 use borrow.Author.Needs.{needs}
-use Rattle.given.proofs.give.Statement.{statement}
-use Rattle.given.proofs.give.Tie as tie
-use Rattle.given.proofs.give.Reads as reads
-use Rattle.given.proofs.give.Lts as lts
-use Rattle.given.proofs.give_header.Reads as give-header-reads
-use Rattle.given.proofs.give_trailers.Reads as give-trailers-reads
+use Rattle.requests.proofs.given.give.Statement.{statement}
+use Rattle.requests.proofs.given.give.Tie as tie
+use Rattle.requests.proofs.given.give.Reads as reads
+use Rattle.requests.proofs.given.give.Lts as lts
+use Rattle.requests.proofs.given.give_header.Reads as give-header-reads
+use Rattle.requests.proofs.given.give_trailers.Reads as give-trailers-reads
 
 -- src/lib.rt:106:9
 returns : tie.Need-returns

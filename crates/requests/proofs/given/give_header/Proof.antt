@@ -1,11 +1,11 @@
 use denote.Ref.{now}
-use Rattle.given.specs.Taken.{header-unread, header-refused, header-taken, header-late}
+use Rattle.requests.specs.Taken.{header-unread, header-refused, header-taken, header-late}
 use borrow.Author.Needs.{needs}
-use Rattle.given.proofs.give_header.Statement.{statement}
-use Rattle.given.proofs.give_header.Tie as tie
-use Rattle.given.proofs.give_header.Reads as reads
-use Rattle.given.proofs.give_header.Lts as lts
-use Rattle.given.proofs.body_cells.Reads as body-cells-reads
+use Rattle.requests.proofs.given.give_header.Statement.{statement}
+use Rattle.requests.proofs.given.give_header.Tie as tie
+use Rattle.requests.proofs.given.give_header.Reads as reads
+use Rattle.requests.proofs.given.give_header.Lts as lts
+use Rattle.requests.proofs.given.body_cells.Reads as body-cells-reads
 use Rattle.section.proofs.code.Reads as code-reads
 use Rattle.section.proofs.header_section.Reads as header-section-reads
 

@@ -30,7 +30,7 @@ use Rattle.streams.specs.Both.{Place, of-request, of-control}
 use Rattle.streams.specs.Uses.{statedOf, placeOf, Stands, a-place, any-set}
 use Rattle.streams.specs.Heads.{headState}
 use Rattle.streams.specs.Answers.{stateAt, stateOf, StandsIn, Sane}
-use Rattle.given.specs.declared.Given.{Given}
+use Rattle.requests.specs.declared.given.Given.{Given}
 
 abbrev pub answer : (number : ℕ) → Cells → Given
 answer n c = record { number = n; cells = c }

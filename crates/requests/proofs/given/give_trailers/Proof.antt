@@ -1,11 +1,11 @@
 use denote.Ref.{now}
-use Rattle.given.specs.Taken.{trailer-unread, trailer-refused, trailer-taken, trailer-late}
+use Rattle.requests.specs.Taken.{trailer-unread, trailer-refused, trailer-taken, trailer-late}
 use borrow.Author.Needs.{needs}
-use Rattle.given.proofs.give_trailers.Statement.{statement}
-use Rattle.given.proofs.give_trailers.Tie as tie
-use Rattle.given.proofs.give_trailers.Reads as reads
-use Rattle.given.proofs.give_trailers.Lts as lts
-use Rattle.given.proofs.cells_at.Reads as cells-at-reads
+use Rattle.requests.proofs.given.give_trailers.Statement.{statement}
+use Rattle.requests.proofs.given.give_trailers.Tie as tie
+use Rattle.requests.proofs.given.give_trailers.Reads as reads
+use Rattle.requests.proofs.given.give_trailers.Lts as lts
+use Rattle.requests.proofs.given.cells_at.Reads as cells-at-reads
 use Rattle.section.proofs.code.Reads as code-reads
 use Rattle.section.proofs.trailers.Reads as trailers-reads
 
