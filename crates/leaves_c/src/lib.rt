@@ -1,9 +1,9 @@
 // The leaves for a tester in another language (tests/leaves): each answer as numbers, and no logic of its own.
+use control::settings::Judged;
+use control::settings::SectionSize;
 use section::HeaderAnswer;
 use section::Stated;
 use section::TrailerAnswer;
-use settings::Judged;
-use settings::SectionSize;
 use varint::Whole;
 use varint::Wrote;
 use wire::Sent;
@@ -13,7 +13,7 @@ ghost use lib.ListN.{length, drop};
 ghost use Rattle.rules.specs.Integers.{integer};
 ghost use Rattle.rules.specs.Control.{settings-of};
 ghost use Rattle.rules.specs.Writer.{write-integer, write-header, write-integer-frame, write-opening, write-goaway};
-ghost use Rattle.settings.specs.Answers.{sizeIs};
+ghost use Rattle.control.specs.Answers.{sizeIs};
 ghost use Rattle.rules.specs.Block.{lines};
 ghost use Rattle.section.specs.Answer.{readStated, tellHeader, tellTrailers, toldNumber};
 ghost use Rattle.wire.specs.Goaway.{sentOf};
@@ -48,7 +48,7 @@ pub extern "C" fn eist_settings(payload: &[u8], out: &mut [u64; 4]) -> u64
     ensures { λ r. ⌜ r ≡ settingsNumber (numbered (settings-of (now (payload .entry)))) ⌝ }
     ensures { λ _. ⌜ now (out .exit) ≡ settingsOut (numbered (settings-of (now (payload .entry)))) (now (out .entry)) ⌝ }
 {
-    match settings::judge(payload) {
+    match control::settings::judge(payload) {
         Judged::Refused(code) => code,
         Judged::Kept(s) => {
             let size = s.size;

@@ -1,6 +1,6 @@
--- `settings::keep` meets its contract. Assumes nothing.
-use Rattle.settings.proofs.keep.Statement.{statement}
-use Rattle.settings.proofs.keep.Tie as tie
+-- `control::settings::keep` meets its contract. Assumes nothing.
+use Rattle.control.proofs.settings.keep.Statement.{statement}
+use Rattle.control.proofs.settings.keep.Tie as tie
 
 returns : tie.Need-returns
 returns c = simp (c .if1 .taken)

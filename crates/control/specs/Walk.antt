@@ -11,10 +11,10 @@ use Rattle.rules.specs.Integers.{cut, got, integer}
 use Rattle.rules.specs.Reading.{Next}
 use Rattle.rules.specs.Control.{Settings, pairs}
 use Rattle.meaning.specs.NumberLaws.{numbered}
-use Rattle.settings.specs.declared.Judged.{Judged}
-use Rattle.settings.specs.declared.Found.{Found}
-use Rattle.settings.specs.declared.Found.the-variants as found
-use Rattle.settings.specs.Answers.{judgedIs}
+use Rattle.control.specs.declared.settings.Judged.{Judged}
+use Rattle.control.specs.declared.settings.Found.{Found}
+use Rattle.control.specs.declared.settings.Found.the-variants as found
+use Rattle.control.specs.Answers.{judgedIs}
 
 -- ---- pairs of a payload l
 

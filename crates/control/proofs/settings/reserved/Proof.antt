@@ -1,8 +1,8 @@
--- `settings::reserved` meets its contract: the range is the list. Assumes nothing.
+-- `control::settings::reserved` meets its contract: the range is the list. Assumes nothing.
 use native.Mathlib.Omega.{arith}
-use Rattle.settings.specs.WalkLaws.{is-reserved, not-reserved}
-use Rattle.settings.proofs.reserved.Statement.{statement}
-use Rattle.settings.proofs.reserved.Tie as tie
+use Rattle.control.specs.WalkLaws.{is-reserved, not-reserved}
+use Rattle.control.proofs.settings.reserved.Statement.{statement}
+use Rattle.control.proofs.settings.reserved.Tie as tie
 
 returns : tie.Need-returns
 returns c = is-reserved _ (omega arith) (omega arith)

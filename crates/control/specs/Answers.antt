@@ -4,13 +4,13 @@ use Prim.Native.Nat.{ℕ}
 use mathlib.Core.Option.{Option, none, some}
 use Rattle.rules.specs.Control.{Settings}
 use Rattle.meaning.specs.NumberLaws.{Numbered, stops, goes}
-use Rattle.settings.specs.declared.SectionSize.{SectionSize}
-use Rattle.settings.specs.declared.SectionSize.the-variants.{Unlimited, AtMost}
-use Rattle.settings.specs.declared.Settings as kept
-use Rattle.settings.specs.declared.Judged.{Judged}
-use Rattle.settings.specs.declared.Judged.the-variants.{Refused, Kept}
-use Rattle.settings.specs.declared.Single.{Single}
-use Rattle.settings.specs.declared.Single.the-variants.{Is, Not}
+use Rattle.control.specs.declared.settings.SectionSize.{SectionSize}
+use Rattle.control.specs.declared.settings.SectionSize.the-variants.{Unlimited, AtMost}
+use Rattle.control.specs.declared.settings.Settings as kept
+use Rattle.control.specs.declared.settings.Judged.{Judged}
+use Rattle.control.specs.declared.settings.Judged.the-variants.{Refused, Kept}
+use Rattle.control.specs.declared.settings.Single.{Single}
+use Rattle.control.specs.declared.settings.Single.the-variants.{Is, Not}
 
 abbrev pub sizeIs : SectionSize → Option ℕ
 sizeIs Unlimited = none

@@ -4,8 +4,8 @@ ghost use Rattle.rules.specs.Text.{isOneOf};
 ghost use Rattle.rules.specs.Integers.{integer};
 ghost use Rattle.rules.specs.Control.{reserved-identifiers, settings-of, only as the-only};
 ghost use Rattle.meaning.specs.NumberLaws.{numbered};
-ghost use Rattle.settings.specs.Answers.{judgedIs, singleIs, settingsIs};
-ghost use Rattle.settings.specs.Walk.{FoundAt, Looked, Walked, chosen, made};
+ghost use Rattle.control.specs.Answers.{judgedIs, singleIs, settingsIs};
+ghost use Rattle.control.specs.Walk.{FoundAt, Looked, Walked, chosen, made};
 
 // Identifier 6; absent means unlimited.
 pub enum SectionSize {

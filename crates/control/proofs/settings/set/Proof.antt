@@ -1,7 +1,7 @@
--- `settings::set` meets its contract. Assumes nothing.
+-- `control::settings::set` meets its contract. Assumes nothing.
 use borrow.Author.Tests.{eq-eqb, ne-eqb}
-use Rattle.settings.proofs.set.Statement.{statement}
-use Rattle.settings.proofs.set.Tie as tie
+use Rattle.control.proofs.settings.set.Statement.{statement}
+use Rattle.control.proofs.settings.set.Tie as tie
 
 returns : tie.Need-returns
 returns c = simp (eq-eqb _ _ (c .if1 .taken))

@@ -1,10 +1,10 @@
--- `settings::pair_at` meets its contract: what is read twice is a pair, or cut. Assumes nothing.
+-- `control::settings::pair_at` meets its contract: what is read twice is a pair, or cut. Assumes nothing.
 use mathlib.Core.Path.{sym}
 use borrow.Author.Needs.{needs}
 use Rattle.varint.specs.Whole.{wholeIs}
-use Rattle.settings.specs.Walk.{identifier-cut, value-cut}
-use Rattle.settings.proofs.pair_at.Statement.{statement}
-use Rattle.settings.proofs.pair_at.Tie as tie
+use Rattle.control.specs.Walk.{identifier-cut, value-cut}
+use Rattle.control.proofs.settings.pair_at.Statement.{statement}
+use Rattle.control.proofs.settings.pair_at.Tie as tie
 
 read-requires : tie.Need-read-requires
 read-requires c κs = search needs

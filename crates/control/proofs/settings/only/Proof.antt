@@ -1,9 +1,9 @@
--- `settings::only` meets its contract: the integer ends where the payload does, or not. Assumes nothing.
+-- `control::settings::only` meets its contract: the integer ends where the payload does, or not. Assumes nothing.
 use borrow.Author.Needs.{needs}
 use Rattle.varint.specs.Whole.{wholeIs}
-use Rattle.settings.specs.OnlyLaws.{only-cut, only-is, only-not}
-use Rattle.settings.proofs.only.Statement.{statement}
-use Rattle.settings.proofs.only.Tie as tie
+use Rattle.control.specs.OnlyLaws.{only-cut, only-is, only-not}
+use Rattle.control.proofs.settings.only.Statement.{statement}
+use Rattle.control.proofs.settings.only.Tie as tie
 
 read-requires : tie.Need-read-requires
 read-requires c κs = search needs

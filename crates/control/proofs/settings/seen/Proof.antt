@@ -1,14 +1,14 @@
--- `settings::seen` meets its contract. The loop's invariant: what the pairs from `at` on say of the identifier, the pairs from the
+-- `control::settings::seen` meets its contract. The loop's invariant: what the pairs from `at` on say of the identifier, the pairs from the
 -- beginning say. The measure is what is left of the payload. Assumes nothing.
 use Prim.Native.Nat.{_-_}
 use native.Mathlib.Omega.{arith}
 use mathlib.Core.Bool.{Bool, true, false}
 use lib.ListN.{length}
 use borrow.Author.Needs.{needs}
-use Rattle.settings.specs.Walk.{Looked}
-use Rattle.settings.specs.WalkLaws.{look-none, look-cut, look-here, look-on, pair-shortens}
-use Rattle.settings.proofs.seen.Statement.{statement}
-use Rattle.settings.proofs.seen.Tie as tie
+use Rattle.control.specs.Walk.{Looked}
+use Rattle.control.specs.WalkLaws.{look-none, look-cut, look-here, look-on, pair-shortens}
+use Rattle.control.proofs.settings.seen.Statement.{statement}
+use Rattle.control.proofs.settings.seen.Tie as tie
 
 abbrev Inv-loop : tie.InvT-loop
 Inv-loop payload until sought at₀ at = (r : Bool) → Looked payload at until sought r → Looked payload 0 until sought r

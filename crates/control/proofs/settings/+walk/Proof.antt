@@ -1,4 +1,4 @@
--- `settings::walk`, which calls itself, meets its contract. The measure is what is left of the payload: a pair takes bytes.
+-- `control::settings::walk`, which calls itself, meets its contract. The measure is what is left of the payload: a pair takes bytes.
 -- Each answer is a law of the walk. Assumes nothing.
 use mathlib.Core.Path.{sym, _∙_}
 use Prim.Native.Nat.{ℕ, _<_, _-_}
@@ -7,17 +7,17 @@ use lib.ListN.{length}
 use borrow.Author.Needs.{needs}
 use borrow.Fn.Kinds.{In}
 use borrow.Fn.PlainCycle.{Measures, is, falls, and}
-use Rattle.settings.specs.WalkLaws.{pair-shortens, walk-end, walk-cut, walk-reserved, walk-seen, walk-on, set-made}
-use Rattle.settings.proofs.walk.Reads as walk
-use Rattle.settings.proofs.walk.Kinds as walk-kinds
-use Rattle.settings.proofs.+walk.Lts-walk as walk-lts
-use Rattle.settings.proofs.keep.Reads as keep-reads
-use Rattle.settings.proofs.pair_at.Reads as pair-at-reads
-use Rattle.settings.proofs.reserved.Reads as reserved-reads
-use Rattle.settings.proofs.seen.Reads as seen-reads
-use Rattle.settings.proofs.set.Reads as set-reads
-use Rattle.settings.proofs.+walk.{statement}
-use Rattle.settings.proofs.+walk.Tie.{close}
+use Rattle.control.specs.WalkLaws.{pair-shortens, walk-end, walk-cut, walk-reserved, walk-seen, walk-on, set-made}
+use Rattle.control.proofs.settings.walk.Reads as walk
+use Rattle.control.proofs.settings.walk.Kinds as walk-kinds
+use Rattle.control.proofs.settings.+walk.Lts-walk as walk-lts
+use Rattle.control.proofs.settings.keep.Reads as keep-reads
+use Rattle.control.proofs.settings.pair_at.Reads as pair-at-reads
+use Rattle.control.proofs.settings.reserved.Reads as reserved-reads
+use Rattle.control.proofs.settings.seen.Reads as seen-reads
+use Rattle.control.proofs.settings.set.Reads as set-reads
+use Rattle.control.proofs.settings.+walk.{statement}
+use Rattle.control.proofs.settings.+walk.Tie.{close}
 
 abbrev μ-walk : Measures 1 walk-kinds.ps ℕ
 μ-walk κs a = length (a .0 .now) - a .1 .0

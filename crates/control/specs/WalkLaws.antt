@@ -15,12 +15,12 @@ use Rattle.rules.specs.Reading.{Next, stop}
 use Rattle.rules.specs.Control.{Settings, set-to, reserved-identifiers, pairs, no-settings, settings-of}
 use Rattle.meaning.specs.IntegerLaws.{integer-length}
 use Rattle.meaning.specs.ControlLaws.{pairs-enough}
-use Rattle.settings.specs.declared.Settings as kept
-use Rattle.settings.specs.declared.Judged.{Judged}
-use Rattle.settings.specs.declared.Judged.the-variants.{Refused, Kept}
-use Rattle.settings.specs.Answers.{judgedIs, settingsIs}
+use Rattle.control.specs.declared.settings.Settings as kept
+use Rattle.control.specs.declared.settings.Judged.{Judged}
+use Rattle.control.specs.declared.settings.Judged.the-variants.{Refused, Kept}
+use Rattle.control.specs.Answers.{judgedIs, settingsIs}
 use Rattle.meaning.specs.NumberLaws.{numbered}
-use Rattle.settings.specs.Walk.{IsPair, IsCut, identifier-cut, value-cut, Passed, nothing, pair, Looked, made, chosen, rest, Walked}
+use Rattle.control.specs.Walk.{IsPair, IsCut, identifier-cut, value-cut, Passed, nothing, pair, Looked, made, chosen, rest, Walked}
 
 -- ---- an integer read further on is the same, its place further on
 
