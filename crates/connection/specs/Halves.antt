@@ -1,7 +1,7 @@
 -- A CONNECTION IS TWO HALVES: the doors, which every call looks at, and the side, which only one-way streams' calls do. Assumes nothing.
 use Prim.Native.Nat.{ℕ}
 use Rattle.wire.specs.declared.ids.StreamId.{StreamId}
-use Rattle.doors.specs.declared.Doors.{Doors}
+use Rattle.connection.specs.declared.doors.Doors.{Doors}
 use Rattle.oneways.specs.declared.Side.{Side}
 use Rattle.connection.specs.declared.Connection.{Connection}
 

@@ -13,11 +13,11 @@ use Rattle.record.specs.declared.Record.{Record}
 use Rattle.record.specs.Row.{requestRecord, oneWayRecord, free-record}
 use Rattle.requests.specs.declared.Reply.{Reply}
 use Rattle.requests.specs.Reply.{Open, stateIn, fedAs, givenAs, endedAs, resetAs, Answered}
-use Rattle.doors.specs.declared.Doors.{Doors}
-use Rattle.doors.specs.declared.Opening.{Opening}
-use Rattle.doors.specs.declared.Goaway.{Goaway}
-use Rattle.doors.specs.Openings.{fresh-doors, openedOf}
-use Rattle.doors.specs.Goaway.{Sends}
+use Rattle.connection.specs.declared.doors.Doors.{Doors}
+use Rattle.connection.specs.declared.doors.Opening.{Opening}
+use Rattle.connection.specs.declared.doors.Goaway.{Goaway}
+use Rattle.connection.specs.Openings.{fresh-doors, openedOf}
+use Rattle.connection.specs.Goaway.{Sends}
 use Rattle.oneways.specs.declared.Side.{Side}
 use Rattle.oneways.specs.declared.Heard.{Heard}
 use Rattle.oneways.specs.Mirror.{fresh-side}

@@ -1,4 +1,6 @@
 // The connection record and every call by value (document 01, "Calls and the host's memory").
+pub mod doors;
+
 use doors::Doors;
 use oneways::Heard;
 use oneways::Side;

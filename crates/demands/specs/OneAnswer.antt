@@ -39,7 +39,7 @@ use Rattle.oneway.specs.declared.OneWay.{OneWay}
 use Rattle.oneway.specs.Closed.{Closes}
 use Rattle.requests.specs.Answered.{one-answer}
 use Rattle.oneways.specs.Feeds.{one-heard}
-use Rattle.doors.specs.Goaway.{sends-one}
+use Rattle.connection.specs.Goaway.{sends-one}
 use Rattle.connection.specs.declared.Found.{Found}
 use Rattle.connection.specs.declared.Brief.{Brief}
 use Rattle.connection.specs.Faults.{withCode}
@@ -138,12 +138,12 @@ use Rattle.requests.proofs.feed.Symbol as requests-feed-is
 use Rattle.requests.proofs.give as requests-give
 use Rattle.requests.proofs.give.Symbol as requests-give-is
 use Rattle.requests.proofs.brisk.Symbol as requests-brisk-is
-use Rattle.doors.proofs.fresh as doors-fresh
-use Rattle.doors.proofs.fresh.Symbol as doors-fresh-is
-use Rattle.doors.proofs.open as doors-open
-use Rattle.doors.proofs.open.Symbol as doors-open-is
-use Rattle.doors.proofs.send_goaway as doors-send-goaway
-use Rattle.doors.proofs.send_goaway.Symbol as doors-send-goaway-is
+use Rattle.connection.proofs.doors.fresh as doors-fresh
+use Rattle.connection.proofs.doors.fresh.Symbol as doors-fresh-is
+use Rattle.connection.proofs.doors.open as doors-open
+use Rattle.connection.proofs.doors.open.Symbol as doors-open-is
+use Rattle.connection.proofs.doors.send_goaway as doors-send-goaway
+use Rattle.connection.proofs.doors.send_goaway.Symbol as doors-send-goaway-is
 use Rattle.oneways.proofs.fresh as oneways-fresh
 use Rattle.oneways.proofs.fresh.Symbol as oneways-fresh-is
 use Rattle.oneways.proofs.feed as oneways-feed
@@ -428,7 +428,7 @@ module _ (w : World) where
   functions = of-varint ++ (of-ids ++ (of-wire ++ (of-settings ++ (of-fields ++ (of-section ++ (of-streams ++ (of-record ++ (of-given ++ (of-oneway ++ (of-control ++ (of-requests ++ (of-doors ++ (of-oneways ++ (of-connection ++ (of-board)))))))))))))))
 
   pub listed : _≡_ {A = List Name} (map (λ (f : Function). f .name) functions)
-      ("varint::fresh" ∷ "varint::read_step" ∷ "varint::ends" ∷ "varint::value" ∷ "varint::read" ∷ "varint::size" ∷ "varint::put" ∷ "varint::write" ∷ "wire::ids::is_request" ∷ "wire::ids::is_one_way" ∷ "wire::write_header" ∷ "wire::write_integer_frame" ∷ "wire::write_opening" ∷ "wire::write_goaway" ∷ "control::settings::judge" ∷ "control::settings::only" ∷ "fields::has_byte" ∷ "fields::begins_with" ∷ "fields::same_bytes" ∷ "fields::any_outside" ∷ "fields::bad_line" ∷ "fields::decimal_of" ∷ "fields::line_at" ∷ "section::code" ∷ "section::header_section" ∷ "section::trailers" ∷ "streams::ruled" ∷ "streams::end" ∷ "record::cells_in" ∷ "record::free" ∷ "record::is_free" ∷ "record::read" ∷ "record::row" ∷ "record::write" ∷ "record::in_content" ∷ "requests::given::give" ∷ "oneway::close" ∷ "control::judge" ∷ "requests::reset" ∷ "requests::end" ∷ "requests::feed" ∷ "requests::give" ∷ "doors::fresh" ∷ "doors::open" ∷ "doors::send_goaway" ∷ "oneways::fresh" ∷ "oneways::feed" ∷ "oneways::give" ∷ "oneways::close" ∷ "connection::fresh" ∷ "connection::wanted" ∷ "connection::answer" ∷ "connection::decide" ∷ "connection::begin" ∷ "connection::swept" ∷ "connection::say_goaway" ∷ "board::step" ∷ "board::eistulko_start" ∷ "board::eistulko_open" ∷ "board::eistulko_feed" ∷ "board::eistulko_give" ∷ "board::eistulko_end" ∷ "board::eistulko_reset" ∷ "board::eistulko_goaway" ∷ "board::eistulko_write_header" ∷ "board::eistulko_write_integer_frame" ∷ "board::eistulko_write_opening" ∷ "board::eistulko_connection_size" ∷ "board::eistulko_record_size" ∷ "board::eistulko_report_size" ∷ "board::eistulko_written_size" ∷ [])
+      ("varint::fresh" ∷ "varint::read_step" ∷ "varint::ends" ∷ "varint::value" ∷ "varint::read" ∷ "varint::size" ∷ "varint::put" ∷ "varint::write" ∷ "wire::ids::is_request" ∷ "wire::ids::is_one_way" ∷ "wire::write_header" ∷ "wire::write_integer_frame" ∷ "wire::write_opening" ∷ "wire::write_goaway" ∷ "control::settings::judge" ∷ "control::settings::only" ∷ "fields::has_byte" ∷ "fields::begins_with" ∷ "fields::same_bytes" ∷ "fields::any_outside" ∷ "fields::bad_line" ∷ "fields::decimal_of" ∷ "fields::line_at" ∷ "section::code" ∷ "section::header_section" ∷ "section::trailers" ∷ "streams::ruled" ∷ "streams::end" ∷ "record::cells_in" ∷ "record::free" ∷ "record::is_free" ∷ "record::read" ∷ "record::row" ∷ "record::write" ∷ "record::in_content" ∷ "requests::given::give" ∷ "oneway::close" ∷ "control::judge" ∷ "requests::reset" ∷ "requests::end" ∷ "requests::feed" ∷ "requests::give" ∷ "connection::doors::fresh" ∷ "connection::doors::open" ∷ "connection::doors::send_goaway" ∷ "oneways::fresh" ∷ "oneways::feed" ∷ "oneways::give" ∷ "oneways::close" ∷ "connection::fresh" ∷ "connection::wanted" ∷ "connection::answer" ∷ "connection::decide" ∷ "connection::begin" ∷ "connection::swept" ∷ "connection::say_goaway" ∷ "board::step" ∷ "board::eistulko_start" ∷ "board::eistulko_open" ∷ "board::eistulko_feed" ∷ "board::eistulko_give" ∷ "board::eistulko_end" ∷ "board::eistulko_reset" ∷ "board::eistulko_goaway" ∷ "board::eistulko_write_header" ∷ "board::eistulko_write_integer_frame" ∷ "board::eistulko_write_opening" ∷ "board::eistulko_connection_size" ∷ "board::eistulko_record_size" ∷ "board::eistulko_report_size" ∷ "board::eistulko_written_size" ∷ [])
   listed = refl
 
   -- ---- and those that do not

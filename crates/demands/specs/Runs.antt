@@ -40,8 +40,8 @@ use Rattle.requests.specs.declared.Reply.{Reply}
 use Rattle.requests.specs.Reply as reply
 use Rattle.requests.specs.Reply.{leftBy, stateIn}
 use Rattle.requests.specs.Severity.{connection-leaves}
-use Rattle.doors.specs.declared.Goaway.{Goaway}
-use Rattle.doors.specs.Goaway.{sendingOf, writeOf}
+use Rattle.connection.specs.declared.doors.Goaway.{Goaway}
+use Rattle.connection.specs.Goaway.{sendingOf, writeOf}
 use Rattle.oneway.specs.Closed.{closes}
 use Rattle.control.specs.Rules.{someIf, limitsIs, controlAt, controlOf}
 use Rattle.oneways.specs.declared.Side.{Side}

@@ -18,7 +18,7 @@ use Rattle.requests.specs.Reply.{Open, stateIn}
 use Rattle.oneways.specs.declared.Side.{Side}
 use Rattle.oneways.specs.Heard.{Heeds, stateHere}
 use Rattle.control.specs.Rules.{controlAt}
-use Rattle.doors.specs.Goaway.{sentAs}
+use Rattle.connection.specs.Goaway.{sentAs}
 use Rattle.connection.specs.declared.Connection.{Connection}
 use Rattle.connection.specs.declared.Report.{Report}
 use Rattle.connection.specs.declared.Found.{Found}

@@ -1,10 +1,10 @@
-use Rattle.doors.specs.Openings.{none-free, some-free}
+use Rattle.connection.specs.Openings.{none-free, some-free}
 use borrow.Author.Needs.{needs}
-use Rattle.doors.proofs.admitted.Statement.{statement}
-use Rattle.doors.proofs.admitted.Tie as tie
-use Rattle.doors.proofs.admitted.Reads as reads
-use Rattle.doors.proofs.admitted.Lts as lts
-use Rattle.doors.proofs.refused.Reads as refused-reads
+use Rattle.connection.proofs.doors.admitted.Statement.{statement}
+use Rattle.connection.proofs.doors.admitted.Tie as tie
+use Rattle.connection.proofs.doors.admitted.Reads as reads
+use Rattle.connection.proofs.doors.admitted.Lts as lts
+use Rattle.connection.proofs.doors.refused.Reads as refused-reads
 
 -- src/lib.rt:74:9
 refused-requires : tie.Need-refused-requires

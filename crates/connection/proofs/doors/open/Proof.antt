@@ -1,12 +1,12 @@
-use Rattle.doors.specs.Openings.{open-dead, open-above, open-request, open-one-way, open-none}
+use Rattle.connection.specs.Openings.{open-dead, open-above, open-request, open-one-way, open-none}
 use borrow.Author.Needs.{needs}
-use Rattle.doors.proofs.open.Statement.{statement}
-use Rattle.doors.proofs.open.Tie as tie
-use Rattle.doors.proofs.open.Reads as reads
-use Rattle.doors.proofs.open.Lts as lts
-use Rattle.doors.proofs.open_one_way.Reads as open-one-way-reads
-use Rattle.doors.proofs.open_request.Reads as open-request-reads
-use Rattle.doors.proofs.refused.Reads as refused-reads
+use Rattle.connection.proofs.doors.open.Statement.{statement}
+use Rattle.connection.proofs.doors.open.Tie as tie
+use Rattle.connection.proofs.doors.open.Reads as reads
+use Rattle.connection.proofs.doors.open.Lts as lts
+use Rattle.connection.proofs.doors.open_one_way.Reads as open-one-way-reads
+use Rattle.connection.proofs.doors.open_request.Reads as open-request-reads
+use Rattle.connection.proofs.doors.refused.Reads as refused-reads
 
 -- src/lib.rt:115:9
 refused-requires : tie.Need-refused-requires

@@ -13,8 +13,8 @@ use Rattle.wire.specs.declared.ids.StreamId.{StreamId}
 use Rattle.wire.specs.declared.Sent.{Sent}
 use Rattle.wire.specs.declared.Sent.the-variants.{Nothing, Up}
 use Rattle.wire.specs.Goaway.{sentOf}
-use Rattle.doors.specs.declared.Doors.{Doors}
-use Rattle.doors.specs.declared.Goaway.{Goaway}
+use Rattle.connection.specs.declared.doors.Doors.{Doors}
+use Rattle.connection.specs.declared.doors.Goaway.{Goaway}
 
 -- the one sent before
 unfoldable pub sentAs : (goaways id : ℕ) → Option ℕ

@@ -1,13 +1,13 @@
-use Rattle.doors.specs.Openings.{request-other, request-barred, request-admitted}
+use Rattle.connection.specs.Openings.{request-other, request-barred, request-admitted}
 use borrow.Author.Needs.{needs}
-use Rattle.doors.proofs.open_request.Statement.{statement}
-use Rattle.doors.proofs.open_request.Tie as tie
-use Rattle.doors.proofs.open_request.Reads as reads
-use Rattle.doors.proofs.open_request.Lts as lts
-use Rattle.doors.proofs.admitted.Reads as admitted-reads
-use Rattle.doors.proofs.barred.Reads as barred-reads
-use Rattle.doors.proofs.next_request.Reads as next-request-reads
-use Rattle.doors.proofs.refused.Reads as refused-reads
+use Rattle.connection.proofs.doors.open_request.Statement.{statement}
+use Rattle.connection.proofs.doors.open_request.Tie as tie
+use Rattle.connection.proofs.doors.open_request.Reads as reads
+use Rattle.connection.proofs.doors.open_request.Lts as lts
+use Rattle.connection.proofs.doors.admitted.Reads as admitted-reads
+use Rattle.connection.proofs.doors.barred.Reads as barred-reads
+use Rattle.connection.proofs.doors.next_request.Reads as next-request-reads
+use Rattle.connection.proofs.doors.refused.Reads as refused-reads
 
 -- src/lib.rt:88:9
 refused-requires : tie.Need-refused-requires

@@ -6,9 +6,9 @@ use mathlib.Core.Bool.{Bool, true, false}
 use lib.Dec.{eqb, leb}
 use borrow.Author.Tests.{leb-false, eqb-true}
 use Rattle.rules.specs.Numbers.{REQUEST-REJECTED}
-use Rattle.doors.specs.declared.Doors.{Doors}
-use Rattle.doors.specs.declared.Opening.{Opening}
-use Rattle.doors.specs.Openings.{refusal, barredAt, nextRequest, nextOneWay, admittedAs, requestOf, oneWayOf, kindOf, aliveOf, openedOf}
+use Rattle.connection.specs.declared.doors.Doors.{Doors}
+use Rattle.connection.specs.declared.doors.Opening.{Opening}
+use Rattle.connection.specs.Openings.{refusal, barredAt, nextRequest, nextOneWay, admittedAs, requestOf, oneWayOf, kindOf, aliveOf, openedOf}
 
 pub data Went (d : Doors) (id free : ℕ) : Opening → Type 0 where
   refused : (number : ℕ) → (number ≡ 0 → ⊥) → Went d id free (refusal number d)

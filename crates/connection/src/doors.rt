@@ -5,8 +5,8 @@ use wire::ids::StreamId;
 ghost use mathlib.Core.Path.{_≡_};
 ghost use Prim.Native.Nat.{_<_, _^_};
 ghost use Rattle.wire.specs.Goaway.{sentOf};
-ghost use Rattle.doors.specs.Goaway.{sentIn, goneAway, Sends};
-ghost use Rattle.doors.specs.Openings.{fresh-doors, refusal, barredAt, nextRequest, nextOneWay, admittedAs, requestOf, oneWayOf, openedOf};
+ghost use Rattle.connection.specs.Goaway.{sentIn, goneAway, Sends};
+ghost use Rattle.connection.specs.Openings.{fresh-doors, refusal, barredAt, nextRequest, nextOneWay, admittedAs, requestOf, oneWayOf, openedOf};
 
 // code: of the connection fault, 0 while there was none. requests and oneways: the lowest ID of each kind that was not opened yet.
 // goaways 0: we sent no GOAWAY; goaway: the last one's.

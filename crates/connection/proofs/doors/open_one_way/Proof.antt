@@ -1,12 +1,12 @@
-use Rattle.doors.specs.Openings.{one-way-other, one-way-admitted}
+use Rattle.connection.specs.Openings.{one-way-other, one-way-admitted}
 use borrow.Author.Needs.{needs}
-use Rattle.doors.proofs.open_one_way.Statement.{statement}
-use Rattle.doors.proofs.open_one_way.Tie as tie
-use Rattle.doors.proofs.open_one_way.Reads as reads
-use Rattle.doors.proofs.open_one_way.Lts as lts
-use Rattle.doors.proofs.admitted.Reads as admitted-reads
-use Rattle.doors.proofs.next_one_way.Reads as next-one-way-reads
-use Rattle.doors.proofs.refused.Reads as refused-reads
+use Rattle.connection.proofs.doors.open_one_way.Statement.{statement}
+use Rattle.connection.proofs.doors.open_one_way.Tie as tie
+use Rattle.connection.proofs.doors.open_one_way.Reads as reads
+use Rattle.connection.proofs.doors.open_one_way.Lts as lts
+use Rattle.connection.proofs.doors.admitted.Reads as admitted-reads
+use Rattle.connection.proofs.doors.next_one_way.Reads as next-one-way-reads
+use Rattle.connection.proofs.doors.refused.Reads as refused-reads
 
 -- src/lib.rt:105:9
 refused-requires : tie.Need-refused-requires

@@ -1,12 +1,12 @@
-use Rattle.doors.specs.Goaway.{send-dead, send-refused, send-written}
+use Rattle.connection.specs.Goaway.{send-dead, send-refused, send-written}
 use denote.Ref.{now}
 use borrow.Author.Needs.{needs}
-use Rattle.doors.proofs.send_goaway.Statement.{statement}
-use Rattle.doors.proofs.send_goaway.Tie as tie
-use Rattle.doors.proofs.send_goaway.Reads as reads
-use Rattle.doors.proofs.send_goaway.Lts as lts
-use Rattle.doors.proofs.gone_away.Reads as gone-away-reads
-use Rattle.doors.proofs.sent.Reads as sent-reads
+use Rattle.connection.proofs.doors.send_goaway.Statement.{statement}
+use Rattle.connection.proofs.doors.send_goaway.Tie as tie
+use Rattle.connection.proofs.doors.send_goaway.Reads as reads
+use Rattle.connection.proofs.doors.send_goaway.Lts as lts
+use Rattle.connection.proofs.doors.gone_away.Reads as gone-away-reads
+use Rattle.connection.proofs.doors.sent.Reads as sent-reads
 use Rattle.wire.proofs.write_goaway.Reads as write-goaway-reads
 
 -- src/lib.rt:170:9

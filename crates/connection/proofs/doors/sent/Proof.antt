@@ -1,8 +1,8 @@
-use Rattle.doors.specs.Goaway.{sent-none, sent-up}
-use Rattle.doors.proofs.sent.Statement.{statement}
-use Rattle.doors.proofs.sent.Tie as tie
-use Rattle.doors.proofs.sent.Reads as reads
-use Rattle.doors.proofs.sent.Lts as lts
+use Rattle.connection.specs.Goaway.{sent-none, sent-up}
+use Rattle.connection.proofs.doors.sent.Statement.{statement}
+use Rattle.connection.proofs.doors.sent.Tie as tie
+use Rattle.connection.proofs.doors.sent.Reads as reads
+use Rattle.connection.proofs.doors.sent.Lts as lts
 
 -- src/lib.rt:142:1
 returns : tie.Need-returns

@@ -7,9 +7,9 @@ use mathlib.Core.Logic.{_⊎_, inl, inr}
 use lib.Dec.{eqb, leb}
 use borrow.Author.Tests.{leb-false, eqb-true}
 use Rattle.rules.specs.Numbers.{REQUEST-REJECTED}
-use Rattle.doors.specs.declared.Doors.{Doors}
-use Rattle.doors.specs.declared.Opening.{Opening}
-use Rattle.doors.specs.Openings.{refusal, barredAt, nextRequest, nextOneWay, admittedAs, requestOf, oneWayOf, kindOf, aliveOf, openedOf, some-free, request-admitted, one-way-admitted, open-request, open-one-way}
+use Rattle.connection.specs.declared.doors.Doors.{Doors}
+use Rattle.connection.specs.declared.doors.Opening.{Opening}
+use Rattle.connection.specs.Openings.{refusal, barredAt, nextRequest, nextOneWay, admittedAs, requestOf, oneWayOf, kindOf, aliveOf, openedOf, some-free, request-admitted, one-way-admitted, open-request, open-one-way}
 
 -- THE FIVE CONDITIONS: the connection is alive, the ID is the lowest of its kind not yet opened and below 2^62, no GOAWAY of ours bars it, and a
 -- record is free
