@@ -2,7 +2,7 @@
 use Prim.Native.Nat.{ℕ}
 use Rattle.wire.specs.declared.ids.StreamId.{StreamId}
 use Rattle.connection.specs.declared.doors.Doors.{Doors}
-use Rattle.oneways.specs.declared.Side.{Side}
+use Rattle.oneway.specs.declared.calls.Side.{Side}
 use Rattle.connection.specs.declared.Connection.{Connection}
 
 abbrev pub stream-id : ℕ → StreamId

@@ -26,10 +26,10 @@ use Rattle.connection.specs.Openings.{nextRequest, nextOneWay}
 use Rattle.connection.specs.OpeningWays.{Went, barred, a-request, a-one-way, went}
 use Rattle.connection.specs.OpeningWays as doors
 use Rattle.connection.specs.Goaway.{sendingOf, writeOf}
-use Rattle.oneways.specs.declared.Side.{Side}
-use Rattle.oneways.specs.declared.Heard.{Heard}
-use Rattle.oneways.specs.Mirror.{sideAfter}
-use Rattle.oneways.specs.Heard.{Heeds, placeHere, sofarHere, stateHere, feeding}
+use Rattle.oneway.specs.declared.calls.Side.{Side}
+use Rattle.oneway.specs.declared.calls.Heard.{Heard}
+use Rattle.oneway.specs.Mirror.{sideAfter}
+use Rattle.oneway.specs.Heard.{Heeds, placeHere, sofarHere, stateHere, feeding}
 use Rattle.connection.specs.declared.Connection.{Connection}
 use Rattle.connection.specs.declared.Found.{Found}
 use Rattle.connection.specs.declared.Turn.{Turn}

@@ -18,10 +18,10 @@ use Rattle.connection.specs.declared.doors.Opening.{Opening}
 use Rattle.connection.specs.declared.doors.Goaway.{Goaway}
 use Rattle.connection.specs.Openings.{fresh-doors, openedOf}
 use Rattle.connection.specs.Goaway.{Sends}
-use Rattle.oneways.specs.declared.Side.{Side}
-use Rattle.oneways.specs.declared.Heard.{Heard}
-use Rattle.oneways.specs.Mirror.{fresh-side}
-use Rattle.oneways.specs.Heard.{Heeds, stateHere, feeding, fedHere, Stays, givenHere, closedHere, HeardAs}
+use Rattle.oneway.specs.declared.calls.Side.{Side}
+use Rattle.oneway.specs.declared.calls.Heard.{Heard}
+use Rattle.oneway.specs.Mirror.{fresh-side}
+use Rattle.oneway.specs.Heard.{Heeds, stateHere, feeding, fedHere, Stays, givenHere, closedHere, HeardAs}
 use Rattle.connection.specs.declared.Connection.{Connection}
 use Rattle.connection.specs.declared.Report.{Report}
 use Rattle.connection.specs.declared.Found.{Found}

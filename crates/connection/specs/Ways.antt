@@ -25,10 +25,10 @@ use Rattle.connection.specs.Openings.{openedOf}
 use Rattle.connection.specs.OpeningWays as doors
 use Rattle.connection.specs.OpeningWays.{Went, barred, a-request, a-one-way, went}
 use Rattle.connection.specs.Goaway.{Sends}
-use Rattle.oneways.specs.declared.Side.{Side}
-use Rattle.oneways.specs.declared.Heard.{Heard}
-use Rattle.oneways.specs.Heard as side
-use Rattle.oneways.specs.Heard.{Heeds, HeardAs, FedAs, stateHere, givenHere, closedHere}
+use Rattle.oneway.specs.declared.calls.Side.{Side}
+use Rattle.oneway.specs.declared.calls.Heard.{Heard}
+use Rattle.oneway.specs.Heard as side
+use Rattle.oneway.specs.Heard.{Heeds, HeardAs, FedAs, stateHere, givenHere, closedHere}
 use Rattle.connection.specs.declared.Connection.{Connection}
 use Rattle.connection.specs.declared.Report.{Report}
 use Rattle.connection.specs.declared.Found.{Found}

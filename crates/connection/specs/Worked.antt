@@ -24,8 +24,8 @@ use Rattle.connection.specs.Openings as doors
 use Rattle.connection.specs.Goaway.{sentAs, sendingOf, writeOf}
 use Rattle.oneway.specs.Types.{came, typesOf}
 use Rattle.oneway.specs.Closed.{closes}
-use Rattle.oneways.specs.Mirror.{sofarIn, keptNumbers, sideAfter}
-use Rattle.oneways.specs.Heard as heard
+use Rattle.oneway.specs.Mirror.{sofarIn, keptNumbers, sideAfter}
+use Rattle.oneway.specs.Heard as heard
 use Rattle.connection.specs.declared.Connection.{Connection}
 use Rattle.connection.specs.declared.Found.{Found}
 use Rattle.connection.specs.declared.Turn.{Turn}

@@ -2,8 +2,8 @@
 pub mod doors;
 
 use doors::Doors;
-use oneways::Heard;
-use oneways::Side;
+use oneway::calls::Heard;
+use oneway::calls::Side;
 use record::Record;
 use requests::Reply;
 use wire::ids::StreamId;
@@ -84,7 +84,7 @@ pub fn fresh() -> Connection
 {
     Connection {
         doors: doors::fresh(),
-        side: oneways::fresh(),
+        side: oneway::calls::fresh(),
     }
 }
 
@@ -264,12 +264,12 @@ fn heed(r: Record, d: Side, call: u64, allow: u64, piece: &[u8]) -> Heard
     ensures { λ a. ⌜ Hears r d call allow (now (piece .entry)) a ⌝ }
 {
     if call == rules::FEED {
-        return oneways::feed(r, d, piece, allow);
+        return oneway::calls::feed(r, d, piece, allow);
     }
     if call == rules::GIVE {
-        return oneways::give(r, d);
+        return oneway::calls::give(r, d);
     }
-    oneways::close(r, d)
+    oneway::calls::close(r, d)
 }
 
 fn heard_turn(d: Doors, a: Heard) -> Turn

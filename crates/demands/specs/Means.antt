@@ -11,8 +11,8 @@ use Rattle.control.specs.Rules.{controlOf}
 use Rattle.record.specs.declared.Record.{Record}
 use Rattle.requests.specs.Reply.{stateIn}
 use Rattle.connection.specs.Goaway.{sentAs}
-use Rattle.oneways.specs.declared.Side.{Side}
-use Rattle.oneways.specs.Heard.{stateHere}
+use Rattle.oneway.specs.declared.calls.Side.{Side}
+use Rattle.oneway.specs.Heard.{stateHere}
 use Rattle.connection.specs.declared.Connection.{Connection}
 use Rattle.connection.specs.declared.Report.{Report}
 use Rattle.connection.specs.declared.Written.{Written}

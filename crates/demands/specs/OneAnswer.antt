@@ -38,7 +38,7 @@ use Rattle.record.specs.Same.{one-read, one-written}
 use Rattle.oneway.specs.declared.OneWay.{OneWay}
 use Rattle.oneway.specs.Closed.{Closes}
 use Rattle.requests.specs.Answered.{one-answer}
-use Rattle.oneways.specs.Feeds.{one-heard}
+use Rattle.oneway.specs.Feeds.{one-heard}
 use Rattle.connection.specs.Goaway.{sends-one}
 use Rattle.connection.specs.declared.Found.{Found}
 use Rattle.connection.specs.declared.Brief.{Brief}
@@ -144,14 +144,14 @@ use Rattle.connection.proofs.doors.open as doors-open
 use Rattle.connection.proofs.doors.open.Symbol as doors-open-is
 use Rattle.connection.proofs.doors.send_goaway as doors-send-goaway
 use Rattle.connection.proofs.doors.send_goaway.Symbol as doors-send-goaway-is
-use Rattle.oneways.proofs.fresh as oneways-fresh
-use Rattle.oneways.proofs.fresh.Symbol as oneways-fresh-is
-use Rattle.oneways.proofs.feed as oneways-feed
-use Rattle.oneways.proofs.feed.Symbol as oneways-feed-is
-use Rattle.oneways.proofs.give as oneways-give
-use Rattle.oneways.proofs.give.Symbol as oneways-give-is
-use Rattle.oneways.proofs.close as oneways-close
-use Rattle.oneways.proofs.close.Symbol as oneways-close-is
+use Rattle.oneway.proofs.calls.fresh as oneways-fresh
+use Rattle.oneway.proofs.calls.fresh.Symbol as oneways-fresh-is
+use Rattle.oneway.proofs.calls.feed as oneways-feed
+use Rattle.oneway.proofs.calls.feed.Symbol as oneways-feed-is
+use Rattle.oneway.proofs.calls.give as oneways-give
+use Rattle.oneway.proofs.calls.give.Symbol as oneways-give-is
+use Rattle.oneway.proofs.calls.close as oneways-close
+use Rattle.oneway.proofs.calls.close.Symbol as oneways-close-is
 use Rattle.connection.proofs.fresh as connection-fresh
 use Rattle.connection.proofs.fresh.Symbol as connection-fresh-is
 use Rattle.connection.proofs.answer as connection-answer
@@ -428,7 +428,7 @@ module _ (w : World) where
   functions = of-varint ++ (of-ids ++ (of-wire ++ (of-settings ++ (of-fields ++ (of-section ++ (of-streams ++ (of-record ++ (of-given ++ (of-oneway ++ (of-control ++ (of-requests ++ (of-doors ++ (of-oneways ++ (of-connection ++ (of-board)))))))))))))))
 
   pub listed : _≡_ {A = List Name} (map (λ (f : Function). f .name) functions)
-      ("varint::fresh" ∷ "varint::read_step" ∷ "varint::ends" ∷ "varint::value" ∷ "varint::read" ∷ "varint::size" ∷ "varint::put" ∷ "varint::write" ∷ "wire::ids::is_request" ∷ "wire::ids::is_one_way" ∷ "wire::write_header" ∷ "wire::write_integer_frame" ∷ "wire::write_opening" ∷ "wire::write_goaway" ∷ "control::settings::judge" ∷ "control::settings::only" ∷ "fields::has_byte" ∷ "fields::begins_with" ∷ "fields::same_bytes" ∷ "fields::any_outside" ∷ "fields::bad_line" ∷ "fields::decimal_of" ∷ "fields::line_at" ∷ "section::code" ∷ "section::header_section" ∷ "section::trailers" ∷ "streams::ruled" ∷ "streams::end" ∷ "record::cells_in" ∷ "record::free" ∷ "record::is_free" ∷ "record::read" ∷ "record::row" ∷ "record::write" ∷ "record::in_content" ∷ "requests::given::give" ∷ "oneway::close" ∷ "control::judge" ∷ "requests::reset" ∷ "requests::end" ∷ "requests::feed" ∷ "requests::give" ∷ "connection::doors::fresh" ∷ "connection::doors::open" ∷ "connection::doors::send_goaway" ∷ "oneways::fresh" ∷ "oneways::feed" ∷ "oneways::give" ∷ "oneways::close" ∷ "connection::fresh" ∷ "connection::wanted" ∷ "connection::answer" ∷ "connection::decide" ∷ "connection::begin" ∷ "connection::swept" ∷ "connection::say_goaway" ∷ "board::step" ∷ "board::eistulko_start" ∷ "board::eistulko_open" ∷ "board::eistulko_feed" ∷ "board::eistulko_give" ∷ "board::eistulko_end" ∷ "board::eistulko_reset" ∷ "board::eistulko_goaway" ∷ "board::eistulko_write_header" ∷ "board::eistulko_write_integer_frame" ∷ "board::eistulko_write_opening" ∷ "board::eistulko_connection_size" ∷ "board::eistulko_record_size" ∷ "board::eistulko_report_size" ∷ "board::eistulko_written_size" ∷ [])
+      ("varint::fresh" ∷ "varint::read_step" ∷ "varint::ends" ∷ "varint::value" ∷ "varint::read" ∷ "varint::size" ∷ "varint::put" ∷ "varint::write" ∷ "wire::ids::is_request" ∷ "wire::ids::is_one_way" ∷ "wire::write_header" ∷ "wire::write_integer_frame" ∷ "wire::write_opening" ∷ "wire::write_goaway" ∷ "control::settings::judge" ∷ "control::settings::only" ∷ "fields::has_byte" ∷ "fields::begins_with" ∷ "fields::same_bytes" ∷ "fields::any_outside" ∷ "fields::bad_line" ∷ "fields::decimal_of" ∷ "fields::line_at" ∷ "section::code" ∷ "section::header_section" ∷ "section::trailers" ∷ "streams::ruled" ∷ "streams::end" ∷ "record::cells_in" ∷ "record::free" ∷ "record::is_free" ∷ "record::read" ∷ "record::row" ∷ "record::write" ∷ "record::in_content" ∷ "requests::given::give" ∷ "oneway::close" ∷ "control::judge" ∷ "requests::reset" ∷ "requests::end" ∷ "requests::feed" ∷ "requests::give" ∷ "connection::doors::fresh" ∷ "connection::doors::open" ∷ "connection::doors::send_goaway" ∷ "oneway::calls::fresh" ∷ "oneway::calls::feed" ∷ "oneway::calls::give" ∷ "oneway::calls::close" ∷ "connection::fresh" ∷ "connection::wanted" ∷ "connection::answer" ∷ "connection::decide" ∷ "connection::begin" ∷ "connection::swept" ∷ "connection::say_goaway" ∷ "board::step" ∷ "board::eistulko_start" ∷ "board::eistulko_open" ∷ "board::eistulko_feed" ∷ "board::eistulko_give" ∷ "board::eistulko_end" ∷ "board::eistulko_reset" ∷ "board::eistulko_goaway" ∷ "board::eistulko_write_header" ∷ "board::eistulko_write_integer_frame" ∷ "board::eistulko_write_opening" ∷ "board::eistulko_connection_size" ∷ "board::eistulko_record_size" ∷ "board::eistulko_report_size" ∷ "board::eistulko_written_size" ∷ [])
   listed = refl
 
   -- ---- and those that do not

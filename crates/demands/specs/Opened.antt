@@ -25,7 +25,7 @@ use Rattle.connection.specs.declared.doors.Doors.{Doors}
 use Rattle.connection.specs.declared.doors.Opening.{Opening}
 use Rattle.connection.specs.Openings.{refusal, barredAt, nextRequest, nextOneWay, admittedAs, requestOf, oneWayOf, openedOf, open-above, open-request, open-one-way, open-none}
 use Rattle.connection.specs.Goaway.{sentAs}
-use Rattle.oneways.specs.declared.Side.{Side}
+use Rattle.oneway.specs.declared.calls.Side.{Side}
 use Rattle.connection.specs.declared.Connection.{Connection}
 use Rattle.connection.specs.declared.Found.{Found}
 use Rattle.connection.specs.Whose.{Vacant, Wanted, FoundIn}

@@ -14,7 +14,7 @@ use Rattle.connection.specs.OpeningWays as doors
 use Rattle.connection.specs.Goaway.{sendingOf, writeOf}
 use Rattle.record.specs.declared.Record.{Record}
 use Rattle.requests.specs.Reply.{stateIn}
-use Rattle.oneways.specs.Heard.{stateHere}
+use Rattle.oneway.specs.Heard.{stateHere}
 use Rattle.connection.specs.declared.Connection.{Connection}
 use Rattle.connection.specs.declared.Found.{Found}
 use Rattle.connection.specs.declared.Turn.{Turn}

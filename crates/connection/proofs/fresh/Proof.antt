@@ -7,7 +7,7 @@ use Rattle.connection.proofs.fresh.Tie as tie
 use Rattle.connection.proofs.fresh.Reads as reads
 use Rattle.connection.proofs.fresh.Lts as lts
 use Rattle.connection.proofs.doors.fresh.Reads as fresh-reads
-use Rattle.oneways.proofs.fresh.Reads as fresh-reads′
+use Rattle.oneway.proofs.calls.fresh.Reads as fresh-reads′
 
 -- src/lib.rt:83:16
 fresh-requires : tie.Need-fresh-requires
