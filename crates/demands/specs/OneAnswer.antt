@@ -66,8 +66,6 @@ use Rattle.varint.proofs.write as varint-write
 use Rattle.varint.proofs.write.Symbol as varint-write-is
 use Rattle.wire.proofs.ids.is_request as ids-is-request
 use Rattle.wire.proofs.ids.is_request.Symbol as ids-is-request-is
-use Rattle.wire.proofs.ids.is_one_way as ids-is-one-way
-use Rattle.wire.proofs.ids.is_one_way.Symbol as ids-is-one-way-is
 use Rattle.wire.proofs.write_header as wire-write-header
 use Rattle.wire.proofs.write_header.Symbol as wire-write-header-is
 use Rattle.wire.proofs.write_integer_frame as wire-write-integer-frame
@@ -303,7 +301,6 @@ module _ (w : World) where
   abbrev of-ids : List Function
   of-ids =
       function ids-is-request-is.name ids-is-request.ended (ids-is-request.clauses (w .𝓤) (w .H) (w .𝓖 .A) (w .𝓜 .mem) (w .𝓡 .run)) (λ κs a g r q ws vs. equal)
-      ∷ function ids-is-one-way-is.name ids-is-one-way.ended (ids-is-one-way.clauses (w .𝓤) (w .H) (w .𝓖 .A) (w .𝓜 .mem) (w .𝓡 .run)) (λ κs a g r q ws vs. equal)
       ∷ []
 
   abbrev of-wire : List Function
@@ -428,7 +425,7 @@ module _ (w : World) where
   functions = of-varint ++ (of-ids ++ (of-wire ++ (of-settings ++ (of-fields ++ (of-section ++ (of-streams ++ (of-record ++ (of-given ++ (of-oneway ++ (of-control ++ (of-requests ++ (of-doors ++ (of-oneways ++ (of-connection ++ (of-board)))))))))))))))
 
   pub listed : _≡_ {A = List Name} (map (λ (f : Function). f .name) functions)
-      ("varint::fresh" ∷ "varint::read_step" ∷ "varint::ends" ∷ "varint::value" ∷ "varint::read" ∷ "varint::size" ∷ "varint::put" ∷ "varint::write" ∷ "wire::ids::is_request" ∷ "wire::ids::is_one_way" ∷ "wire::write_header" ∷ "wire::write_integer_frame" ∷ "wire::write_opening" ∷ "wire::write_goaway" ∷ "control::settings::judge" ∷ "control::settings::only" ∷ "fields::has_byte" ∷ "fields::begins_with" ∷ "fields::same_bytes" ∷ "fields::any_outside" ∷ "fields::bad_line" ∷ "fields::decimal_of" ∷ "fields::line_at" ∷ "section::code" ∷ "section::header_section" ∷ "section::trailers" ∷ "streams::ruled" ∷ "streams::end" ∷ "record::cells_in" ∷ "record::free" ∷ "record::is_free" ∷ "record::read" ∷ "record::row" ∷ "record::write" ∷ "record::in_content" ∷ "requests::given::give" ∷ "oneway::close" ∷ "control::judge" ∷ "requests::reset" ∷ "requests::end" ∷ "requests::feed" ∷ "requests::give" ∷ "connection::doors::fresh" ∷ "connection::doors::open" ∷ "connection::doors::send_goaway" ∷ "oneway::calls::fresh" ∷ "oneway::calls::feed" ∷ "oneway::calls::give" ∷ "oneway::calls::close" ∷ "connection::fresh" ∷ "connection::wanted" ∷ "connection::answer" ∷ "connection::decide" ∷ "connection::begin" ∷ "connection::swept" ∷ "connection::say_goaway" ∷ "board::step" ∷ "board::eistulko_start" ∷ "board::eistulko_open" ∷ "board::eistulko_feed" ∷ "board::eistulko_give" ∷ "board::eistulko_end" ∷ "board::eistulko_reset" ∷ "board::eistulko_goaway" ∷ "board::eistulko_write_header" ∷ "board::eistulko_write_integer_frame" ∷ "board::eistulko_write_opening" ∷ "board::eistulko_connection_size" ∷ "board::eistulko_record_size" ∷ "board::eistulko_report_size" ∷ "board::eistulko_written_size" ∷ [])
+      ("varint::fresh" ∷ "varint::read_step" ∷ "varint::ends" ∷ "varint::value" ∷ "varint::read" ∷ "varint::size" ∷ "varint::put" ∷ "varint::write" ∷ "wire::ids::is_request" ∷ "wire::write_header" ∷ "wire::write_integer_frame" ∷ "wire::write_opening" ∷ "wire::write_goaway" ∷ "control::settings::judge" ∷ "control::settings::only" ∷ "fields::has_byte" ∷ "fields::begins_with" ∷ "fields::same_bytes" ∷ "fields::any_outside" ∷ "fields::bad_line" ∷ "fields::decimal_of" ∷ "fields::line_at" ∷ "section::code" ∷ "section::header_section" ∷ "section::trailers" ∷ "streams::ruled" ∷ "streams::end" ∷ "record::cells_in" ∷ "record::free" ∷ "record::is_free" ∷ "record::read" ∷ "record::row" ∷ "record::write" ∷ "record::in_content" ∷ "requests::given::give" ∷ "oneway::close" ∷ "control::judge" ∷ "requests::reset" ∷ "requests::end" ∷ "requests::feed" ∷ "requests::give" ∷ "connection::doors::fresh" ∷ "connection::doors::open" ∷ "connection::doors::send_goaway" ∷ "oneway::calls::fresh" ∷ "oneway::calls::feed" ∷ "oneway::calls::give" ∷ "oneway::calls::close" ∷ "connection::fresh" ∷ "connection::wanted" ∷ "connection::answer" ∷ "connection::decide" ∷ "connection::begin" ∷ "connection::swept" ∷ "connection::say_goaway" ∷ "board::step" ∷ "board::eistulko_start" ∷ "board::eistulko_open" ∷ "board::eistulko_feed" ∷ "board::eistulko_give" ∷ "board::eistulko_end" ∷ "board::eistulko_reset" ∷ "board::eistulko_goaway" ∷ "board::eistulko_write_header" ∷ "board::eistulko_write_integer_frame" ∷ "board::eistulko_write_opening" ∷ "board::eistulko_connection_size" ∷ "board::eistulko_record_size" ∷ "board::eistulko_report_size" ∷ "board::eistulko_written_size" ∷ [])
   listed = refl
 
   -- ---- and those that do not

@@ -15,10 +15,3 @@ pub fn is_request(id: StreamId) -> bool
 {
     id.0 % 4 == 0
 }
-
-// The client's one-way streams: 2, 6, 10..
-pub fn is_one_way(id: StreamId) -> bool
-    ensures { λ r. ⌜ r ≡ eqb (id .0 % 4) 2 ⌝ }
-{
-    id.0 % 4 == 2
-}
