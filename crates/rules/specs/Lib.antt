@@ -14,4 +14,14 @@ pub mod Writer
 pub mod Legal
 pub mod LegalEdges
 pub mod Worked
-pub mod Edges
+pub mod IntegerEdges
+pub mod BlockEdges
+pub mod ClassEdges
+pub mod SectionEdges
+pub mod RequestEdges
+pub mod MessageEdges
+pub mod ReadingEdges
+pub mod ControlEdges
+pub mod OneWayEdges
+pub mod NumberEdges
+pub mod WriterEdges

@@ -136,6 +136,13 @@ pub record Worked : Type 0 where
   pub question : Question
   pub says : Answer
 
+abbrev pub asks : Question → Answer → Worked
+asks q a = record { question = q; says = a }
+
+-- the byte 61, so many times
+abbrev pub long : ℕ → List ℕ
+long n = lib.ListN.replicate n 0x61
+
 abbrev pub reads-as : String → (value : ℕ) → Worked
 reads-as bytes v = record { question = reads (hex bytes); says = read-as (got v (lib.ListN.length (hex bytes)) []) }
 
@@ -179,6 +186,10 @@ asked list = map (λ w. answer (w .question)) list
 abbrev pub said : List Worked → List Answer
 said list = map (λ w. w .says) list
 
-pub worked : asked starred ≡ said starred
+-- each question is answered as the list says
+abbrev pub Holds : List Worked → Type 0
+Holds list = asked list ≡ said list
+
+pub worked : Holds starred
 unfolding answer starred
 worked = refl
