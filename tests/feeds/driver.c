@@ -21,12 +21,12 @@ static u64 answers[CALLS][ANSWER];
 static u8 bytes[BYTES], piece[BYTES + 16];
 
 /* One connection: a request stream, one-way streams, a control payload kept so far, and what was said. */
-static Stand stand;
-static Way ways[WAYS];
-static Came came;
+static Cells stand;
+static OneWay ways[WAYS];
+static Seen came;
 static u8 payload[256];
 static usize payload_length;
-static Held held;
+static Kept held;
 
 static int moved(int out, u8 *at, usize left) {
     while (left) {
@@ -53,17 +53,17 @@ static void answered(u64 *a, u64 number, u64 event, u64 start, u64 len, u64 used
 }
 
 static void opened(void) {
-    stand = (Stand){0};
-    for (int i = 0; i < WAYS; i++) ways[i] = (Way){.kind = 2};
-    came = (Came){0};
+    stand = (Cells){0};
+    for (int i = 0; i < WAYS; i++) ways[i] = (OneWay){.kind = 2};
+    came = (Seen){0};
     payload_length = 0;
-    held = (Held){0};
+    held = (Kept){0};
 }
 
 /* As a host plays it: a payload's parts are kept, and the payload judged when it is complete; a fault leaves the stream as it was. */
 static int way_fed(const u64 *c, u64 *a) {
     if (c[1] >= WAYS) return 0;
-    Way *way = ways + c[1];
+    OneWay *way = ways + c[1];
     usize n = cut(c[2], c[3]);
     WayReport r = eist_feed_way(*way, came, piece, n, c[4]);
     answered(a, r.number, NOTHING, 0, 0, r.used, r.heads);
@@ -75,14 +75,14 @@ static int way_fed(const u64 *c, u64 *a) {
         payload_length += r.len;
     }
     if (r.event == 5) {
-        Judgement j = eist_judge(r.payload, held, payload, payload_length);
+        Verdict j = eist_judge(r.payload, held, payload, payload_length);
         payload_length = 0;
         answered(a, j.number, j.number ? NOTHING : SETTINGS + j.event - 8, 0, j.id, r.used, r.heads);
         if (j.number) return 1;
-        held = j.held;
+        held = j.kept;
     }
-    if (r.event == 7) answered(a, 0, r.way.kind == 4 ? ENCODER : DECODER, r.start, r.len, r.used, r.heads);
-    *way = r.way;
+    if (r.event == 7) answered(a, 0, r.stream.kind == 4 ? ENCODER : DECODER, r.start, r.len, r.used, r.heads);
+    *way = r.stream;
     if (way->kind == 3) came.control = 1;
     if (way->kind == 4) came.encoder = 1;
     if (way->kind == 5) came.decoder = 1;
@@ -105,13 +105,13 @@ static int made(const u64 *c, const u8 *at, u64 *a, usize *behind) {
         usize n = cut(c[2], c[3]);
         Report r = eist_feed(stand, piece, n, c[4]);
         answered(a, r.number, r.event, r.start, r.len, r.used, r.heads);
-        stand = r.stand;
+        stand = r.cells;
         return 1;
     }
     case GIVE: {
-        Gave g = eist_give(stand, at, c[1]);
+        Given g = eist_give(stand, at, c[1]);
         a[0] = g.number;
-        stand = g.stand;
+        stand = g.cells;
         *behind = c[1];
         return 1;
     }

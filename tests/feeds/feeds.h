@@ -8,7 +8,7 @@ extern long write(int, const void *, usize);
 
 typedef struct {
     u64 mode, acc, due, ftype, phase, has, stated, sum;
-} Stand;
+} Cells;
 
 typedef struct {
     u64 number, event;
@@ -16,27 +16,27 @@ typedef struct {
     u64 len;
     usize used;
     u64 heads;
-    Stand stand;
+    Cells cells;
 } Report;
 
 typedef struct {
     u64 number;
-    Stand stand;
-} Gave;
+    Cells cells;
+} Given;
 
 /* A slice crosses as its pointer and its length. */
-extern Report eist_feed(Stand, const u8 *, usize, u64 allow);
-extern Gave eist_give(Stand, const u8 *, usize);
-extern u64 eist_end(Stand);
+extern Report eist_feed(Cells, const u8 *, usize, u64 allow);
+extern Given eist_give(Cells, const u8 *, usize);
+extern u64 eist_end(Cells);
 
 typedef struct {
     u64 kind;
-    Stand stand;
-} Way;
+    Cells cells;
+} OneWay;
 
 typedef struct {
     u64 control, encoder, decoder;
-} Came;
+} Seen;
 
 typedef struct {
     u64 number, event;
@@ -44,18 +44,18 @@ typedef struct {
     u64 len;
     usize used;
     u64 heads, payload;
-    Way way;
+    OneWay stream;
 } WayReport;
 
-extern WayReport eist_feed_way(Way, Came, const u8 *, usize, u64 allow);
+extern WayReport eist_feed_way(OneWay, Seen, const u8 *, usize, u64 allow);
 
 typedef struct {
     u64 set, limited, size, capacity, blocked, goaways, goaway, pushes, push;
-} Held;
+} Kept;
 
 typedef struct {
     u64 number, event, id;
-    Held held;
-} Judgement;
+    Kept kept;
+} Verdict;
 
-extern Judgement eist_judge(u64 which, Held, const u8 *, usize);
+extern Verdict eist_judge(u64 which, Kept, const u8 *, usize);

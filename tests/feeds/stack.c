@@ -8,7 +8,7 @@
 #define LIMIT (64ul << 10)
 
 static u8 frames[BYTES];
-static Stand at;
+static Cells at;
 static Report told;
 
 static void fed(void) { told = eist_feed(at, frames, BYTES, ~0ul); }
@@ -32,7 +32,7 @@ static usize put(u8 *line, const char *text, u64 number) {
 /* The frame is the two bytes of an empty one; the stream stands before its header section, or behind it. */
 static int run(const char *what, u8 type, u64 phase) {
     for (usize i = 0; i < BYTES; i += 2) frames[i] = type, frames[i + 1] = 0;
-    at = (Stand){.phase = phase};
+    at = (Cells){.phase = phase};
     usize used = used_by(fed);
     u8 line[256];
     usize n = put(line, what, told.used);
@@ -41,7 +41,7 @@ static int run(const char *what, u8 type, u64 phase) {
     line[n++] = '\n';
     write(1, line, n);
     int whole = told.number == 0 && told.event == 0 && told.used == BYTES && told.heads == BYTES / 2;
-    int same = told.stand.mode == 0 && told.stand.due == 0 && told.stand.phase == phase && told.stand.sum == 0;
+    int same = told.cells.mode == 0 && told.cells.due == 0 && told.cells.phase == phase && told.cells.sum == 0;
     return whole && same && used <= LIMIT;
 }
 

@@ -29,6 +29,7 @@ pub struct Kept {
 }
 
 // number 0: good, else the code. event 0: none, 8: settings, 9: a client's GOAWAY, 10: MAX_PUSH_ID; id: the push ID of the last two.
+#[repr(C)]
 pub struct Verdict {
     pub number: u64,
     pub event: u64,

@@ -18,6 +18,7 @@ ghost use Rattle.oneway.specs.Fed.{untyped, quietAt, Bare};
 ghost use Rattle.oneway.specs.Closed.{Closes};
 
 // The stream types that came before and may come once: 0 control, 2 QPACK encoder, 3 QPACK decoder. 0: it has not come.
+#[repr(C)]
 pub struct Seen {
     pub control: u64,
     pub encoder: u64,
@@ -26,6 +27,7 @@ pub struct Seen {
 
 // kind 2: its type is not whole, 3: control, 4: QPACK encoder, 5: QPACK decoder, 6: skipped. The cells are those of `streams`; before the
 // type is whole acc and due hold what was read of it.
+#[repr(C)]
 pub struct OneWay {
     pub kind: u64,
     pub cells: Cells,

@@ -9,6 +9,7 @@ ghost use Rattle.section.specs.Answer.{readStated};
 ghost use Rattle.requests.specs.Taken.{cellsAt, bodyCells, headedAs, headerOf, trailedAs, trailerOf, givenOf};
 
 // The number, and where the stream stands then.
+#[repr(C)]
 pub struct Given {
     pub number: u64,
     pub cells: Cells,

@@ -295,6 +295,7 @@ fn head_on(s: &[u8], at: usize, h: Head) -> HeadEnd
 // 5: in trailers, 6: the header section is due, 7: trailers are due, 8 to 11: in SETTINGS, GOAWAY, MAX_PUSH_ID, CANCEL_PUSH.
 // acc: the value of an integer's bytes so far, or the payload's bytes to come; due: the integer's bytes to come; ftype: the type before a length.
 // phase, has, stated, sum: the place between two frames, as above.
+#[repr(C)]
 pub struct Cells {
     pub mode: u64,
     pub acc: u64,

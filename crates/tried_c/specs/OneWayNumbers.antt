@@ -1,4 +1,4 @@
--- A one-way stream's feed, and a control stream's payload judged, in the numbers that cross to another language. Assumes nothing.
+-- A one-way stream's feed in the numbers that cross to another language. Assumes nothing.
 use Prim.Native.Nat.{ℕ, zero, suc, _≤_, _<_}
 use mathlib.Core.Path.{_≡_, refl}
 use mathlib.Core.List.{List}
@@ -13,72 +13,25 @@ use Rattle.oneway.specs.declared.OneWay.{OneWay}
 use Rattle.oneway.specs.declared.OneAnswer.{OneAnswer}
 use Rattle.oneway.specs.declared.Seen.{Seen}
 use Rattle.oneway.specs.Stands.{OneSoundAt, OneSound, OneFed}
-use Rattle.control.specs.declared.Kept.{Kept}
-use Rattle.control.specs.declared.Verdict.{Verdict}
-use Rattle.control.specs.Judged.{push-id}
-use Rattle.tried_c.specs.declared.feeds.Way.{Way}
-use Rattle.tried_c.specs.declared.feeds.Came.{Came}
 use Rattle.tried_c.specs.declared.feeds.WayReport.{WayReport}
-use Rattle.tried_c.specs.declared.feeds.Held.{Held}
-use Rattle.tried_c.specs.declared.feeds.Judgement.{Judgement}
-use Rattle.tried_c.specs.StreamNumbers.{cellsOf, standOf, Tells, tells}
+use Rattle.tried_c.specs.StreamNumbers.{Tells, tells}
 
-abbrev pub oneWayOf : Way → OneWay
-oneWayOf a = record { kind = a .kind; cells = cellsOf (a .stand) }
-
-abbrev pub wayOf : OneWay → Way
-wayOf w = record { kind = w .kind; stand = standOf (w .cells) }
-
-abbrev pub seenOf : Came → Seen
-seenOf c = record { control = c .control; encoder = c .encoder; decoder = c .decoder }
-
-abbrev wayReport : (number event start len used heads payload : ℕ) → Way → WayReport
+abbrev wayReport : (number event start len used heads payload : ℕ) → OneWay → WayReport
 wayReport number event start len used heads payload a =
-    record { number = number; event = event; start = start; len = len; used = used; heads = heads; payload = payload; way = a }
+    record { number = number; event = event; start = start; len = len; used = used; heads = heads; payload = payload; stream = a }
 
 -- a fault is a number, and leaves the stream where it stood
-unfoldable pub wayFaultOr : (fault : Bool) → Way → OneAnswer → WayReport
+unfoldable pub wayFaultOr : (fault : Bool) → OneWay → OneAnswer → WayReport
 wayFaultOr true a r = wayReport (r .len) 0 0 0 (r .used) (r .heads) 0 a
-wayFaultOr false a r = wayReport 0 (r .event) (r .start) (r .len) (r .used) (r .heads) (r .payload) (wayOf (r .stream))
+wayFaultOr false a r = wayReport 0 (r .event) (r .start) (r .len) (r .used) (r .heads) (r .payload) (r .stream)
 
-abbrev pub wayReportOf : Way → OneAnswer → WayReport
+abbrev pub wayReportOf : OneWay → OneAnswer → WayReport
 wayReportOf a r = wayFaultOr (eqb (r .event) 4) a r
 
 -- WHAT A FEED REPORTS, of any numbers
-pub record WayReported (a : Way) (came : Came) (s : List ℕ) (allow : ℕ) (r : WayReport) : Type 0 where
-  pub unsound : (OneSound (oneWayOf a) → ⊥) → r ≡ wayReport 10 0 0 0 0 0 0 a
-  pub fed : OneSound (oneWayOf a) → (f : OneAnswer) × OneFed (oneWayOf a) (seenOf came) s allow f × (r ≡ wayReportOf a f)
-
--- ---- a payload judged
-
-abbrev pub keptOf : Held → Kept
-keptOf h = record {
-  set = h .set;
-  limited = h .limited;
-  size = h .size;
-  capacity = h .capacity;
-  blocked = h .blocked;
-  goaways = h .goaways;
-  goaway = push-id (h .goaway);
-  pushes = h .pushes;
-  push = push-id (h .push);
-}
-
-abbrev pub heldOf : Kept → Held
-heldOf k = record {
-  set = k .set;
-  limited = k .limited;
-  size = k .size;
-  capacity = k .capacity;
-  blocked = k .blocked;
-  goaways = k .goaways;
-  goaway = k .goaway .0;
-  pushes = k .pushes;
-  push = k .push .0;
-}
-
-abbrev pub judgementOf : Verdict → Judgement
-judgementOf v = record { number = v .number; event = v .event; id = v .id .0; held = heldOf (v .kept) }
+pub record WayReported (a : OneWay) (came : Seen) (s : List ℕ) (allow : ℕ) (r : WayReport) : Type 0 where
+  pub unsound : (OneSound a → ⊥) → r ≡ wayReport 10 0 0 0 0 0 0 a
+  pub fed : OneSound a → (f : OneAnswer) × OneFed a came s allow f × (r ≡ wayReportOf a f)
 
 -- ---- laws: which numbers are sound
 
@@ -126,19 +79,18 @@ module _ (w : OneWay) where
 
 -- ---- laws: the report
 
-module _ (a : Way) (r : OneAnswer) where
+module _ (a : OneWay) (r : OneAnswer) where
   pub way-fault : r .event ≡ 4 → wayReport (r .len) 0 0 0 (r .used) (r .heads) 0 a ≡ wayReportOf a r
   unfolding wayFaultOr
   way-fault e = let x = eq-eqb (r .event) 4 e in rw (x, wayFaultOr) refl
 
-  pub way-left : (r .event ≡ 4 → ⊥) → {left : Way} → left ≡ wayOf (r .stream)
-      → wayReport 0 (r .event) (r .start) (r .len) (r .used) (r .heads) (r .payload) left ≡ wayReportOf a r
+  pub way-left : (r .event ≡ 4 → ⊥) → wayReport 0 (r .event) (r .start) (r .len) (r .used) (r .heads) (r .payload) (r .stream) ≡ wayReportOf a r
   unfolding wayFaultOr
-  way-left n e = let x = ne-eqb (r .event) 4 n in rw (x, wayFaultOr, e) refl
+  way-left n = let x = ne-eqb (r .event) 4 n in rw (x, wayFaultOr) refl
 
-module _ (a : Way) (came : Came) (s : List ℕ) (allow : ℕ) {w : OneWay} (e : w ≡ oneWayOf a) where
-  pub way-unsound : (OneSound w → ⊥) → WayReported a came s allow (wayReport 10 0 0 0 0 0 0 a)
-  way-unsound n = record { unsound = λ m. refl; fed = λ h. absurd (n (rw e h)) }
+module _ (a : OneWay) (came : Seen) (s : List ℕ) (allow : ℕ) where
+  pub way-unsound : (OneSound a → ⊥) → WayReported a came s allow (wayReport 10 0 0 0 0 0 0 a)
+  way-unsound n = record { unsound = λ m. refl; fed = λ h. absurd (n h) }
 
-  pub way-fed : {r : WayReport} → OneSound w → (f : OneAnswer) → OneFed w (seenOf came) s allow f → r ≡ wayReportOf a f → WayReported a came s allow r
-  way-fed h f m q = record { unsound = λ n. absurd (n (rw e at h)); fed = λ k. (f, rw e at m, q) }
+  pub way-fed : {r : WayReport} → OneSound a → (f : OneAnswer) → OneFed a came s allow f → r ≡ wayReportOf a f → WayReported a came s allow r
+  way-fed h f m q = record { unsound = λ n. absurd (n h); fed = λ k. (f, m, q) }

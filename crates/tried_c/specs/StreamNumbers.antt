@@ -11,18 +11,7 @@ use Rattle.streams.specs.declared.Cells.{Cells}
 use Rattle.streams.specs.declared.Answer.{Answer}
 use Rattle.streams.specs.Answers.{Sane}
 use Rattle.streams.specs.Fed.{Fed}
-use Rattle.requests.specs.declared.given.Given.{Given}
-use Rattle.tried_c.specs.declared.feeds.Stand.{Stand}
 use Rattle.tried_c.specs.declared.feeds.Report.{Report}
-use Rattle.tried_c.specs.declared.feeds.Gave.{Gave}
-
--- ---- cells
-
-abbrev pub cellsOf : Stand → Cells
-cellsOf a = record { mode = a .mode; acc = a .acc; due = a .due; ftype = a .ftype; phase = a .phase; has = a .has; stated = a .stated; sum = a .sum }
-
-abbrev pub standOf : Cells → Stand
-standOf c = record { mode = c .mode; acc = c .acc; due = c .due; ftype = c .ftype; phase = c .phase; has = c .has; stated = c .stated; sum = c .sum }
 
 -- a test that tells of a fact whether it holds
 abbrev pub Tells : Bool → Type 0 → Type 0
@@ -31,32 +20,29 @@ Tells false P = P → ⊥
 
 -- ---- one feed
 
-abbrev pub report : (number event start len used heads : ℕ) → Stand → Report
-report number event start len used heads a = record { number = number; event = event; start = start; len = len; used = used; heads = heads; stand = a }
+abbrev pub report : (number event start len used heads : ℕ) → Cells → Report
+report number event start len used heads a = record { number = number; event = event; start = start; len = len; used = used; heads = heads; cells = a }
 
-abbrev pub refused : (number : ℕ) → Stand → Report
+abbrev pub refused : (number : ℕ) → Cells → Report
 refused n a = report n 0 0 0 0 0 a
 
 -- a fault is a number, and leaves the stream where it stood
-unfoldable pub faultOr : (fault : Bool) → Stand → Answer → Report
+unfoldable pub faultOr : (fault : Bool) → Cells → Answer → Report
 faultOr true a r = report (r .len) 0 0 0 (r .used) (r .heads) a
-faultOr false a r = report 0 (r .event) (r .start) (r .len) (r .used) (r .heads) (standOf (r .cells))
+faultOr false a r = report 0 (r .event) (r .start) (r .len) (r .used) (r .heads) (r .cells)
 
-abbrev pub reportOf : Stand → Answer → Report
+abbrev pub reportOf : Cells → Answer → Report
 reportOf a r = faultOr (eqb (r .event) 4) a r
 
 -- a section is due
-abbrev pub IsDue : Stand → Type 0
+abbrev pub IsDue : Cells → Type 0
 IsDue a = (6 ≤ a .mode) × (a .mode < 8)
 
 -- WHAT A FEED REPORTS, of any numbers
-pub record Reported (a : Stand) (s : List ℕ) (allow : ℕ) (r : Report) : Type 0 where
-  pub unsound : (Sane (cellsOf a) → ⊥) → r ≡ refused 10 a
-  pub waits : Sane (cellsOf a) → IsDue a → r ≡ refused 4 a
-  pub fed : Sane (cellsOf a) → (IsDue a → ⊥) → (f : Answer) × Fed (cellsOf a) s allow f × (r ≡ reportOf a f)
-
-abbrev pub gaveOf : Given → Gave
-gaveOf g = record { number = g .number; stand = standOf (g .cells) }
+pub record Reported (a : Cells) (s : List ℕ) (allow : ℕ) (r : Report) : Type 0 where
+  pub unsound : (Sane a → ⊥) → r ≡ refused 10 a
+  pub waits : Sane a → IsDue a → r ≡ refused 4 a
+  pub fed : Sane a → (IsDue a → ⊥) → (f : Answer) × Fed a s allow f × (r ≡ reportOf a f)
 
 -- ---- laws: the tests
 
@@ -102,21 +88,21 @@ module _ (c : Cells) (modes : c .mode ≤ 11) (small : c .acc < 2 ^ 62) (type : 
 
 -- ---- laws: the report
 
-module _ (a : Stand) (r : Answer) where
+module _ (a : Cells) (r : Answer) where
   pub report-fault : r .event ≡ 4 → report (r .len) 0 0 0 (r .used) (r .heads) a ≡ reportOf a r
   unfolding faultOr
   report-fault e = let x = eq-eqb (r .event) 4 e in rw (x, faultOr) refl
 
-  pub report-left : (r .event ≡ 4 → ⊥) → {left : Stand} → left ≡ standOf (r .cells) → report 0 (r .event) (r .start) (r .len) (r .used) (r .heads) left ≡ reportOf a r
+  pub report-left : (r .event ≡ 4 → ⊥) → report 0 (r .event) (r .start) (r .len) (r .used) (r .heads) (r .cells) ≡ reportOf a r
   unfolding faultOr
-  report-left n e = let x = ne-eqb (r .event) 4 n in rw (x, faultOr, e) refl
+  report-left n = let x = ne-eqb (r .event) 4 n in rw (x, faultOr) refl
 
-module _ (a : Stand) (s : List ℕ) (allow : ℕ) {c : Cells} (e : c ≡ cellsOf a) {r : Report} where
-  pub feed-unsound : (Sane c → ⊥) → r ≡ refused 10 a → Reported a s allow r
-  feed-unsound n q = record { unsound = λ m. q; waits = λ h. absurd (n (rw e h)); fed = λ h. absurd (n (rw e h)) }
+module _ (a : Cells) (s : List ℕ) (allow : ℕ) {r : Report} where
+  pub feed-unsound : (Sane a → ⊥) → r ≡ refused 10 a → Reported a s allow r
+  feed-unsound n q = record { unsound = λ m. q; waits = λ h. absurd (n h); fed = λ h. absurd (n h) }
 
-  pub feed-waits : Sane c → IsDue a → r ≡ refused 4 a → Reported a s allow r
-  feed-waits h d q = record { unsound = λ n. absurd (n (rw e at h)); waits = λ k l. q; fed = λ k n. absurd (n d) }
+  pub feed-waits : Sane a → IsDue a → r ≡ refused 4 a → Reported a s allow r
+  feed-waits h d q = record { unsound = λ n. absurd (n h); waits = λ k l. q; fed = λ k n. absurd (n d) }
 
-  pub feed-fed : Sane c → (IsDue a → ⊥) → (f : Answer) → Fed c s allow f → r ≡ reportOf a f → Reported a s allow r
-  feed-fed h n f m q = record { unsound = λ k. absurd (k (rw e at h)); waits = λ k d. absurd (n d); fed = λ k l. (f, rw e at m, q) }
+  pub feed-fed : Sane a → (IsDue a → ⊥) → (f : Answer) → Fed a s allow f → r ≡ reportOf a f → Reported a s allow r
+  feed-fed h n f m q = record { unsound = λ k. absurd (k h); waits = λ k d. absurd (n d); fed = λ k l. (f, m, q) }

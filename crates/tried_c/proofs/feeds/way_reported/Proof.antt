@@ -4,14 +4,11 @@ use Rattle.tried_c.specs.OneWayNumbers.{way-fault, way-left}
 use Rattle.tried_c.proofs.feeds.way_reported.Statement.{statement}
 use Rattle.tried_c.proofs.feeds.way_reported.Tie as tie
 
-way-of-requires : tie.Need-way-of-requires
-way-of-requires c κs = search needs
-
 returns : tie.Need-returns
 returns c = way-fault (c .before .before .args .at) (c .before .before .args .a) (c .if1 .taken)
 
 returns-2 : tie.Need-returns-2
-returns-2 c = way-left (c .before .before .before .before .args .at) (c .before .before .before .before .args .a) (c .before .before .if1 .left) (c .way-of .ensures)
+returns-2 c = way-left (c .before .before .before .args .at) (c .before .before .before .args .a) (c .before .if1 .left)
 
 pub way-reported-spec : {M : Type 1} → statement M
-way-reported-spec = tie.close (tie.spec way-of-requires returns returns-2)
+way-reported-spec = tie.close (tie.spec returns returns-2)
