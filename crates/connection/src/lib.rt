@@ -298,7 +298,7 @@ pub fn answer(d: Doors, f: Found, call: u64, id: u64, allow: u64, piece: &[u8]) 
     ensures { λ r. ⌜ Nearly d f call id allow (now (piece .entry)) r ⌝ }
 {
     if f.len != 24 {
-        return refused(rules::NOT_24, d, f);
+        return refused(rules::OTHER_ROW, d, f);
     }
     if d.code != 0 {
         return refused(d.code, d, f);
@@ -396,7 +396,7 @@ pub fn begin(c: Connection, len: usize) -> Begun
         }
     } else {
         Begun {
-            number: rules::NOT_24,
+            number: rules::OTHER_ROW,
             conn: c,
         }
     }

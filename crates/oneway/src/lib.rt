@@ -212,7 +212,7 @@ fn bare(s: &[u8], at: usize, w: OneWay) -> OneAnswer
         quiet(s.len(), w)
     } else if at < s.len() {
         OneAnswer {
-            event: rules::QPACK_BYTES,
+            event: rules::QPACK,
             start: at,
             len: (s.len() - at) as u64,
             used: s.len(),

@@ -245,7 +245,7 @@ fn taken_number(which: u64) -> u64
     if which == 8 {
         rules::SETTINGS
     } else if which == 9 {
-        rules::CLIENT_GOAWAY
+        rules::GOAWAY
     } else if which == 10 {
         rules::MAX_PUSH_ID
     } else {
@@ -400,10 +400,10 @@ fn on(r: Record, c: Cells, d: Side, piece: &[u8], allow: u64) -> Heard
     let e = w.cells;
     let row = row_of(w.kind, r.id, e);
     let side = side_of(w.kind, c.phase, d, piece, a.start, begun(a.event, a.len));
-    if a.event == rules::QPACK_BYTES {
+    if a.event == rules::QPACK {
         return Heard {
             number: 0,
-            event: rules::QPACK_BYTES,
+            event: rules::QPACK,
             start: a.start,
             len: a.len,
             used: a.used,
@@ -468,7 +468,7 @@ pub fn give(r: Record, d: Side) -> Heard
     ensures { λ a. ⌜ HeardAs r d (givenHere r d) a ⌝ }
 {
     if heeds(r) {
-        refuse(rules::NONE_DUE, 0, 0, r, d)
+        refuse(rules::NO_SECTION, 0, 0, r, d)
     } else {
         refuse(rules::NOT_OPEN, 0, 0, r, d)
     }

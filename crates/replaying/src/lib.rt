@@ -137,7 +137,7 @@ fn event(room: &mut [u8; 2048], to: usize, kept: Kept, r: Report) -> usize
     if r.event == rules::CONTENT {
         return part(room, to, b"content", r.start, r.len);
     }
-    if r.event == rules::SECTION_BYTES {
+    if r.event == rules::SECTION {
         let a = part(room, to, b"section", r.start, r.len);
         return listing::put(room, a, b" 0");
     }
@@ -145,7 +145,7 @@ fn event(room: &mut [u8; 2048], to: usize, kept: Kept, r: Report) -> usize
         let a = part(room, to, b"section", r.start, r.len);
         return listing::put(room, a, b" 1");
     }
-    if r.event == rules::QPACK_BYTES {
+    if r.event == rules::QPACK {
         let a = part(room, to, b"qpack", r.value, r.start);
         return spaced(room, a, r.len);
     }
@@ -153,7 +153,7 @@ fn event(room: &mut [u8; 2048], to: usize, kept: Kept, r: Report) -> usize
         let a = listing::put(room, to, b"settings");
         return settings(room, a, kept);
     }
-    if r.event == rules::CLIENT_GOAWAY {
+    if r.event == rules::GOAWAY {
         let a = listing::put(room, to, b"goaway");
         return spaced(room, a, r.value);
     }
