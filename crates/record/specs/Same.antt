@@ -16,7 +16,7 @@ use Rattle.streams.specs.declared.Cells.{Cells}
 use Rattle.streams.specs.Both.{Place, of-request, of-control}
 use Rattle.streams.specs.Uses.{statedOf, placeOf, Stands, a-place, any-set}
 use Rattle.streams.specs.Heads.{headState}
-use Rattle.streams.specs.Answers.{stateIn, stateAt, stateOf, StandsIn, Sane}
+use Rattle.streams.specs.Answers.{modeState, stateAt, stateOf, StandsIn, Sane}
 use Rattle.record.specs.Kinds.{FREE, REQUEST, UNTYPED, CONTROL, ENCODER, DECODER, SKIPPED}
 use Rattle.record.specs.declared.Record.{Record}
 use Rattle.record.specs.declared.Stream.{Stream}
@@ -36,16 +36,16 @@ stateBy n p k = stateAt (n .mode) (n .acc) (n .due) (n .ftype) p k
 
 module _ {P : Type 0} (a d t : ℕ) (p : P) (k : List ℕ) where
   due-free : (x : Part) → stateAt (modeNumber (waiting x)) 0 0 0 p k ≡ stateAt (modeNumber (waiting x)) a d t p k
-  unfolding stateIn
+  unfolding modeState
   due-free x = let w = mode-back (waiting x) in rw w refl
 
   payload-free : (u : Use) → stateAt (modeNumber (paying u)) a 0 0 p k ≡ stateAt (modeNumber (paying u)) a d t p k
-  unfolding stateIn
+  unfolding modeState
   payload-free u = let w = mode-back (paying u) in rw w refl
 
   again : (q : Place) {mode : ℕ} → IsMode mode → (IN-SKIPPED ≤ mode → (mode ≡ HEADER-SECTION-DUE → ⊥) → (mode ≡ TRAILERS-DUE → ⊥) → 0 < a)
       → stateBy (numbersOf (stateAt mode a d t q [])) p k ≡ stateAt mode a d t p k
-  unfolding stateIn modeOf headState
+  unfolding modeState modeOf headState
   again q (is-mode typing) s = ap (λ n. stateBy n p k) (in-type-numbers a d t q [] IN-TYPE refl) ∙ ap (λ g. in-type g p) (value-again d a)
   again q (is-mode sizing) s = ap (λ n. stateBy n p k) (in-length-numbers a d t q [] IN-LENGTH refl) ∙ ap (λ g. in-length t g p) (value-again d a)
   again q (is-mode (waiting x)) s = ap (λ n. stateBy n p k) (due-numbers a d t q [] x (modeNumber (waiting x)) refl) ∙ due-free x
@@ -214,7 +214,7 @@ one-place r s e p st = place-only st (omega (arith, s .fit .shaped .request-phas
 
 -- A ONE-WAY STREAM WITHOUT FRAMES
 at-opening : (m a d t ph h n su : ℕ) → m ≡ 0 → ph ≡ OPENING → stateAt m a d t (placeOf ph h n su) [] ≡ in-type (prog d a) (of-request opening)
-unfolding stateIn modeOf headState placeOf
+unfolding modeState modeOf headState placeOf
 at-opening m a d t ph h n su e f = rw (e, f) refl
 
 module _ (r : Record) (s : Sound r) where

@@ -12,7 +12,7 @@ use Rattle.streams.specs.declared.Cells.{Cells}
 use Rattle.streams.specs.Both.{Place, of-request, of-control}
 use Rattle.streams.specs.Uses.{statedOf, placeOf, Stands, a-place, any-set}
 use Rattle.streams.specs.Heads.{headState}
-use Rattle.streams.specs.Answers.{stateIn, stateAt, stateOf, StandsIn, Sane}
+use Rattle.streams.specs.Answers.{modeState, stateAt, stateOf, StandsIn, Sane}
 use Rattle.record.specs.Row.{phaseOf, statedIn, isStated, lengthOf, sumIn, Numbers, numbers, numbersOf, placeIn, cellsBy, cellsFor}
 use Rattle.record.specs.Sound.{ownPlace, tidied}
 
@@ -45,15 +45,15 @@ part-due (suc d) a = refl
 
 module _ (a d t : ℕ) (p : Place) (k : List ℕ) where
   pub in-type-numbers : (mode : ℕ) → mode ≡ IN-TYPE → numbersOf (stateAt mode a d t p k) ≡ numbers IN-TYPE (partOf (prog d a) .acc) d 0
-  unfolding stateIn headState numbersOf
+  unfolding modeState headState numbersOf
   in-type-numbers mode e = let w = of-mode typing e in rw w (ap (λ x. numbers IN-TYPE (partOf (prog d a) .acc) x 0) (part-due d a))
 
   pub in-length-numbers : (mode : ℕ) → mode ≡ IN-LENGTH → numbersOf (stateAt mode a d t p k) ≡ numbers IN-LENGTH (partOf (prog d a) .acc) d t
-  unfolding stateIn headState numbersOf
+  unfolding modeState headState numbersOf
   in-length-numbers mode e = let w = of-mode sizing e in rw w (ap (λ x. numbers IN-LENGTH (partOf (prog d a) .acc) x t) (part-due d a))
 
   pub due-numbers : (x : Part) (mode : ℕ) → mode ≡ modeNumber (waiting x) → numbersOf (stateAt mode a d t p k) ≡ numbers (modeNumber (waiting x)) 0 0 0
-  unfolding stateIn numbersOf
+  unfolding modeState numbersOf
   due-numbers x mode e = let w = of-mode (waiting x) e in rw w refl
 
   module _ (some : 0 < a) where
@@ -61,17 +61,17 @@ module _ (a d t : ℕ) (p : Place) (k : List ℕ) where
     left n = let e : suc (a - 1) ≡ a = omega arith in ap (λ x. numbers n x 0 0) e
 
     pub payload-numbers : (u : Use) (mode : ℕ) → mode ≡ modeNumber (paying u) → numbersOf (stateAt mode a d t p k) ≡ numbers (modeNumber (paying u)) a 0 0
-    unfolding stateIn numbersOf
+    unfolding modeState numbersOf
     payload-numbers u mode e = let w = of-mode (paying u) e in rw w (left (modeNumber (paying u)))
 
     -- but for the mode, which its number says
     pub payload-cells : (c : Cells) (mode : ℕ) → IN-SKIPPED ≤ mode → (mode ≡ HEADER-SECTION-DUE → ⊥) → (mode ≡ TRAILERS-DUE → ⊥) → by-numbers c (numbersOf (stateAt mode a d t p k)) ≡ headAs c a 0 0
-    unfolding stateIn numbersOf
-    payload-cells c mode = at-payload (λ m. by-numbers c (numbersOf (stateIn m a d t p k)) ≡ headAs c a 0 0) (λ u. ap (by-numbers c) (left (modeNumber (paying u)))) mode
+    unfolding modeState numbersOf
+    payload-cells c mode = at-payload (λ m. by-numbers c (numbersOf (modeState m a d t p k)) ≡ headAs c a 0 0) (λ u. ap (by-numbers c) (left (modeNumber (paying u)))) mode
 
 -- the place of a state is the one it was made with
-place-in : {P : Type 0} (a d t : ℕ) (p : P) (k : List ℕ) (m : Mode) → placeIn (stateIn m a d t p k) ≡ p
-unfolding stateIn headState placeIn
+place-in : {P : Type 0} (a d t : ℕ) (p : P) (k : List ℕ) (m : Mode) → placeIn (modeState m a d t p k) ≡ p
+unfolding modeState headState placeIn
 place-in a d t p k typing = refl
 place-in a d t p k sizing = refl
 place-in a d t p k (paying u) = refl
@@ -81,8 +81,8 @@ pub place-back : {P : Type 0} (a d t : ℕ) (p : P) (k : List ℕ) (mode : ℕ) 
 place-back a d t p k mode = place-in a d t p k (modeOf mode)
 
 -- the numbers look neither at the place nor at what was kept
-numbers-in : (m : Mode) (a d t : ℕ) (p q : Place) (k l : List ℕ) → numbersOf (stateIn m a d t p k) ≡ numbersOf (stateIn m a d t q l)
-unfolding stateIn headState numbersOf
+numbers-in : (m : Mode) (a d t : ℕ) (p q : Place) (k l : List ℕ) → numbersOf (modeState m a d t p k) ≡ numbersOf (modeState m a d t q l)
+unfolding modeState headState numbersOf
 numbers-in typing a d t p q k l = refl
 numbers-in sizing a d t p q k l = refl
 numbers-in (paying u) a d t p q k l = refl

@@ -15,7 +15,7 @@ use Rattle.varint.specs.ByByte.{partOf, prog}
 use Rattle.streams.specs.Modes.{modeOf}
 use Rattle.streams.specs.Uses.{statedOf, placeOf}
 use Rattle.streams.specs.Heads.{headState}
-use Rattle.streams.specs.Answers.{stateIn}
+use Rattle.streams.specs.Answers.{modeState}
 use Rattle.record.specs.declared.Record.{Record}
 use Rattle.record.specs.Row.{phaseOf, statedIn, isStated, lengthOf, sumIn, numbersOf, placeIn, requestRecord, oneWayRecord}
 use Rattle.record.specs.Sound.{Sound}
@@ -64,19 +64,19 @@ worked = refl
 
 -- NOT SOUND: a type outside a length, a value of which no byte was read, a length that is not stated, a sum before the header section
 pub stray-type : Sound (of 4 0 7 0 0 1 0 0 0 0) → ⊥
-unfolding stateIn modeOf headState numbersOf
+unfolding modeState modeOf headState numbersOf
 stray-type s = let e = ap (λ x. x .ftype) (s .own) in omega arith
 
 pub stray-value : Sound (of 4 7 0 0 0 1 0 0 0 0) → ⊥
-unfolding stateIn modeOf headState numbersOf prog partOf
+unfolding modeState modeOf headState numbersOf prog partOf
 stray-value s = let e = ap (λ x. x .acc) (s .own) in omega arith
 
 pub stray-length : Sound (of 4 0 0 7 0 1 0 0 1 0) → ⊥
-unfolding stateIn modeOf headState placeOf placeIn statedOf statedIn lengthOf
+unfolding modeState modeOf headState placeOf placeIn statedOf statedIn lengthOf
 stray-length s = let e = ap (λ x. x .stated) (s .own) in omega arith
 
 pub stray-sum : Sound (of 4 0 0 0 7 1 0 0 0 0) → ⊥
-unfolding stateIn modeOf headState placeOf placeIn sumIn
+unfolding modeState modeOf headState placeOf placeIn sumIn
 stray-sum s = let e = ap (λ x. x .sum) (s .own) in omega arith
 
 -- nor a request with a one-way stream's ID, nor one in a kept payload

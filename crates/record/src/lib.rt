@@ -30,6 +30,21 @@ pub const SKIPPED: u64 = 6;
 // What a record is read as that is of no stream.
 pub const UNSOUND: u64 = 7;
 
+// Bytes of a record.
+pub const FREE_KIND: u8 = 0;
+
+pub const REQUEST_KIND: u8 = 1;
+
+pub const TYPE_MODE: u8 = 0;
+
+pub const CONTENT_MODE: u8 = 3;
+
+pub const HEADER_DUE_MODE: u8 = 6;
+
+pub const TRAILERS_DUE_MODE: u8 = 7;
+
+pub const BODY_PHASE: u8 = 1;
+
 // mode, due, phase and has are as in streams::Cells. owner and room are 0.
 #[repr(C)]
 pub struct Record {
@@ -171,7 +186,7 @@ fn is_row(r: Record, c: Cells) -> bool
 pub fn is_free(r: Record) -> bool
     ensures { λ b. ⌜ Decides (r ≡ free-record) b ⌝ }
 {
-    if r.kind as u64 != FREE {
+    if r.kind != FREE_KIND {
         return false;
     }
     if r.id != 0 {
@@ -436,10 +451,10 @@ pub fn read(r: Record) -> Stream
 fn behind(r: Record) -> bool
     ensures { λ b. ⌜ (b ≡ true → Body r) ⌝ }
 {
-    if r.kind as u64 != REQUEST {
+    if r.kind != REQUEST_KIND {
         return false;
     }
-    if r.phase as u64 != streams::BODY {
+    if r.phase != BODY_PHASE {
         return false;
     }
     if r.due != 0 {
@@ -480,7 +495,7 @@ pub fn in_body(r: Record) -> bool
     ensures { λ b. ⌜ (b ≡ true → Sound r × Body r × (r .mode ≤ IN-CONTENT)) ⌝ }
 {
     if behind(r) {
-        if r.mode as u64 == streams::IN_CONTENT {
+        if r.mode == CONTENT_MODE {
             if r.acc == 0 {
                 return false;
             }
@@ -489,7 +504,7 @@ pub fn in_body(r: Record) -> bool
             }
             return false;
         }
-        if r.mode as u64 == streams::IN_TYPE {
+        if r.mode == TYPE_MODE {
             if r.acc == 0 {
                 return true;
             }

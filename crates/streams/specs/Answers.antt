@@ -31,27 +31,27 @@ keptOf skipped k = []
 keptOf (section t) k = []
 keptOf (kept f) k = k
 
-unfoldable pub stateIn : {P : Type 0} → Mode → (acc due ftype : ℕ) → P → (sofar : List ℕ) → State P
-stateIn typing a d t p k = headState IN-TYPE a d t p
-stateIn sizing a d t p k = headState IN-LENGTH a d t p
-stateIn (paying u) a d t p k = in-payload u (keptOf u k) (a - 1) p
-stateIn (waiting x) a d t p k = due x p
+unfoldable pub modeState : {P : Type 0} → Mode → (acc due ftype : ℕ) → P → (sofar : List ℕ) → State P
+modeState typing a d t p k = headState IN-TYPE a d t p
+modeState sizing a d t p k = headState IN-LENGTH a d t p
+modeState (paying u) a d t p k = in-payload u (keptOf u k) (a - 1) p
+modeState (waiting x) a d t p k = due x p
 
 abbrev pub stateAt : {P : Type 0} → (mode acc due ftype : ℕ) → P → (sofar : List ℕ) → State P
-stateAt mode a d t p k = stateIn (modeOf mode) a d t p k
+stateAt mode a d t p k = modeState (modeOf mode) a d t p k
 
 -- which payload is kept in a mode; of one that keeps none, any
-unfoldable pub keptIn : Mode → Kept
-keptIn (paying (kept f)) = f
-keptIn (paying content) = cancel-push
-keptIn (paying skipped) = cancel-push
-keptIn (paying (section t)) = cancel-push
-keptIn typing = cancel-push
-keptIn sizing = cancel-push
-keptIn (waiting t) = cancel-push
+unfoldable pub modeKept : Mode → Kept
+modeKept (paying (kept f)) = f
+modeKept (paying content) = cancel-push
+modeKept (paying skipped) = cancel-push
+modeKept (paying (section t)) = cancel-push
+modeKept typing = cancel-push
+modeKept sizing = cancel-push
+modeKept (waiting t) = cancel-push
 
 abbrev pub keptAt : (mode : ℕ) → Kept
-keptAt mode = keptIn (modeOf mode)
+keptAt mode = modeKept (modeOf mode)
 
 abbrev pub stateOf : {P : Type 0} → Cells → P → (sofar : List ℕ) → State P
 stateOf c p k = stateAt (c .mode) (c .acc) (c .due) (c .ftype) p k
@@ -151,8 +151,8 @@ fromPayload c s at heads mode left n p k = past at heads (coming left (stateAt m
 
 -- in a kept payload
 pub kept-state : {P : Type 0} (mode a d t : ℕ) (p : P) (k : List ℕ) → IN-SETTINGS ≤ mode → stateAt mode a d t p k ≡ in-payload (kept (keptAt mode)) k (a - 1) p
-unfolding stateIn keptIn
-kept-state mode a d t p k = at-kept (λ m. stateIn m a d t p k ≡ in-payload (kept (keptIn m)) k (a - 1) p) (λ f. refl) mode
+unfolding modeState modeKept
+kept-state mode a d t p k = at-kept (λ m. modeState m a d t p k ≡ in-payload (kept (modeKept m)) k (a - 1) p) (λ f. refl) mode
 
 pub some-coming : (left : ℕ) → 0 < left → (st : State Place) (f : State Place → Feeding Place) → coming left st f ≡ f st
 unfolding coming

@@ -13,7 +13,7 @@ use Rattle.streams.specs.declared.Cells.{Cells}
 use Rattle.streams.specs.declared.Answer.{Answer}
 use Rattle.streams.specs.Both.{Place, of-request, of-control, both, request-feed, control-feed}
 use Rattle.streams.specs.Heads.{headState}
-use Rattle.streams.specs.Answers.{stateIn, stateAt, stateOf, StandsIn, answerOf, Held}
+use Rattle.streams.specs.Answers.{modeState, stateAt, stateOf, StandsIn, answerOf, Held}
 use Rattle.streams.specs.Fed.{Fed}
 
 -- ---- a place of one kind
@@ -35,8 +35,8 @@ unfolding controls
 controls-back c = refl
 
 -- numbers stand for a state whatever its place is
-state-moved : {P Q : Type 0} (f : P → Q) (m : Mode) (a d t : ℕ) (p : P) (k : List ℕ) → map-state f (stateIn m a d t p k) ≡ stateIn m a d t (f p) k
-unfolding map-state stateIn headState
+state-moved : {P Q : Type 0} (f : P → Q) (m : Mode) (a d t : ℕ) (p : P) (k : List ℕ) → map-state f (modeState m a d t p k) ≡ modeState m a d t (f p) k
+unfolding map-state modeState headState
 state-moved f typing a d t p k = refl
 state-moved f sizing a d t p k = refl
 state-moved f (paying u) a d t p k = refl

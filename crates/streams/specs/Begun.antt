@@ -23,7 +23,7 @@ use Rattle.streams.specs.Both.{Place, rule, both}
 use Rattle.streams.specs.Uses.{placeOf, numberOf, rulingAt, ruling-back, number-stands}
 use Rattle.streams.specs.Heads.{headState, goesOn, headGoes, GoodHead, HeadRead}
 use Rattle.streams.specs.Stops.{headerOf, payloadOf, stopOf, not-header, Unready, Lawful, nothing-lawful}
-use Rattle.streams.specs.Answers.{stateIn, stateAt, stateOf, placeIn, StandsIn, answerAt, Sane, Numbers, Answers, place-same, answer}
+use Rattle.streams.specs.Answers.{modeState, stateAt, stateOf, placeIn, StandsIn, answerAt, Sane, Numbers, Answers, place-same, answer}
 use Rattle.streams.specs.Handed.{behind}
 use Rattle.streams.specs.Stopped.{moreSum, fromStop}
 
@@ -46,7 +46,7 @@ head-sane h c g m n = record {
 
 -- the state of such cells
 head-state : (mode a d t : ℕ) (p : Place) (k : List ℕ) → mode < IN-SKIPPED → stateAt mode a d t p k ≡ headState mode a d t p
-unfolding stateIn modeOf headState
+unfolding modeState modeOf headState
 head-state zero a d t p k h = refl
 head-state (suc zero) a d t p k h = refl
 head-state (suc (suc m)) a d t p k h = absurd (omega arith)
@@ -177,7 +177,7 @@ module _ (c : Cells) (s : List ℕ) (allow : ℕ) (sane : Sane c) where
       rw z (sym (past-none (stopOf s USE-SKIPPED left allow 0 p) ∙ not-header s USE-SKIPPED left allow 0 p (λ e. omega arith)))
 
   pub begin-skip : c .mode ≡ IN-SKIPPED → Started c s allow (start 0 (c .acc) USE-SKIPPED 0 c)
-  unfolding stateIn modeOf
+  unfolding modeState modeOf
   begin-skip m =
       let lo = sane .some (omega arith) (λ e. omega arith) (λ e. omega arith) in
       let z : c .acc ≡ suc (c .acc - 1) = omega arith in
@@ -194,7 +194,7 @@ module _ (c : Cells) (s : List ℕ) (allow : ℕ) (sane : Sane c) where
       }
 
   pub begin-fresh : c .mode ≡ IN-TYPE → c .due ≡ 0 → Started c s allow (start 0 0 USE-SKIPPED 0 c)
-  unfolding stateIn modeOf headState prog
+  unfolding modeState modeOf headState prog
   begin-fresh m d = record {
     goes = λ n p k st. rw (m, d) (sym (none-from p) ∙ from-here 0 p);
     stays = λ e. absurd (omega arith);
@@ -231,7 +231,7 @@ module _ (c : Cells) (s : List ℕ) (allow : ℕ) (sane : Sane c) where
 
   -- a header that was begun, as the numbers have it
   begun-goes : (mode a d t n : ℕ) (p : Place) (k : List ℕ) → mode < IN-SKIPPED → feed both (suc n) (stateAt mode a d t p k) s ≡ goesOn n mode a d t p s
-  unfolding stateIn modeOf goesOn headState
+  unfolding modeState modeOf goesOn headState
   begun-goes zero a d t n p k h = refl
   begun-goes (suc zero) a d t n p k h = refl
   begun-goes (suc (suc m)) a d t n p k h = absurd (omega arith)

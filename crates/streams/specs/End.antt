@@ -17,7 +17,7 @@ use Rattle.streams.specs.declared.Cells.{Cells}
 use Rattle.streams.specs.Both.{Place, of-request, of-control}
 use Rattle.streams.specs.Uses.{statedOf, placeOf, Stands, a-place, any-set}
 use Rattle.streams.specs.Heads.{headState}
-use Rattle.streams.specs.Answers.{stateIn, stateAt, stateOf, StandsIn}
+use Rattle.streams.specs.Answers.{modeState, stateAt, stateOf, StandsIn}
 
 -- ---- what an end says
 
@@ -166,14 +166,14 @@ cuts-alike {p = of-control c} (any-set k s) = refl
 cuts-alike {p = of-request m} (any-set k s) = absurd s
 
 due-end : (x : Part) (mode a d t : ℕ) (p : Place) (k : List ℕ) → mode ≡ modeNumber (waiting x) → SECTION-DUE ≡ endOf (stateAt mode a d t p k)
-unfolding stateIn endOf
+unfolding modeState endOf
 due-end x mode a d t p k e = let w = of-mode (waiting x) e in rw w refl
 
 pub end-due : (c : Cells) (x : Part) → c .mode ≡ modeNumber (waiting x) → Ends c SECTION-DUE
 end-due c x e p k st = due-end x (c .mode) (c .acc) (c .due) (c .ftype) p k e
 
 fresh-end : (mode a d t : ℕ) (p : Place) (k : List ℕ) → mode ≡ IN-TYPE → d ≡ 0 → endNumber (endAt p) ≡ endOf (stateAt mode a d t p k)
-unfolding stateIn modeOf headState prog endOf
+unfolding modeState modeOf headState prog endOf
 fresh-end mode a d t p k e f = rw (e, f) refl
 
 pub end-between : (c : Cells) {r : ℕ} → c .mode ≡ IN-TYPE → c .due ≡ 0 → r ≡ tallyOf (c .phase) (c .has) (c .stated) (c .sum) → Ends c r
@@ -181,11 +181,11 @@ end-between c e f g p k st = g ∙ ends-alike st ∙ fresh-end (c .mode) (c .acc
 
 -- inside a frame
 cut-end : (mode a d t : ℕ) (p : Place) (k : List ℕ) → (mode ≡ IN-TYPE → d ≡ 0 → ⊥) → (mode ≡ HEADER-SECTION-DUE → ⊥) → (mode ≡ TRAILERS-DUE → ⊥) → cutAt p ≡ endOf (stateAt mode a d t p k)
-unfolding stateIn modeOf headState prog endOf
+unfolding modeState modeOf headState prog endOf
 cut-end zero a zero t p k z s v = absurd (z refl refl)
 cut-end zero a (suc d) t p k z s v = refl
 cut-end (suc zero) a d t p k z s v = refl
-cut-end (suc (suc m)) a d t p k z s v = at-payload (λ x. cutAt p ≡ endOf (stateIn x a d t p k)) (λ u. refl) (suc (suc m)) (omega arith) s v
+cut-end (suc (suc m)) a d t p k z s v = at-payload (λ x. cutAt p ≡ endOf (modeState x a d t p k)) (λ u. refl) (suc (suc m)) (omega arith) s v
 
 pub cut-control : (phase : ℕ) → TRAILED < phase → CLOSED-CRITICAL-STREAM ≡ cutOf phase
 unfolding cutAt placeOf

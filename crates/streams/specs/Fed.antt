@@ -19,7 +19,7 @@ use Rattle.streams.specs.Both.{Place, rule, both}
 use Rattle.streams.specs.Uses.{placeOf, numberOf, not-none, passes-skip, passes-data, data-lawful}
 use borrow.Author.Tests.{ne-eqb, le-leb}
 use Rattle.streams.specs.Stops.{stopOf, Stop, stop-here, header-stop, pass-stop, found, ruling-lawful}
-use Rattle.streams.specs.Answers.{stateIn, stateAt, stateOf, answerAt, Sane, Held, Answers, fromPayload, some-coming, place-same, Content, goes-on, is-over, Hands, answer}
+use Rattle.streams.specs.Answers.{modeState, stateAt, stateOf, answerAt, Sane, Held, Answers, fromPayload, some-coming, place-same, Content, goes-on, is-over, Hands, answer}
 use Rattle.streams.specs.Stopped.{moreSum, fromStop, stop-content}
 use Rattle.streams.specs.Begun.{Started, begin-fresh}
 
@@ -33,8 +33,8 @@ Fed c s allow r = Answers c s (IN-SETTINGS - c .mode) (fedBy c s allow) r
 
 -- the rest of the cells says nothing of a payload's state
 state-free : (mode a d t : ℕ) (p : Place) (k : List ℕ) → IN-SKIPPED ≤ mode → (mode ≡ HEADER-SECTION-DUE → ⊥) → (mode ≡ TRAILERS-DUE → ⊥) → stateAt mode a d t p k ≡ stateAt mode a 0 0 p k
-unfolding stateIn
-state-free mode a d t p k = at-payload (λ m. stateIn m a d t p k ≡ stateIn m a 0 0 p k) (λ u. refl) mode
+unfolding modeState
+state-free mode a d t p k = at-payload (λ m. modeState m a d t p k ≡ modeState m a 0 0 p k) (λ u. refl) mode
 
 -- content of a frame that began here
 content-more : (c : Cells) (len : ℕ) {d : Cells} → Content (moreSum c len) d → Content c d
@@ -59,8 +59,8 @@ module _ (c : Cells) (s : List ℕ) (allow : ℕ) where
   }
 
   due-state : (mode a d t : ℕ) (p : Place) (k : List ℕ) → HEADER-SECTION-DUE ≤ mode → mode < IN-SETTINGS → feed both allow (stateAt mode a d t p k) s ≡ halt quiet (lives (stateAt mode a d t p k))
-  unfolding stateIn
-  due-state mode a d t p k = at-waiting (λ m. feed both allow (stateIn m a d t p k) s ≡ halt quiet (lives (stateIn m a d t p k))) (λ x. feed-due both allow x p s) mode
+  unfolding modeState
+  due-state mode a d t p k = at-waiting (λ m. feed both allow (modeState m a d t p k) s ≡ halt quiet (lives (modeState m a d t p k))) (λ x. feed-due both allow x p s) mode
 
   -- a section is due
   pub fed-due : Sane c → HEADER-SECTION-DUE ≤ c .mode → c .mode < IN-SETTINGS → Fed c s allow (answer NOTHING 0 0 0 0 c)

@@ -21,7 +21,7 @@ use Rattle.streams.specs.declared.Telling.{Telling}
 use Rattle.streams.specs.Both.{Place, both}
 use Rattle.streams.specs.Heads.{headState}
 use Rattle.streams.specs.Parts.{Shown, content-shown, section-shown, judgedAs, kept-judged, part-whole, part-short}
-use Rattle.streams.specs.Answers.{keptAt, stateIn, stateAt, kept-state, placeIn, answerAt, Sane, Numbers, HandedMode, tell, Tells, tells-content, tells-header, tells-trailers, tells-kept, emptied, coming, Answers, fromPayload, some-coming, inMode, Content, goes-on, is-over, answer}
+use Rattle.streams.specs.Answers.{keptAt, modeState, stateAt, kept-state, placeIn, answerAt, Sane, Numbers, HandedMode, tell, Tells, tells-content, tells-header, tells-trailers, tells-kept, emptied, coming, Answers, fromPayload, some-coming, inMode, Content, goes-on, is-over, answer}
 
 -- cells that go on
 pub sane-in : (c : Cells) (mode acc : ℕ) → Numbers c → mode ≤ IN-CANCEL-PUSH → acc < 2 ^ 62 → (mode < IN-SKIPPED → acc ≡ 0) → (IN-SKIPPED ≤ mode → (mode ≡ HEADER-SECTION-DUE → ⊥) → (mode ≡ TRAILERS-DUE → ⊥) → 0 < acc) → Sane (inMode c mode acc)
@@ -134,7 +134,7 @@ module _ (c : Cells) (s : List ℕ) (at heads : ℕ) (w : at ≤ length s) (g : 
 
   over-is : {mode : ℕ} {t : Telling} → Tells mode t → (left : ℕ) → (mode ≡ IN-CONTENT → 0 < left) → left ≤ length s - at → (n : ℕ) (p : Place) (k : List ℕ)
       → fromPayload c s at heads mode left n p k ≡ answerAt (t .last) at left (at + left) heads (inMode c (t .behind) 0) (placeIn c p) k s
-  unfolding answerAt stateIn modeOf headState prog
+  unfolding answerAt modeState modeOf headState prog
   over-is tells-content left lo h n p k = content-over left (lo refl) h n (placeIn c p)
   over-is tells-header left lo h n p k = section-over header-section left h n (placeIn c p)
   over-is tells-trailers left lo h n p k = section-over trailers left h n (placeIn c p)
@@ -184,7 +184,7 @@ module _ (c : Cells) (s : List ℕ) (at heads : ℕ) (w : at ≤ length s) (g : 
 
     on-is : {mode : ℕ} {t : Telling} → Tells mode t → (n : ℕ) (p : Place) (k : List ℕ)
         → fromPayload c s at heads mode left n p k ≡ answerAt (t .part) at (length s - at) (length s) heads (inMode c mode (left - (length s - at))) (placeIn c p) k s
-    unfolding answerAt stateIn modeOf named
+    unfolding answerAt modeState modeOf named
     on-is tells-content n p k = shown-on content-shown n (placeIn c p)
     on-is tells-header n p k = let e = not-last ((left - (length s - at)) - 1) in shown-on (section-shown header-section) n (placeIn c p) ∙ rw e refl
     on-is tells-trailers n p k = let e = not-last ((left - (length s - at)) - 1) in shown-on (section-shown trailers) n (placeIn c p) ∙ rw e refl

@@ -3,6 +3,10 @@
 use mathlib.Core.Path.{_≡_, refl, ap, _∙_}
 use Prim.Native.Nat.{ℕ, zero, suc, _≤_, _<_}
 use native.Mathlib.Omega.{arith}
+use mathlib.Core.Bool.{Bool, true, false}
+use mathlib.Core.Logic.{_⊎_, inl, inr, ⊎-elim}
+use lib.Dec.{ltb}
+use borrow.Author.Tests.{ltb-true, ltb-false}
 use Rattle.rules.specs.Reading.{Part, header-section, trailers, Kept, settings, goaway, max-push-id, cancel-push, Use, content, skipped, section, kept}
 
 -- ---- modes
@@ -187,6 +191,21 @@ module _ (P : Mode → Type 0) where
   at-payload f (suc (suc (suc (suc (suc (suc zero)))))) l x y = absurd (x refl)
   at-payload f (suc (suc (suc (suc (suc (suc (suc zero))))))) l x y = absurd (y refl)
   at-payload f (suc (suc (suc (suc (suc (suc (suc (suc k)))))))) l x y = at-kept (λ x. f (kept x)) (suc (suc (suc (suc (suc (suc (suc (suc k)))))))) (omega arith)
+
+kept-or-not : (number : ℕ) → number < IN-SETTINGS ⊎ IN-SETTINGS ≤ number
+kept-or-not number = by (ltb number IN-SETTINGS) refl
+  where
+    by : (x : Bool) → ltb number IN-SETTINGS ≡ x → number < IN-SETTINGS ⊎ IN-SETTINGS ≤ number
+    by true e = inl (ltb-true number IN-SETTINGS e)
+    by false e = inr (ltb-false number IN-SETTINGS e)
+
+-- any mode, and one of which something holds that does not of a kept payload
+pub at-any : (P : Mode → Type 0) → P typing → P sizing → P (paying skipped) → P (paying content) → ((t : Part) → P (paying (section t))) → ((t : Part) → P (waiting t)) → (number : ℕ)
+    → (IN-SETTINGS ≤ number → (k : Kept) → P (paying (kept k))) → P (modeOf number)
+at-any P a b c d e f number g = ⊎-elim (at-unkept P a b c d e f number) (λ l. at-kept P (g l) number l) (kept-or-not number)
+
+pub not-kept : (P : Mode → Type 0) → ((k : Kept) → P (paying (kept k)) → ⊥) → (number : ℕ) → P (modeOf number) → number ≤ TRAILERS-DUE
+not-kept P f number p = ⊎-elim (λ l. omega arith) (λ l. absurd (at-kept (λ m. P m → ⊥) f number l p)) (kept-or-not number)
 
 -- a header of which some bytes were read: one more number says that it is whole
 abbrev pub HEAD-WHOLE : ℕ

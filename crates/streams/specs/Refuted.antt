@@ -26,7 +26,7 @@ use Rattle.streams.specs.declared.Answer.{Answer}
 use Rattle.streams.specs.Both.{Place, of-request, of-control, rule}
 use Rattle.streams.specs.Uses.{statedOf, placeOf, a-place, keptNumber, useNumber}
 use Rattle.streams.specs.Heads.{headState}
-use Rattle.streams.specs.Answers.{stateIn, keptIn, placeAt, answerAt, answerOf, Held, inMode, answer}
+use Rattle.streams.specs.Answers.{modeState, modeKept, placeAt, answerAt, answerOf, Held, inMode, answer}
 use Rattle.streams.specs.Fed.{fedBy, Fed}
 
 pub record Row : Type 0 where
@@ -158,7 +158,7 @@ abbrev verdicts : Row → List Bool
 verdicts q = fits (q .cells) (q .piece) (q .allow) (q .asked) ∷ fits (q .cells) (q .piece) (q .allow) (q .wrong) ∷ []
 
 computed : map verdicts rows ≡ map (λ q. true ∷ false ∷ []) rows
-unfolding rows between hex hexFrom nibble fits same numbers eventNumbers afterNumbers stateNumbers placeNumbers keptNumber useNumber statedOf placeOf placeAt answerAt stateIn modeOf headState prog feed also halt onward behind-header left-event over-event named taking typed fed after extra over with-left rule map-ruling request-rule ruleFor kindOf column lookup data-rule carries sum-to content-limit codeOf headers-rule within-limit headers-limit control-rule first-rule settings-limit keptIn coded codeIn namedOf namedIn answers answerNumber
+unfolding rows between hex hexFrom nibble fits same numbers eventNumbers afterNumbers stateNumbers placeNumbers keptNumber useNumber statedOf placeOf placeAt answerAt modeState modeOf headState prog feed also halt onward behind-header left-event over-event named taking typed fed after extra over with-left rule map-ruling request-rule ruleFor kindOf column lookup data-rule carries sum-to content-limit codeOf headers-rule within-limit headers-limit control-rule first-rule settings-limit modeKept coded codeIn namedOf namedIn answers answerNumber
 computed = refl
 
 unfoldable pub Every : (Row → Type 0) → List Row → Type 0

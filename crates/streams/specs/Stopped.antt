@@ -20,7 +20,7 @@ use Rattle.streams.specs.Uses.{placeOf, Stands, a-place, any-set, withDa
 use Rattle.streams.specs.Heads.{headState}
 use Rattle.streams.specs.Parts.{Stopping, section-stops, kept-stops, over-stops}
 use Rattle.streams.specs.Stops.{headerOf, payloadOf, stopOf, not-header, Lawful}
-use Rattle.streams.specs.Answers.{stateIn, stateAt, placeAt, placeIn, answerAt, Sane, Numbers, emptied, coming, Answers, fromPayload, some-coming, place-same, inMode, answer}
+use Rattle.streams.specs.Answers.{modeState, stateAt, placeAt, placeIn, answerAt, Sane, Numbers, emptied, coming, Answers, fromPayload, some-coming, place-same, inMode, answer}
 use Rattle.streams.specs.Handed.{sane-in, behind}
 
 -- from a stop on: so many bytes and headers are behind it
@@ -67,7 +67,7 @@ module _ (c : Cells) (s : List ℕ) (to heads len rest : ℕ) (w : to ≤ length
   -- ---- no more headers
 
   pub stop-out : (number : ℕ) {r : Cells} → number ≡ NO-USE → rest ≡ 0 → r ≡ inMode c IN-TYPE 0 → Answers c s 1 (fromStop s to heads number len rest) (answer NOTHING to 0 to heads r)
-  unfolding answerAt stateIn modeOf headState prog stopOf headerOf halt past
+  unfolding answerAt modeState modeOf headState prog stopOf headerOf halt past
   stop-out number e z q =
       let u = add-zero to in
       let v = add-zero heads in
@@ -94,7 +94,7 @@ module _ (c : Cells) (s : List ℕ) (to heads len rest : ℕ) (w : to ≤ length
 
   pub stop-skip : (number : ℕ) {r : Cells} → number ≡ USE-SKIPPED → length s - to < len → len < 2 ^ 62 → r ≡ inMode c IN-SKIPPED (len - (length s - to))
       → Answers c s 1 (fromStop s to heads number len rest) (answer NOTHING (length s) 0 (length s) heads r)
-  unfolding answerAt stateIn modeOf
+  unfolding answerAt modeState modeOf
   stop-skip number e l hi q =
       let d = length-drop to s in
       let f : to + (length s - to) ≡ length s = omega arith in
@@ -116,7 +116,7 @@ module _ (c : Cells) (s : List ℕ) (to heads len rest : ℕ) (w : to ≤ length
 
   pub stop-content : (number : ℕ) (d : Cells) {r : Answer} → number ≡ USE-CONTENT → 0 < len → c .phase ≡ BODY → d ≡ moreSum c len
       → Answers d s 0 (fromPayload d s to heads IN-CONTENT len) r → Answers c s 1 (fromStop s to heads number len rest) r
-  unfolding stateIn modeOf
+  unfolding modeState modeOf
   stop-content number d {r} e lo ph q b =
       let a : Answers (moreSum c len) s 0 (fromPayload (moreSum c len) s to heads IN-CONTENT len) r = rw q at b in
       let p′ = placeOf (c .phase) (c .has) (c .stated) (c .sum + len) in
@@ -156,7 +156,7 @@ module _ (c : Cells) (s : List ℕ) (to heads len rest : ℕ) (w : to ≤ length
   }
 
   pub stop-section : (number : ℕ) {r : Answer} → USE-HEADER-SECTION ≤ number → number < USE-SETTINGS → Answers c s 0 (fromPayload c s to heads (number + SECTION-MODES) len) r → Answers c s 1 (fromStop s to heads number len rest) r
-  unfolding rulingAt stateIn modeOf
+  unfolding rulingAt modeState modeOf
   stop-section zero h l a = absurd (omega arith)
   stop-section (suc zero) h l a = absurd (omega arith)
   stop-section (suc (suc zero)) h l a = handed USE-HEADER-SECTION IN-HEADER-SECTION (section header-section) (λ p. refl) (λ p. refl) (λ z. omega arith) (section-stops header-section) a
@@ -164,7 +164,7 @@ module _ (c : Cells) (s : List ℕ) (to heads len rest : ℕ) (w : to ≤ length
   stop-section (suc (suc (suc (suc k)))) h l a = absurd (omega arith)
 
   pub stop-kept : (number : ℕ) {r : Answer} → USE-SETTINGS ≤ number → number ≤ USE-CANCEL-PUSH → Answers c s 0 (fromPayload c s to heads (number + KEPT-MODES) len) r → Answers c s 1 (fromStop s to heads number len rest) r
-  unfolding rulingAt stateIn modeOf
+  unfolding rulingAt modeState modeOf
   stop-kept zero h l a = absurd (omega arith)
   stop-kept (suc zero) h l a = absurd (omega arith)
   stop-kept (suc (suc zero)) h l a = absurd (omega arith)
