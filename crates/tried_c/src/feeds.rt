@@ -92,7 +92,7 @@ fn is_part(acc: u64, due: u64) -> bool
 fn is_sane(c: Cells) -> bool
     ensures { λ r. ⌜ Tells r (Sane c) ⌝ }
 {
-    if 11 < c.mode {
+    if streams::IN_CANCEL_PUSH < c.mode {
         return false;
     }
     if 0x4000000000000000 <= c.acc {
@@ -107,13 +107,13 @@ fn is_sane(c: Cells) -> bool
     if 0x4000000000000000 < c.stated {
         return false;
     }
-    if c.mode < 2 {
+    if c.mode < streams::IN_SKIPPED {
         return is_part(c.acc, c.due);
     }
-    if c.mode == 6 {
+    if c.mode == streams::HEADER_SECTION_DUE {
         return true;
     }
-    if c.mode == 7 {
+    if c.mode == streams::TRAILERS_DUE {
         return true;
     }
     0 < c.acc
@@ -126,7 +126,7 @@ fn refusal(number: u64, at: Stand) -> Report
 {
     Report {
         number,
-        event: 0,
+        event: rules::NOTHING,
         start: 0,
         len: 0,
         used: 0,
@@ -139,10 +139,10 @@ fn refusal(number: u64, at: Stand) -> Report
 fn reported(a: Answer, at: Stand) -> Report
     ensures { λ r. ⌜ r ≡ reportOf at a ⌝ }
 {
-    if a.event == 4 {
+    if a.event == rules::FAULT {
         Report {
             number: a.len,
-            event: 0,
+            event: rules::NOTHING,
             start: 0,
             len: 0,
             used: a.used,
@@ -170,10 +170,10 @@ pub extern "C" fn eist_feed(at: Stand, piece: &[u8], allow: u64) -> Report
 {
     let c = cells_of(at);
     if is_sane(c) {
-        if at.mode == 6 {
+        if at.mode == streams::HEADER_SECTION_DUE {
             return refusal(4, at);
         }
-        if at.mode == 7 {
+        if at.mode == streams::TRAILERS_DUE {
             return refusal(4, at);
         }
         reported(streams::feed(piece, c, allow), at)
@@ -256,16 +256,16 @@ fn is_sound(w: OneWay) -> bool
     ensures { λ r. ⌜ Tells r (OneSound w) ⌝ }
 {
     let c = w.cells;
-    if w.kind < 2 {
+    if w.kind < record::UNTYPED {
         return false;
     }
-    if w.kind == 2 {
+    if w.kind == record::UNTYPED {
         return is_part(c.acc, c.due);
     }
-    if 3 < w.kind {
+    if record::CONTROL < w.kind {
         return true;
     }
-    if c.phase < 3 {
+    if c.phase < streams::UNSET {
         return false;
     }
     is_sane(c)
@@ -274,10 +274,10 @@ fn is_sound(w: OneWay) -> bool
 fn way_reported(a: OneAnswer, at: Way) -> WayReport
     ensures { λ r. ⌜ r ≡ wayReportOf at a ⌝ }
 {
-    if a.event == 4 {
+    if a.event == rules::FAULT {
         WayReport {
             number: a.len,
-            event: 0,
+            event: rules::NOTHING,
             start: 0,
             len: 0,
             used: a.used,
@@ -315,7 +315,7 @@ pub extern "C" fn eist_feed_way(at: Way, came: Came, piece: &[u8], allow: u64) -
     } else {
         WayReport {
             number: 10,
-            event: 0,
+            event: rules::NOTHING,
             start: 0,
             len: 0,
             used: 0,
