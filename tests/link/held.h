@@ -176,14 +176,16 @@ static int may_answer(const call *c, const eistulko_record *r, uint64_t number) 
     if (k == GIVE && !waits_for_section(r)) return number == 5;
     if (k == GIVE) return number == 0 || number == 6 || number == 0x010b || number == 0x010e || (number == 0x0105 && !c->sound && out_of_place(r));
     if (r->kind == 1) return number == 0 || number == 0x0105 || number == 0x0107 || number == 0x010c || number == 0x010e;
-    return number == 0 || number == 0x0103 || (number >= 0x0105 && number <= 0x010a);
+    return number == 0 || (eistulko_is_connection_fault(number) && number != EISTULKO_CLOSED_CRITICAL_STREAM);
 }
+
+static int is_fault(uint64_t number) { return eistulko_is_connection_fault(number) || eistulko_is_stream_fault(number); }
 
 /* A refusal tells no event and no part, consumed something only where a byte brought a fault, and leaves what its number says. */
 static const char *refusal_broken(const call *c, const answer *a, memory *expected, size_t at) {
     const eistulko_report *r = &a->report;
     HOLD(r->event == 0 && r->start == 0 && r->len == 0 && r->value == 0);
-    if (c->kind == FEED && r->number > 9) HOLD(r->used >= 1 && r->used <= c->count && r->heads <= c->value && 2 * r->heads <= r->used + 1);
+    if (c->kind == FEED && is_fault(r->number)) HOLD(r->used >= 1 && r->used <= c->count && r->heads <= c->value && 2 * r->heads <= r->used + 1);
     else HOLD(r->used == 0 && r->heads == 0);
     if (eistulko_is_connection_fault(r->number)) expected->connection.code = r->number;
     if (eistulko_is_stream_fault(r->number)) expected->row[at] = (eistulko_record){0};
@@ -192,15 +194,16 @@ static const char *refusal_broken(const call *c, const answer *a, memory *expect
 
 /* The part of the piece ends where the feed stopped; an event without one has neither start nor length. */
 static const char *event_broken(const eistulko_report *r, int request, const eistulko_connection *after) {
-    int parted = (r->event >= 1 && r->event <= 3) || r->event == 7;
-    HOLD(request ? r->event <= 3 : r->event == 0 || (r->event >= 7 && r->event <= 10));
+    int parted = r->event == EISTULKO_CONTENT || r->event == EISTULKO_SECTION || r->event == EISTULKO_SECTION_END || r->event == EISTULKO_QPACK;
+    int told = r->event == EISTULKO_QPACK || r->event == EISTULKO_SETTINGS || r->event == EISTULKO_GOAWAY || r->event == EISTULKO_MAX_PUSH_ID;
+    HOLD(r->event == EISTULKO_NOTHING || (request ? parted && r->event != EISTULKO_QPACK : told));
     HOLD(parted ? r->start <= r->used && r->len == r->used - r->start : r->start == 0 && r->len == 0);
-    HOLD(!parted || r->event == 3 || r->len >= 1);
-    HOLD(r->event == 0 || r->used >= 1);
+    HOLD(!parted || r->event == EISTULKO_SECTION_END || r->len >= 1);
+    HOLD(r->event == EISTULKO_NOTHING || r->used >= 1);
     switch (r->event) {
-    case 7: HOLD(r->value == 2 || r->value == 3); break;
-    case 9: HOLD(r->value == after->theirs); break;
-    case 10: HOLD(r->value == after->push); break;
+    case EISTULKO_QPACK: HOLD(r->value == 2 || r->value == 3); break;
+    case EISTULKO_GOAWAY: HOLD(r->value == after->theirs); break;
+    case EISTULKO_MAX_PUSH_ID: HOLD(r->value == after->push); break;
     default: HOLD(r->value == 0);
     }
     return 0;

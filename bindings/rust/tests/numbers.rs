@@ -294,7 +294,8 @@ fn random_calls() {
             if let Err(number) = answer {
                 given.insert(number);
                 let dead = before.code().is_some();
-                assert_eq!(connection == before, dead || number <= Refused::OtherRow, "{seed}: {number}");
+                let fault = number.is_connection_fault() || number.is_stream_fault();
+                assert_eq!(connection == before, dead || !fault, "{seed}: {number}");
                 assert_eq!(
                     connection.code(),
                     number.is_connection_fault().then_some(number),

@@ -15,12 +15,14 @@ use Rattle.meaning.specs.Machine.{Prog, fresh, Fed, going, value, fed, State, i
 use Rattle.meaning.specs.Feed as F
 use Rattle.meaning.specs.OneWayFeed as one
 use Rattle.meaning.specs.OneWayFeed.{OneState, in-stream-type, in-control, in-qpack, in-skipped, OneOutcome, OneEvent, of-frames, qpack-bytes}
+use Rattle.streams.specs.Modes.{modeOf}
 use Rattle.streams.specs.declared.Cells.{Cells}
+use Rattle.record.specs.Kinds.{REQUEST, UNTYPED, CONTROL}
 use Rattle.record.specs.declared.Record.{Record}
 use Rattle.varint.specs.ByByte.{prog, partOf, fresh-good}
 use Rattle.streams.specs.Uses.{placeOf}
 use Rattle.streams.specs.Heads.{headState}
-use Rattle.streams.specs.Answers.{stateAt}
+use Rattle.streams.specs.Answers.{modeState}
 use Rattle.record.specs.Row.{phaseOf, statedIn, isStated, lengthOf, sumIn, numbersOf, placeIn, oneWayRecord}
 use Rattle.record.specs.Tests.{bare-shape, sane-with}
 use Rattle.requests.specs.declared.Reply.{Reply}
@@ -51,7 +53,7 @@ module _ {A : Type 0} (P : A → Type 0) {f g e r : A} where
 -- ---- of a request's
 
 pub data Left (r : Record) (a : Reply) : Type 0 where
-  goes-on : a .number ≡ 0 → a .row .kind ≡ 1 → a .row .id ≡ r .id → Left r a
+  goes-on : a .number ≡ 0 → a .row .kind ≡ REQUEST → a .row .id ≡ r .id → Left r a
   same : a .row ≡ r → Left r a
   freed : Vacant (a .row) → Left r a
 
@@ -137,8 +139,8 @@ module _ (r : Record) (d : Side) (call allow : ℕ) (piece : List ℕ) (s : OneS
 
 -- its record is a one-way stream's, of the same ID
 pub data Standing (id : ℕ) (r : Record) : OneState → Type 0 where
-  controls : {s : State Control} → r .id ≡ id → r .kind ≡ 3 → Standing id r (in-control s)
-  others : {s : OneState} → r .id ≡ id → 2 ≤ r .kind → (r .kind ≡ 3 → ⊥) → Standing id r s
+  controls : {s : State Control} → r .id ≡ id → r .kind ≡ CONTROL → Standing id r (in-control s)
+  others : {s : OneState} → r .id ≡ id → UNTYPED ≤ r .kind → (r .kind ≡ CONTROL → ⊥) → Standing id r s
 
 pub standing : (id : ℕ) (s : OneState) → Standing id (oneWayRecord id s) s
 unfolding oneWayRecord
@@ -202,7 +204,7 @@ module _ (control encoder decoder allow : ℕ) where
   control-once in-skipped piece e = let z : _≡_ {A = ℕ} 0 1 = cc in absurd (omega arith)
 
 -- a record that stands for a control stream is one's
-pub control-kind : (c : Cells) (p : Control) (k : List ℕ) (kind : ℕ) {y : State Control} → oneStateAt kind c p k ≡ in-control y → kind ≡ 3
+pub control-kind : (c : Cells) (p : Control) (k : List ℕ) (kind : ℕ) {y : State Control} → oneStateAt kind c p k ≡ in-control y → kind ≡ CONTROL
 unfolding oneStateAt
 control-kind c p k zero e = let z : _≡_ {A = ℕ} 0 1 = cc in absurd (omega arith)
 control-kind c p k (suc zero) e = let z : _≡_ {A = ℕ} 0 1 = cc in absurd (omega arith)
@@ -214,7 +216,7 @@ control-kind c p k (suc (suc (suc (suc (suc (suc n)))))) e = let z : _≡_ {A = 
 
 -- A ONE-WAY STREAM BEGINS OPEN, with nothing read
 pub begins-heeding : (id : ℕ) → id < 2 ^ 62 → id % 4 ≡ 2 → Heeds (oneWayRecord id (in-stream-type fresh))
-unfolding oneWayRecord numbersOf placeIn partOf phaseOf statedIn isStated lengthOf sumIn stateAt headState prog placeOf
+unfolding oneWayRecord numbersOf placeIn partOf phaseOf statedIn isStated lengthOf sumIn modeState modeOf headState prog placeOf
 begins-heeding id l e = record {
   sound = record {
     fit = record {

@@ -15,6 +15,7 @@ use Rattle.rules.specs.Numbers.{named as answer-named, leaves, REQUEST-REJECTED
 use Rattle.rules.specs.Writer.{Write, refused, wrote}
 use Rattle.meaning.specs.Machine.{State, between, fresh}
 use Rattle.meaning.specs.OneWayFeed.{OneState, in-stream-type, in-control, in-qpack, in-skipped, lives}
+use Rattle.record.specs.Kinds.{FREE, REQUEST, UNTYPED, CONTROL}
 use Rattle.record.specs.declared.Record.{Record}
 use Rattle.record.specs.Row.{requestRecord, oneWayRecord, free-record}
 use Rattle.record.specs.Sound.{cellsIn}
@@ -52,17 +53,17 @@ Known r = Vacant r ⊎ (Open r ⊎ Heeds r)
 
 -- its ID is one of its kind, and was opened
 pub record Spent (c : Connection) (r : Record) : Type 0 where
-  pub request : r .kind ≡ 1 → (r .id % 4 ≡ 0) × (r .id < c .doors .requests)
-  pub one-way : 2 ≤ r .kind → (r .id % 4 ≡ 2) × (r .id < c .doors .oneways)
+  pub request : r .kind ≡ REQUEST → (r .id % 4 ≡ 0) × (r .id < c .doors .requests)
+  pub one-way : UNTYPED ≤ r .kind → (r .id % 4 ≡ 2) × (r .id < c .doors .oneways)
 
 -- every record is known and its ID spent; no two streams have one ID; at most one is a control stream, and none is before one has come
 pub record Paired (c : Connection) (rows : List Record) : Type 0 where
   pub long : length rows ≡ 24
   pub known : (i : ℕ) → Known (at rows i)
   pub spent : (i : ℕ) → Spent c (at rows i)
-  pub distinct : (i j : ℕ) → (at rows i .kind ≡ 0 → ⊥) → (at rows j .kind ≡ 0 → ⊥) → at rows i .id ≡ at rows j .id → i ≡ j
-  pub control : (i : ℕ) → at rows i .kind ≡ 3 → c .side .control ≡ 0 → ⊥
-  pub single : (i j : ℕ) → at rows i .kind ≡ 3 → at rows j .kind ≡ 3 → i ≡ j
+  pub distinct : (i j : ℕ) → (at rows i .kind ≡ FREE → ⊥) → (at rows j .kind ≡ FREE → ⊥) → at rows i .id ≡ at rows j .id → i ≡ j
+  pub control : (i : ℕ) → at rows i .kind ≡ CONTROL → c .side .control ≡ 0 → ⊥
+  pub single : (i j : ℕ) → at rows i .kind ≡ CONTROL → at rows j .kind ≡ CONTROL → i ≡ j
 
 -- ---- another connection: IDs are spent, and what has come stays so
 
@@ -101,9 +102,9 @@ later-code {c} {d} n l = by (keeps (leaves (answer-named n)))
 pub record Fits (c : Connection) (rows : List Record) (k : ℕ) (q : Record) : Type 0 where
   pub known : Known q
   pub spent : Spent c q
-  pub apart : (j : ℕ) → (j ≡ k → ⊥) → (q .kind ≡ 0 → ⊥) → (at rows j .kind ≡ 0 → ⊥) → at rows j .id ≡ q .id → ⊥
-  pub control : q .kind ≡ 3 → c .side .control ≡ 0 → ⊥
-  pub single : (j : ℕ) → (j ≡ k → ⊥) → q .kind ≡ 3 → at rows j .kind ≡ 3 → ⊥
+  pub apart : (j : ℕ) → (j ≡ k → ⊥) → (q .kind ≡ FREE → ⊥) → (at rows j .kind ≡ FREE → ⊥) → at rows j .id ≡ q .id → ⊥
+  pub control : q .kind ≡ CONTROL → c .side .control ≡ 0 → ⊥
+  pub single : (j : ℕ) → (j ≡ k → ⊥) → q .kind ≡ CONTROL → at rows j .kind ≡ CONTROL → ⊥
 
 module _ (rows : List Record) (k : ℕ) (q : Record) where
   data Spot (i : ℕ) : Type 0 where
@@ -136,17 +137,17 @@ module _ (rows : List Record) (k : ℕ) (q : Record) where
       spent (here x l e) = rw e (f .spent)
       spent {i} (elsewhere n e) = rw e (p .spent i)
 
-      distinct : {i j : ℕ} → Spot i → Spot j → (at (set rows k q) i .kind ≡ 0 → ⊥) → (at (set rows k q) j .kind ≡ 0 → ⊥) → at (set rows k q) i .id ≡ at (set rows k q) j .id → i ≡ j
+      distinct : {i j : ℕ} → Spot i → Spot j → (at (set rows k q) i .kind ≡ FREE → ⊥) → (at (set rows k q) j .kind ≡ FREE → ⊥) → at (set rows k q) i .id ≡ at (set rows k q) j .id → i ≡ j
       distinct (here x l e) (here y m g) a b h = x ∙ sym y
       distinct {i} {j} (here x l e) (elsewhere n g) a b h = absurd (f .apart j (λ y. n y l) (rw e at a) (rw g at b) (sym (rw (e, g) at h)))
       distinct {i} {j} (elsewhere n e) (here y l g) a b h = absurd (f .apart i (λ x. n x l) (rw g at b) (rw e at a) (rw (e, g) at h))
       distinct {i} {j} (elsewhere n e) (elsewhere m g) a b h = p .distinct i j (rw e at a) (rw g at b) (rw (e, g) at h)
 
-      control : {i : ℕ} → Spot i → at (set rows k q) i .kind ≡ 3 → c .side .control ≡ 0 → ⊥
+      control : {i : ℕ} → Spot i → at (set rows k q) i .kind ≡ CONTROL → c .side .control ≡ 0 → ⊥
       control (here x l e) a = f .control (rw e at a)
       control {i} (elsewhere n e) a = p .control i (rw e at a)
 
-      single : {i j : ℕ} → Spot i → Spot j → at (set rows k q) i .kind ≡ 3 → at (set rows k q) j .kind ≡ 3 → i ≡ j
+      single : {i j : ℕ} → Spot i → Spot j → at (set rows k q) i .kind ≡ CONTROL → at (set rows k q) j .kind ≡ CONTROL → i ≡ j
       single (here x l e) (here y m g) a b = x ∙ sym y
       single {i} {j} (here x l e) (elsewhere n g) a b = absurd (f .single j (λ y. n y l) (rw e at a) (rw g at b))
       single {i} {j} (elsewhere n e) (here y l g) a b = absurd (f .single i (λ x. n x l) (rw g at b) (rw e at a))
@@ -182,7 +183,7 @@ module _ {c : Connection} {rows : List Record} (p : Paired c rows) (k : ℕ) {d 
 
   -- another state of the stream that has it
   module _ (i : q .id ≡ at rows k .id) where
-    next-request : at rows k .kind ≡ 1 → Open q → Paired d (set rows k q)
+    next-request : at rows k .kind ≡ REQUEST → Open q → Paired d (set rows k q)
     next-request w o = let one = o .kind in
         leave (record {
           known = inr (inl o);
@@ -192,7 +193,7 @@ module _ {c : Connection} {rows : List Record} (p : Paired c rows) (k : ℕ) {d 
           single = λ j n z b. omega arith;
         })
 
-    next-one-way : 2 ≤ at rows k .kind → Heeds q → (q .kind ≡ 3 → (d .side .control ≡ 0 → ⊥) × ((c .side .control ≡ 0) ⊎ (at rows k .kind ≡ 3))) → Paired d (set rows k q)
+    next-one-way : 2 ≤ at rows k .kind → Heeds q → (q .kind ≡ CONTROL → (d .side .control ≡ 0 → ⊥) × ((c .side .control ≡ 0) ⊎ (at rows k .kind ≡ CONTROL))) → Paired d (set rows k q)
     next-one-way w m t = let two = m .kind in
         leave (record {
           known = inr (inr m);
@@ -202,7 +203,7 @@ module _ {c : Connection} {rows : List Record} (p : Paired c rows) (k : ℕ) {d 
           single = λ j n z b. lone j n b (t z .1);
         })
       where
-        lone : (j : ℕ) → (j ≡ k → ⊥) → at rows j .kind ≡ 3 → (c .side .control ≡ 0) ⊎ (at rows k .kind ≡ 3) → ⊥
+        lone : (j : ℕ) → (j ≡ k → ⊥) → at rows j .kind ≡ CONTROL → (c .side .control ≡ 0) ⊎ (at rows k .kind ≡ CONTROL) → ⊥
         lone j n b (inl e) = p .control j b e
         lone j n b (inr e) = n (p .single j k b e)
 
@@ -218,7 +219,7 @@ first-is-one-way id r e = rw e refl
 
 module _ {c : Connection} {rows : List Record} (p : Paired c rows) (id : ℕ) where
   -- the next ID of a kind is no stream's
-  not-taken : ((id % 4 ≡ 0) × (id ≡ c .doors .requests)) ⊎ ((id % 4 ≡ 2) × (id ≡ c .doors .oneways)) → (j : ℕ) → (at rows j .kind ≡ 0 → ⊥) → at rows j .id ≡ id → ⊥
+  not-taken : ((id % 4 ≡ 0) × (id ≡ c .doors .requests)) ⊎ ((id % 4 ≡ 2) × (id ≡ c .doors .oneways)) → (j : ℕ) → (at rows j .kind ≡ FREE → ⊥) → at rows j .id ≡ id → ⊥
   not-taken w j n e = by (ℕ-discrete (at rows j .kind) 1) w
     where
       above : (k : ℕ) → (k ≡ 0 → ⊥) → (k ≡ 1 → ⊥) → 2 ≤ k
@@ -226,7 +227,7 @@ module _ {c : Connection} {rows : List Record} (p : Paired c rows) (id : ℕ) wh
       above (suc zero) a b = absurd (b refl)
       above (suc (suc k)) a b = omega arith
 
-      by : Dec (at rows j .kind ≡ 1) → ((id % 4 ≡ 0) × (id ≡ c .doors .requests)) ⊎ ((id % 4 ≡ 2) × (id ≡ c .doors .oneways)) → ⊥
+      by : Dec (at rows j .kind ≡ REQUEST) → ((id % 4 ≡ 0) × (id ≡ c .doors .requests)) ⊎ ((id % 4 ≡ 2) × (id ≡ c .doors .oneways)) → ⊥
       by (yes o) (inl x) = let s = p .spent j .request o in omega (arith, s .1, x .1)
       by (yes o) (inr x) = let s = p .spent j .request o in omega (arith, ap (λ y. y % 4) e, s .0, x .0)
       by (no m) (inl x) = let s = p .spent j .one-way (above (at rows j .kind) n m) in omega (arith, ap (λ y. y % 4) e, s .0, x .0)
@@ -285,7 +286,7 @@ side-later d in-skipped e = e
 later-side : {c : Connection} (d : Side) → (d .control ≡ 0 → c .side .control ≡ 0) → Later c (withSide c d)
 later-side d h = record { requests = omega arith; oneways = omega arith; control = h }
 
-module _ {c : Connection} {rows : List Record} (p : Paired c rows) (k : ℕ) {r : Record} (was : r ≡ at rows k) (two : 2 ≤ r .kind) (call allow : ℕ) (piece : List ℕ) (a : Heard) where
+module _ {c : Connection} {rows : List Record} (p : Paired c rows) (k : ℕ) {r : Record} (was : r ≡ at rows k) (two : UNTYPED ≤ r .kind) (call allow : ℕ) (piece : List ℕ) (a : Heard) where
   abbrev after : Connection
   after = codeKept (withSide c (a .side)) (a .number)
 
@@ -304,7 +305,7 @@ module _ {c : Connection} {rows : List Record} (p : Paired c rows) (k : ℕ) {r 
       come : after .side .control ≡ 0 → ⊥
       come z = let y = later-code {c = withSide c (a .side)} (a .number) later-same .control z in let m : _≡_ {A = ℕ} 1 0 = sym (ap (λ x. x .control) g) ∙ y in omega arith
 
-      was-one : (c .side .control ≡ 0) ⊎ ((y : State Control) × (stateHere r (sideIn c) ≡ in-control y)) → (c .side .control ≡ 0) ⊎ (at rows k .kind ≡ 3)
+      was-one : (c .side .control ≡ 0) ⊎ ((y : State Control) × (stateHere r (sideIn c) ≡ in-control y)) → (c .side .control ≡ 0) ⊎ (at rows k .kind ≡ CONTROL)
       was-one (inl e) = inl e
       was-one (inr y) = inr (sym (ap (λ x. x .kind) was) ∙ control-kind (cellsIn r) (placeHere r (sideIn c)) (sofarHere r (sideIn c)) (r .kind) (y .1))
 

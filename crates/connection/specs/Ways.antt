@@ -14,6 +14,7 @@ use Rattle.meaning.specs.Machine.{State, finish}
 use Rattle.meaning.specs.Hom.{map-state}
 use Rattle.meaning.specs.OneWayFeed.{OneState}
 use Rattle.varint.specs.ByByte.{partOf}
+use Rattle.record.specs.Kinds.{REQUEST, UNTYPED}
 use Rattle.record.specs.declared.Record.{Record}
 use Rattle.record.specs.Row.{phaseOf, statedIn, isStated, lengthOf, sumIn, numbersOf, placeIn, recordAt, oneWayRecord, no-cells, free-record}
 use Rattle.requests.specs.declared.Reply.{Reply}
@@ -68,15 +69,15 @@ unfolding freeAt
 none-at at l = let x = le-ltb at 24 l in rw (x, freeAt) refl
 
 module _ (id : ℕ) {r : Record} where
-  pub first-request : id % 4 ≡ 0 → r ≡ recordAt 1 id no-cells → r ≡ firstRecord id
+  pub first-request : id % 4 ≡ 0 → r ≡ recordAt REQUEST id no-cells → r ≡ firstRecord id
   unfolding firstAs numbersOf placeIn map-state phaseOf statedIn isStated lengthOf sumIn partOf
   first-request e q = q ∙ rw e refl
 
-  pub first-one-way : (id % 4 ≡ 0 → ⊥) → r ≡ recordAt 2 id no-cells → r ≡ firstRecord id
+  pub first-one-way : (id % 4 ≡ 0 → ⊥) → r ≡ recordAt UNTYPED id no-cells → r ≡ firstRecord id
   unfolding firstAs oneWayRecord numbersOf placeIn phaseOf statedIn isStated lengthOf sumIn partOf
   first-one-way n q = q ∙ by (id % 4) n
     where
-      by : (k : ℕ) → (k ≡ 0 → ⊥) → recordAt 2 id no-cells ≡ firstAs k id
+      by : (k : ℕ) → (k ≡ 0 → ⊥) → recordAt UNTYPED id no-cells ≡ firstAs k id
       by zero z = absurd (z refl)
       by (suc k) z = refl
 
@@ -194,7 +195,7 @@ module _ {c : Connection} {f : Found} {call : ℕ} (id allow : ℕ) {piece : Lis
   past-row l q = not-open live n (λ w x. absurd (omega arith)) q
 
   module _ (w : f .at < 24) where
-    pub on-request : {a : Reply} → f .row .kind ≡ 1 → Asks (f .row) call allow piece a → t ≡ replied c a → Turned c f call id allow piece t
+    pub on-request : {a : Reply} → f .row .kind ≡ REQUEST → Asks (f .row) call allow piece a → t ≡ replied c a → Turned c f call id allow piece t
     on-request {a} k m q = by (m .answers)
       where
         none : (Open (f .row) → ⊥) → f .at < 24 → Open (f .row) ⊎ Heeds (f .row) → ⊥
@@ -205,7 +206,7 @@ module _ {c : Connection} {f : Found} {call : ℕ} (id allow : ℕ) {piece : Lis
         by (shut s e) = not-open live n (none s) (q ∙ ap (replied c) e ∙ ap (λ x. turn x (f .row) (numbered 1)) (sym (kept-small c 1 (omega arith))))
         by (opened o e) = request live n w o (q ∙ ap (replied c) e) (rw q (m .stays))
 
-    pub on-one-way : {d : Side} {a : Heard} → (f .row .kind ≡ 1 → ⊥) → d ≡ sideIn c → Hears (f .row) d call allow piece a → t ≡ overheard c a → Turned c f call id allow piece t
+    pub on-one-way : {d : Side} {a : Heard} → (f .row .kind ≡ REQUEST → ⊥) → d ≡ sideIn c → Hears (f .row) d call allow piece a → t ≡ overheard c a → Turned c f call id allow piece t
     on-one-way {d} {a} k e h q = by (rw e at h)
       where
         none : (Heeds (f .row) → ⊥) → f .at < 24 → Open (f .row) ⊎ Heeds (f .row) → ⊥

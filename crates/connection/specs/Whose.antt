@@ -6,6 +6,7 @@ use native.Mathlib.Omega.{arith}
 use mathlib.Core.List.{List}
 use mathlib.Core.Bool.{Bool}
 use lib.ListN.{length, getD}
+use Rattle.record.specs.Kinds.{FREE}
 use Rattle.record.specs.declared.Record.{Record}
 use Rattle.record.specs.Row.{free-record}
 use Rattle.record.specs.Sound.{Decides}
@@ -18,7 +19,7 @@ Vacant r = r ≡ free-record
 
 -- WHOSE RECORD IT IS: an open stream's, and its ID is this one
 pub record Belongs (id : ℕ) (r : Record) : Type 0 where
-  pub taken : r .kind ≡ 0 → ⊥
+  pub taken : r .kind ≡ FREE → ⊥
   pub own : r .id ≡ id
 
 -- THE RECORD THAT IS WANTED: of an opening (call 0) one that may be taken, of any other call the stream's own
@@ -72,10 +73,10 @@ module _ (id : ℕ) (r : Record) where
   wanted-belongs (suc call) n w = w
 
   module _ (call : ℕ) (n : call ≡ 0 → ⊥) where
-    pub wanted-own : (r .kind ≡ 0 → ⊥) → r .id ≡ id → Decides (Wanted call id r) Bool.true
+    pub wanted-own : (r .kind ≡ FREE → ⊥) → r .id ≡ id → Decides (Wanted call id r) Bool.true
     wanted-own k e = accepts (belongs-wanted call n (record { taken = k; own = e }))
 
-    pub wanted-free : r .kind ≡ 0 → Decides (Wanted call id r) Bool.false
+    pub wanted-free : r .kind ≡ FREE → Decides (Wanted call id r) Bool.false
     wanted-free k = refuses (λ w. wanted-belongs call n w .taken k)
 
     pub wanted-other : (r .id ≡ id → ⊥) → Decides (Wanted call id r) Bool.false

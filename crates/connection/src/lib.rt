@@ -157,7 +157,11 @@ pub fn wanted(call: u64, id: u64, r: Record) -> bool
     if r.id != id {
         return false;
     }
-    if r.kind == 0 { false } else { true }
+    if r.kind == record::FREE_KIND {
+        false
+    } else {
+        true
+    }
 }
 
 // ---- an opening
@@ -300,7 +304,7 @@ pub fn answer(d: Doors, f: Found, call: u64, id: u64, allow: u64, piece: &[u8]) 
     ensures { λ r. ⌜ Nearly d f call id allow (now (piece .entry)) r ⌝ }
 {
     if f.len != 24 {
-        return refused(rules::NOT_24, d, f);
+        return refused(rules::OTHER_ROW, d, f);
     }
     if d.code != 0 {
         return refused(d.code, d, f);
@@ -313,7 +317,7 @@ pub fn answer(d: Doors, f: Found, call: u64, id: u64, allow: u64, piece: &[u8]) 
     }
     let row = f.row;
     // 1 to a record that is not an open stream's, here and aside.
-    if row.kind == 1 {
+    if row.kind == record::REQUEST_KIND {
         return reply_turn(d, ask(row, call, allow, piece));
     }
     Near {
@@ -360,7 +364,7 @@ pub fn brisk(code: u64, f: Found, allow: u64, piece: &[u8]) -> Brief
     if f.len == 24 {
         if code == 0 {
             if f.at < 24 {
-                if row.kind == 1 {
+                if row.kind == record::REQUEST_KIND {
                     let a = requests::brisk(row, piece, allow);
                     let q = a.row;
                     return Brief {
@@ -398,7 +402,7 @@ pub fn begin(c: Connection, len: usize) -> Begun
         }
     } else {
         Begun {
-            number: rules::NOT_24,
+            number: rules::OTHER_ROW,
             conn: c,
         }
     }

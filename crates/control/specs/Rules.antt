@@ -10,7 +10,8 @@ use Rattle.rules.specs.Integers.{integer}
 use Rattle.rules.specs.Reading.{Kept as Payload, settings, goaway, max-push-id, cancel-push, Next, stop, go}
 use Rattle.rules.specs.Control.{Settings, settings-of, Control, unset, set, only, above, below, after-goaway, after-max-push, after-integer, after-settings, judged, Told, told-settings, told-goaway, told-max-push-id, told-nothing, settings-in, id-in, tells}
 use Rattle.wire.specs.declared.ids.PushId.{PushId}
-use Rattle.streams.specs.Answers.{keptAt}
+use Rattle.streams.specs.Modes.{modeOf}
+use Rattle.streams.specs.Answers.{modeKept, keptAt}
 use Rattle.meaning.specs.NumberLaws.{numbered}
 use Rattle.control.specs.declared.Kept.{Kept}
 use Rattle.control.specs.declared.Verdict.{Verdict}
@@ -101,7 +102,7 @@ module _ (k : Kept) (id : ℕ) where
   cancel-say told = refl
 
   id-say : (which : ℕ) → Says k (id-told (keptAt which)) (idOf which k (push-id id)) (after-integer (keptAt which) (limitsIs k) (goaway-kept k) (max-push-kept k) (some id))
-  unfolding id-told keptAt idOf
+  unfolding id-told modeKept modeOf idOf
   id-say zero = cancel-say told-nothing
   id-say (suc zero) = cancel-say told-nothing
   id-say (suc (suc zero)) = cancel-say told-nothing

@@ -98,7 +98,7 @@ fn with_goaway(kept: Kept, id: PushId) -> Verdict
     let push = kept.push;
     Verdict {
         number: 0,
-        event: rules::CLIENT_GOAWAY,
+        event: rules::GOAWAY,
         id,
         kept: Kept {
             set: 1,

@@ -5,7 +5,7 @@ use native.Mathlib.Omega.{arith}
 use mathlib.Core.List.{List}
 use mathlib.Core.Bool.{true, false}
 use Rattle.rules.specs.Numbers as numbers
-use Rattle.rules.specs.Numbers.{House, houseNumber, not-open, section-due, none-due, StreamFault, request-rejected, request-cancelled, request-incomplete, message-error, ConnectionFault, Code, of-stream, of-connection, codeNumber, frame-error}
+use Rattle.rules.specs.Numbers.{House, houseNumber, not-open, section-due, no-section, StreamFault, request-rejected, request-cancelled, request-incomplete, message-error, ConnectionFault, Code, of-stream, of-connection, codeNumber, frame-error}
 use Rattle.rules.specs.Block.{Lines, readable, unreadable, lines}
 use Rattle.rules.specs.Reading.{Part, Verdict, whole, fault, waits, ended}
 use Rattle.rules.specs.Message as message
@@ -52,11 +52,11 @@ house-low numbers.not-open = omega arith
 house-low numbers.not-next = omega arith
 house-low numbers.no-record = omega arith
 house-low numbers.section-due = omega arith
-house-low numbers.none-due = omega arith
+house-low numbers.no-section = omega arith
 house-low numbers.unreadable = omega arith
-house-low numbers.short-room = omega arith
+house-low numbers.room-short = omega arith
 house-low numbers.bad-value = omega arith
-house-low numbers.not-24 = omega arith
+house-low numbers.other-row = omega arith
 
 module _ (c : Connection) (q : Record) (p : Report) where
   pub code-none : (n : ℕ) → n ≡ 0 → turn (codeKept c n) q p ≡ turn c q p
@@ -161,6 +161,6 @@ module _ (c : Connection) (rows : List Record) (at : ℕ) (r : Record) where
       let f = F.feed (request document) allow s piece in
       by-each (λ (a : Reply) (x : Own streams). Comes c rows at (r .id) r (replied c a) (actOn (connOf c .kept) (asking s) x)) call
       (λ z. due-comes s (refuse section-due) (ofFed (fedBy (f .used) (f .heads) (f .event) (f .after))) (λ t m e. house-comes section-due) (said-comes (f .used) (f .heads) (f .event) (f .after) (λ x e. plain-feed document allow s (open-plain r o) piece .plain x e)))
-      (due-comes s (either (isReadable (lines piece)) (ofGiven (givenBy (M.given (request document) (sectionOf (lines piece)) s))) (refuse numbers.unreadable)) (refuse none-due) (λ t m e. read-comes s (λ b. subst (λ x. Given (M.given (request document) b x)) (sym e) (given-suits t m (subst RequestSuits e fits) b)) (lines piece)) (house-comes none-due))
+      (due-comes s (either (isReadable (lines piece)) (ofGiven (givenBy (M.given (request document) (sectionOf (lines piece)) s))) (refuse numbers.unreadable)) (refuse no-section) (λ t m e. read-comes s (λ b. subst (λ x. Given (M.given (request document) b x)) (sym e) (given-suits t m (subst RequestSuits e fits) b)) (lines piece)) (house-comes no-section))
       (end-comes s)
       (leaves (code-none c free-record (told 0 12 0 0 0 0 0) 0 refl))

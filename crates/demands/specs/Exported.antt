@@ -13,7 +13,7 @@ use Rattle.rules.specs.Frames.{frame, framesFrom}
 use Rattle.meaning.specs.FrameLaws.{head}
 use Rattle.meaning.specs.IntegerLaws.{Bytes}
 use Rattle.meaning.specs.WriterLaws.{FrameBack}
-use Rattle.rules.specs.Numbers.{Code, of-stream, codeNumber}
+use Rattle.rules.specs.Numbers.{OTHER-ROW, Code, of-stream, codeNumber}
 use Rattle.traces.specs.Stream.{feed, section, end}
 use Rattle.traces.specs.Board.{request, one-way, kindOf, find, open′, on, goaway, Answer, call, run, fresh, trace}
 use Rattle.traces.specs.View.{View, running, ended, refused}
@@ -159,10 +159,10 @@ everywhere k bytes sections h ks xs c rows s id q more others e f =
 
 -- a feed that is answered with a code
 abbrev pub FeedsAlike : FeedSays
-FeedsAlike c rows id piece allow r c′ rows′ = (ks : Calls) (xs : List Seen) → Run ks xs c rows → kindOf id ≡ some request → shows id ks .fate ≡ running → 9 < r .number
+FeedsAlike c rows id piece allow r c′ rows′ = (ks : Calls) (xs : List Seen) → Run ks xs c rows → kindOf id ≡ some request → shows id ks .fate ≡ running → OTHER-ROW < r .number
     → let s = shows id ks .shown in Everywhere (r .number) (s .bytes ++ take (r .used) piece) (s .sections)
 
-fed-alike : (v : View streams) (piece : List ℕ) (allow : ℕ) (r : Report) (a : Answer) → r ≡ reportOf a → Moves reading (v .shown) allow piece a → 9 < r .number
+fed-alike : (v : View streams) (piece : List ℕ) (allow : ℕ) (r : Report) (a : Answer) → r ≡ reportOf a → Moves reading (v .shown) allow piece a → OTHER-ROW < r .number
     → Everywhere (r .number) (v .shown .bytes ++ take (r .used) piece) (v .shown .sections)
 unfolding reportOf numberOf
 fed-alike v piece allow r a q (awaits x) l = let z : r .number ≡ 4 = ap (λ y. y .number) q in absurd (omega arith)
@@ -174,10 +174,10 @@ demand-2-cutting w = of-feed w FeedsAlike (λ c rows id piece allow r c′ rows�
 
 -- and a section
 abbrev pub GivesAlike : GiveSays
-GivesAlike c rows id block r c′ rows′ = (ks : Calls) (xs : List Seen) → Run ks xs c rows → kindOf id ≡ some request → shows id ks .fate ≡ running → 9 < r .number
+GivesAlike c rows id block r c′ rows′ = (ks : Calls) (xs : List Seen) → Run ks xs c rows → kindOf id ≡ some request → shows id ks .fate ≡ running → OTHER-ROW < r .number
     → let s = shows id ks .shown in Everywhere (r .number) (s .bytes) (s .sections ++ (block ∷ []))
 
-given-alike : (v : View streams) (block : List ℕ) (r : Report) (a : Answer) → r ≡ reportOf a → Takes reading (v .shown) block a → 9 < r .number
+given-alike : (v : View streams) (block : List ℕ) (r : Report) (a : Answer) → r ≡ reportOf a → Takes reading (v .shown) block a → OTHER-ROW < r .number
     → Everywhere (r .number) (v .shown .bytes) (v .shown .sections ++ (block ∷ []))
 unfolding reportOf
 given-alike v block r a q (not-due x) l = let z : r .number ≡ 5 = ap (λ y. y .number) q in absurd (omega arith)

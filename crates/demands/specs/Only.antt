@@ -8,7 +8,7 @@ use mathlib.Core.List.{List}
 use mathlib.Core.Bool.{Bool, true, false}
 use mathlib.Core.Option.{Option, none, some, Option·none-ne-some}
 use mathlib.Core.Logic.{_↔_}
-use Rattle.rules.specs.Numbers.{House, not-open, section-due, none-due, unreadable, ConnectionFault, of-stream, of-connection}
+use Rattle.rules.specs.Numbers.{House, not-open, section-due, no-section, unreadable, ConnectionFault, of-stream, of-connection}
 use Rattle.rules.specs.Frames.{framesFrom}
 use Rattle.rules.specs.Request.{document}
 use Rattle.rules.specs.Legal.{Legal}
@@ -45,11 +45,11 @@ NotShut (house House.not-open) = ⊥
 NotShut (house House.not-next) = Unit {0}
 NotShut (house House.no-record) = Unit {0}
 NotShut (house House.section-due) = Unit {0}
-NotShut (house House.none-due) = Unit {0}
+NotShut (house House.no-section) = Unit {0}
 NotShut (house House.unreadable) = Unit {0}
-NotShut (house House.short-room) = Unit {0}
+NotShut (house House.room-short) = Unit {0}
 NotShut (house House.bad-value) = Unit {0}
-NotShut (house House.not-24) = Unit {0}
+NotShut (house House.other-row) = Unit {0}
 NotShut (code k u h) = Unit {0}
 
 not-whole : (a : Answer) → NotWhole a → a ≡ left whole → ⊥
@@ -131,7 +131,7 @@ module _ {M : Machine} where
     due-feed r false x = of-fed id p _ x
 
     due-section : (r : M .Request) (d c : Bool) (x : Given (M .Request))
-        → Comes id p (λ y. record { stream = asking y; kept = kept }) Other (either d (either c (ofGiven x) (refuse unreadable)) (refuse none-due))
+        → Comes id p (λ y. record { stream = asking y; kept = kept }) Other (either d (either c (ofGiven x) (refuse unreadable)) (refuse no-section))
     unfolding either
     due-section r true true x = of-given id p _ x
     due-section r true false x = unfold settle mapOut same in (tt, tt)

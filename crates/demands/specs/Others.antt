@@ -8,7 +8,7 @@ use native.Mathlib.Omega.{arith}
 use mathlib.Core.List.{List, [], _∷_, _++_}
 use mathlib.Core.Bool.{Bool, true, false, true≢false}
 use mathlib.Core.Option.{Option, none, some, Option·none-ne-some, Option·some-injective}
-use Rattle.rules.specs.Numbers.{not-open, not-next, no-record, section-due, none-due, unreadable, short-room, bad-value, request-rejected, ConnectionFault, of-stream, of-connection, Code}
+use Rattle.rules.specs.Numbers.{not-open, not-next, no-record, section-due, no-section, unreadable, room-short, bad-value, request-rejected, ConnectionFault, of-stream, of-connection, Code}
 use Rattle.rules.specs.Block.{lines}
 use Rattle.rules.specs.OneWay.{oneWay}
 use Rattle.traces.specs.Stream.{Fed, goes, faults, Given, sound, unsound, done, freed, Own, feed, section, end, reset, Out, refuse, ofFed, ofGiven, mapOut, Machine, act, either, ofClosed, act₁}
@@ -168,7 +168,7 @@ pub record MaySend (l : Ledger) (id : ℕ) : Type 0 where
 pub data Sends (l : Ledger) (id room : ℕ) : Answer → Type 0 where
   is-dead : {k : ConnectionFault} → l .dead ≡ some k → Sends l id room (code (of-connection k) 0 0)
   wrong-id : l .dead ≡ none → (MaySend l id → ⊥) → Sends l id room (house bad-value)
-  too-long : l .dead ≡ none → MaySend l id → room < goawaySize id → Sends l id room (house short-room)
+  too-long : l .dead ≡ none → MaySend l id → room < goawaySize id → Sends l id room (house room-short)
   is-sent : l .dead ≡ none → MaySend l id → goawaySize id ≤ room → Sends l id room (gave done)
 
 not-higher : (o : Option ℕ) (id : ℕ) → higher o id ≡ false → (m : ℕ) → o ≡ some m → id ≤ m
@@ -203,7 +203,7 @@ may-send l id = may l id (ℕ-discrete (id % 4) 0) (decLt id (2 ^ 62)) (higher (
 
 module _ {M : Machine} (p : Pair M) (l : Ledger) (t : Tallies p l) (id room : ℕ) where
   sends : l .dead ≡ none → (g : Bool) → goodGoaway (l .limit) id ≡ g → (s : Dec (goawaySize id ≤ room))
-      → Sends l id room (either g (pick s (with (gave done) (limited id (p .conn)) (p .row)) (same (house short-room) p)) (same (house bad-value) p) .answer)
+      → Sends l id room (either g (pick s (with (gave done) (limited id (p .conn)) (p .row)) (same (house room-short) p)) (same (house bad-value) p) .answer)
   unfolding either pick same with
   sends d true g (yes s) = is-sent d (may-send l id .0 g) s
   sends d true g (no s) = too-long d (may-send l id .0 g) (omega arith)
@@ -263,7 +263,7 @@ pub data Answers (l : Ledger) (v : View streams) : Own streams → Answer → Ty
   is-shut : {o : Own streams} → l .dead ≡ none → (v .fate ≡ running → ⊥) → Answers l v o (house not-open)
   feed-waits : {allow : ℕ} {piece : List ℕ} → Runs l v → verdictIn v ≡ waits → Answers l v (feed allow piece) (house section-due)
   feed-reads : {allow : ℕ} {piece : List ℕ} {a : Answer} → Runs l v → (verdictIn v ≡ waits → ⊥) → NotHouse a → Answers l v (feed allow piece) a
-  section-undue : {b : List ℕ} → Runs l v → (verdictIn v ≡ waits → ⊥) → Answers l v (section b) (house none-due)
+  section-undue : {b : List ℕ} → Runs l v → (verdictIn v ≡ waits → ⊥) → Answers l v (section b) (house no-section)
   section-unread : {b : List ℕ} → Runs l v → verdictIn v ≡ waits → isReadable (lines b) ≡ false → Answers l v (section b) (house unreadable)
   section-read : {b : List ℕ} {a : Answer} → Runs l v → verdictIn v ≡ waits → isReadable (lines b) ≡ true → NotHouse a → Answers l v (section b) a
   end-judged : Runs l v → Answers l v end (endAnswer (verdictIn v))
@@ -294,7 +294,7 @@ module _ (l : Ledger) (d : l .dead ≡ none) (id : ℕ) (p : Pair streams) where
     at-feed allow piece false e (faults (of-connection k) u h) = feed-reads here (no-wait e) tt
 
     at-section : (b : List ℕ) (x : Bool) → streams .due r ≡ x → (y : Bool) → isReadable (lines b) ≡ y → (g : Given (streams .Request))
-        → Then (section b) (either x (either y (ofGiven g) (refuse unreadable)) (refuse none-due))
+        → Then (section b) (either x (either y (ofGiven g) (refuse unreadable)) (refuse no-section))
     unfolding settle mapOut either ofGiven same with faulted
     at-section b true e true y (sound z) = section-read here (reads .while-due t e) y tt
     at-section b true e true y (unsound k) = section-read here (reads .while-due t e) y tt
@@ -334,7 +334,7 @@ pub data Answers₁ (l : Ledger) (v : View streams) : Own streams → Answer →
   is-dead : {o : Own streams} {k : ConnectionFault} → l .dead ≡ some k → Answers₁ l v o (code (of-connection k) 0 0)
   is-shut : {o : Own streams} → l .dead ≡ none → (v .fate ≡ running → ⊥) → Answers₁ l v o (house not-open)
   feed-reads : {allow : ℕ} {piece : List ℕ} {a : Answer} → Runs l v → NotHouse a → Answers₁ l v (feed allow piece) a
-  section-undue : {b : List ℕ} → Runs l v → Answers₁ l v (section b) (house none-due)
+  section-undue : {b : List ℕ} → Runs l v → Answers₁ l v (section b) (house no-section)
   end-judged : Runs l v → Answers₁ l v end (closeAnswer (faultBy (oneWay [] (v .shown .bytes))))
   reset-judged : Runs l v → Answers₁ l v reset (closeAnswer (faultBy (oneWay [] (v .shown .bytes))))
 

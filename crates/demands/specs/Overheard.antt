@@ -8,7 +8,7 @@ use mathlib.Core.Bool.{Bool, true, false}
 use mathlib.Core.Logic.{_⊎_, inl, inr}
 use mathlib.Core.Option.{Option, none, some}
 use lib.ListN.{getD}
-use Rattle.rules.specs.Numbers.{houseNumber, none-due, ConnectionFault, closed-critical-stream, of-connection, codeNumber, Code, of-stream, id-error}
+use Rattle.rules.specs.Numbers.{houseNumber, no-section, ConnectionFault, closed-critical-stream, of-connection, codeNumber, Code, of-stream, id-error}
 use Rattle.rules.specs.Integers.{integer}
 use Rattle.rules.specs.Reading.{Kept as Payload, settings, goaway, max-push-id, cancel-push, kept, Next, stop, go}
 use Rattle.rules.specs.Control.{Settings, settings-of, Control, unset, set, control, only, above, below, after-goaway, after-max-push, after-integer, after-settings, judged, told-goaway, told-max-push-id, settings-in, id-in, tells}
@@ -339,6 +339,6 @@ module _ (c : Connection) (rows : List Record) (p : Paired c rows) (at : ℕ) (r
   one-way-comes fits call stays =
       by-each (λ (a : Heard) (x : Own streams.streams). Comes c rows at (r .id) r (overheard c a) (actOn (connOf c .kept) (telling state) x)) call
       (λ z. fed-comes fits (rw z at stays))
-      (unfold mapOut in refuses (code-house c r (told 5 0 0 0 0 0 0) none-due))
+      (unfold mapOut in refuses (code-house c r (told 5 0 0 0 0 0 0) no-section))
       (close-comes state)
       (close-comes state)

@@ -117,11 +117,11 @@ house-leaves p c table.not-open = as-it-was
 house-leaves p c table.not-next = as-it-was
 house-leaves p c table.no-record = id-unspent
 house-leaves p c table.section-due = as-it-was
-house-leaves p c table.none-due = as-it-was
+house-leaves p c table.no-section = as-it-was
 house-leaves p c table.unreadable = as-it-was
-house-leaves p c table.short-room = untouched
+house-leaves p c table.room-short = untouched
 house-leaves p c table.bad-value = as-it-was
-house-leaves p c table.not-24 = as-it-was
+house-leaves p c table.other-row = as-it-was
 
 module _ {p p′ : Pair streams} {c : Call streams} {a : Answer} (l : table.Leaves) where
   one-word : (x : table.Leaves) → some x ≡ some l → LeavesBy p x c a p′ → LeavesBy p l c a p′

@@ -10,7 +10,7 @@ use mathlib.Core.Option.{Option, none, some}
 use lib.ListN.{length, set}
 use lib.Seq.{set-getD}
 use Rattle.rules.specs.Numbers as numbers
-use Rattle.rules.specs.Numbers.{section-due, none-due, not-24, houseNumber, ConnectionFault, Code, of-connection, codeNumber}
+use Rattle.rules.specs.Numbers.{section-due, no-section, other-row as row-refused, houseNumber, ConnectionFault, Code, of-connection, codeNumber}
 use Rattle.rules.specs.Block.{Lines, readable, unreadable, lines}
 use Rattle.rules.specs.Integers.{integer}
 use Rattle.rules.specs.Reading as reading
@@ -172,7 +172,7 @@ module _ {c : Connection} {rows : List Record} {n id allow : ℕ} {piece : List 
 -- ---- a row of another length: 9, before all else, and nothing altered
 
 module _ {c : Connection} {rows : List Record} {n id allow : ℕ} {piece : List ℕ} {c′ : Connection} {rows′ : List Record} {r : Report} (other : ¬ (length rows ≡ 24)) (m : Stepped c rows n id allow piece c′ rows′ r) where
-  pub nine : (c′ ≡ c) × (rows′ ≡ rows) × (r ≡ reportOf (house not-24))
+  pub nine : (c′ ≡ c) × (rows′ ≡ rows) × (r ≡ reportOf (house row-refused))
   unfolding reportOf
   nine = let q = by (m .turned) in let u = stored m (unaltered-so 9 q) in (u .0, u .1, m .answered ∙ ap (λ t. t .report) q)
     where
@@ -189,7 +189,7 @@ module _ {c : Connection} {rows : List Record} {n id allow : ℕ} {piece : List 
 
 -- and so a start
 module _ {c : Connection} {rows : List Record} {c′ : Connection} {rows′ : List Record} {n : ℕ} (other : ¬ (length rows ≡ 24)) (m : Started c rows c′ rows′ n) where
-  pub start-nine : (c′ ≡ c) × (rows′ ≡ rows) × (n ≡ reportOf (house not-24) .number)
+  pub start-nine : (c′ ≡ c) × (rows′ ≡ rows) × (n ≡ reportOf (house row-refused) .number)
   unfolding reportOf
   start-nine = let q = sym (begun-other c (length rows) other) in (m .conn-left ∙ ap (λ b. b .conn) q, m .rows-left ∙ swept rows, m .answered ∙ ap (λ b. b .number) q)
     where
@@ -513,7 +513,7 @@ module _ (k : Keeps) where
   unfolding actOn act mapOut
   ask-says s (feed allow piece) = let g = F.feed (asked.request document) allow s piece in either-says (isDue s) (refuse section-due) (ofFed (fedBy (g .used) (g .heads) (g .event) (g .after))) tt (fed-says (g .used) (g .heads) (g .event) (g .after))
   ask-says s (section b) = let o = M.given (asked.request document) (sectionOf (lines b)) s in
-      either-says (isDue s) (either (isReadable (lines b)) (ofGiven (givenBy o)) (refuse numbers.unreadable)) (refuse none-due) (either-says (isReadable (lines b)) (ofGiven (givenBy o)) (refuse numbers.unreadable) (given-says o) tt) tt
+      either-says (isDue s) (either (isReadable (lines b)) (ofGiven (givenBy o)) (refuse numbers.unreadable)) (refuse no-section) (either-says (isReadable (lines b)) (ofGiven (givenBy o)) (refuse numbers.unreadable) (given-says o) tt) tt
   ask-says s end = either-says (isDue s) (refuse section-due) (ofEnded (endedBy (M.finish (asked.request document) 0 s))) tt (ended-says (M.finish (asked.request document) 0 s))
   ask-says s reset = tt
 

@@ -10,7 +10,7 @@ use mathlib.Core.Option.{Option, none, some}
 use lib.Dec.{ltb}
 use lib.ListN.{length, length-append}
 use borrow.Author.Tests.{eq-eqb, ne-eqb, lt-ltb, le-ltb, le-leb, lt-leb}
-use Rattle.rules.specs.Numbers.{houseNumber, short-room, bad-value, ConnectionFault, of-connection, codeNumber, coded}
+use Rattle.rules.specs.Numbers.{houseNumber, room-short, bad-value, ConnectionFault, of-connection, codeNumber, coded}
 use Rattle.rules.specs.Integers.{row, rows, inRow, inFirst, written, largest}
 use Rattle.rules.specs.Writer.{Write, refused, wrote, into, both, header-bytes, integer-frame, write-integer-frame, isHigher, badGoaway, write-goaway}
 use Rattle.meaning.specs.IntegerLaws.{length-row}
@@ -144,7 +144,7 @@ module _ (c : Connection) (rows : List Record) (id room : ℕ) where
   unfolding sendingOf same writtenOf
   bad-so = record { after = refl; answer = refl }
 
-  short-so : Writes (refused 7) (same (house short-room) p)
+  short-so : Writes (refused 7) (same (house room-short) p)
   unfolding sendingOf same writtenOf
   short-so = record { after = refl; answer = refl }
 
@@ -156,7 +156,7 @@ module _ (c : Connection) (rows : List Record) (id room : ℕ) where
   unfolding sendingOf same writtenOf
   dead-so k = record { after = refl; answer = refl }
 
-  room-so : {o : Option (List ℕ)} → Long o (goawaySize id) → (d : Dec (goawaySize id ≤ room)) → Writes (into room o) (pick d (with (gave done) (limited id (connOf c)) (rowOf (sideIn c) rows)) (same (house short-room) p))
+  room-so : {o : Option (List ℕ)} → Long o (goawaySize id) → (d : Dec (goawaySize id ≤ room)) → Writes (into room o) (pick d (with (gave done) (limited id (connOf c)) (rowOf (sideIn c) rows)) (same (house room-short) p))
   unfolding into pick
   room-so w (yes h) = let i = w .is in let l = w .long in let x = le-ltb room (length (w .bytes)) (omega arith) in rw (i, into) (rw x (wrote-so (w .bytes) l))
   room-so w (no h) = let i = w .is in let l = w .long in let x = lt-ltb room (length (w .bytes)) (omega arith) in rw (i, into) (rw x short-so)

@@ -7,7 +7,7 @@ use mathlib.Core.List.{List, [], _∷_}
 use mathlib.Core.Bool.{Bool, true, false, true≢false}
 use mathlib.Core.Option.{Option, none, some}
 use lib.ListN.{length, drop}
-use Rattle.rules.specs.Numbers.{House, none-due, unreadable, section-due, ConnectionFault, Code, of-stream, of-connection}
+use Rattle.rules.specs.Numbers.{House, no-section, unreadable, section-due, ConnectionFault, Code, of-stream, of-connection}
 use Rattle.rules.specs.Block.{lines, linesFrom}
 use Rattle.rules.specs.Reading.{Next, stop, go}
 use Rattle.rules.specs.Message.{Message}
@@ -96,7 +96,7 @@ module _ (M : Machine) where
     Ready (fault k u h) = Unit {0}
 
     given-ready : (r : M .Request) (block : M .Block) (d : Bool) → M .due r ≡ d → (c : Bool) → c ≡ true → (x : Given (M .Request)) → M .give r block ≡ x
-        → Ready (either d (either d (either c (ofGiven x) (refuse unreadable)) (refuse none-due)) (step done r))
+        → Ready (either d (either d (either c (ofGiven x) (refuse unreadable)) (refuse no-section)) (step done r))
     unfolding either ofGiven
     given-ready r block true e true y (sound r′) q = goes-on r r′ block q e
     given-ready r block true e true y (unsound k) q = tt
@@ -309,7 +309,7 @@ pub data NotDue (M : Machine) : Stream M → Type 0 where
 module _ (M : Machine) (gets-on : (r r′ : M .Request) (allow u h b : ℕ) (bs : List ℕ) (e : Event) → M .due r ≡ false → 1 ≤ allow → M .feed r allow (b ∷ bs) ≡ goes u h e r′ → 1 ≤ u)
     (goes-on : (r r′ : M .Request) (block : M .Block) → M .give r block ≡ sound r′ → M .due r ≡ true → M .due r′ ≡ false) where
   block-out : (k : M .Kept) (r : M .Request) (block : M .Block) (d : Bool) → M .due r ≡ d → (c : Bool) → c ≡ true → (x : Given (M .Request)) → M .give r block ≡ x
-      → BlockOut M (NotDue M) (asking r) (mapOut (λ x. record { stream = asking x; kept = k }) (either d (either c (ofGiven x) (refuse unreadable)) (refuse none-due)))
+      → BlockOut M (NotDue M) (asking r) (mapOut (λ x. record { stream = asking x; kept = k }) (either d (either c (ofGiven x) (refuse unreadable)) (refuse no-section)))
   unfolding mapOut either ofGiven
   block-out k r block true e true t (sound r′) q = not-due r′ (goes-on r r′ block q e)
   block-out k r block true e true t (unsound c) q = tt

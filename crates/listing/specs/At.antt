@@ -19,6 +19,7 @@ use Rattle.listing.specs.Lines.{place, messageOf, ruledLine, endOf, endL
 use Rattle.listing.specs.declared.Place.{Place}
 use Rattle.listing.specs.declared.Line.{Line}
 use Rattle.listing.specs.declared.Line.the-variants.{Heading, Whole, Refused, TooLong}
+use Rattle.streams.specs.Modes.{OPENING, TRAILED}
 
 -- ---- the first of the frames from an offset on
 
@@ -56,11 +57,11 @@ module _ (s : List ℕ) (p : Place) where
   line-too-long h = let e = lt-ltb 65_536 (length s) h in rw (e, lineAt)
 
   module _ (short : length s ≤ 65_536) where
-    pub line-heading : 2 < p .phase → Heading (place (p .at) 0 (p .sum)) ≡ lineAt s p
+    pub line-heading : TRAILED < p .phase → Heading (place (p .at) 0 (p .sum)) ≡ lineAt s p
     unfolding lineAt limit
     line-heading h = let e = le-ltb 65_536 (length s) short in let f = lt-ltb 2 (p .phase) h in rw (e, lineAt, f)
 
-    module _ (on : p .phase ≤ 2) where
+    module _ (on : p .phase ≤ TRAILED) where
       pub opened : lineAt s p ≡ lineFrom s p
       unfolding lineAt limit
       opened = let e = le-ltb 65_536 (length s) short in let f = le-ltb 2 (p .phase) on in rw (e, lineAt, f)
@@ -110,20 +111,20 @@ module _ (s : List ℕ) (p : Place) where
 
 -- the end, between two frames
 module _ (total : ℕ) (p : Place) where
-  at-opening : (phase sum : ℕ) → phase ≡ 0 → Refused total REQUEST-INCOMPLETE ≡ endOf total (end-of (ends (messageOf phase sum)))
+  at-opening : (phase sum : ℕ) → phase ≡ OPENING → Refused total REQUEST-INCOMPLETE ≡ endOf total (end-of (ends (messageOf phase sum)))
   unfolding endOf end-of ends messageOf codeOf
   at-opening phase sum e = rw e
 
-  pub end-opening : p .phase ≡ 0 → Refused total REQUEST-INCOMPLETE ≡ endLine total p
+  pub end-opening : p .phase ≡ OPENING → Refused total REQUEST-INCOMPLETE ≡ endLine total p
   unfolding endLine
   end-opening e = at-opening (p .phase) (p .sum) e
 
-  behind : (phase sum : ℕ) → (phase ≡ 0 → ⊥) → Whole total ≡ endOf total (end-of (ends (messageOf phase sum)))
+  behind : (phase sum : ℕ) → (phase ≡ OPENING → ⊥) → Whole total ≡ endOf total (end-of (ends (messageOf phase sum)))
   unfolding endOf end-of ends messageOf tally
   behind zero sum w = absurd (w refl)
   behind (suc zero) sum w = refl
   behind (suc (suc k)) sum w = refl
 
-  pub end-behind : (p .phase ≡ 0 → ⊥) → Whole total ≡ endLine total p
+  pub end-behind : (p .phase ≡ OPENING → ⊥) → Whole total ≡ endLine total p
   unfolding endLine
   end-behind w = behind (p .phase) (p .sum) w

@@ -22,6 +22,7 @@ use Rattle.listing.specs.declared.Place.{Place}
 use Rattle.listing.specs.declared.Usage.{Usage}
 use Rattle.listing.specs.declared.Line.{Line}
 use Rattle.listing.specs.declared.Line.the-variants.{Heading, Frame, Whole, Refused, TooLong}
+use Rattle.streams.specs.Modes.{TRAILED}
 
 -- how much is to come: the heading, the bytes from the next frame on, the end
 unfoldable pub rank : List ℕ → Place → ℕ
@@ -39,10 +40,10 @@ Leads TooLong n = ⊥
 record Forward (total : ℕ) (p n : Place) : Type 0 where
   before : p .at ≤ total
   further : p .at < n .at
-  listed : n .phase ≤ 2
+  listed : n .phase ≤ TRAILED
 
-module _ (total : ℕ) (p : Place) (in-input : p .at ≤ total) (listed : p .phase ≤ 2) where
-  forward : {m n : Place} → m ≡ n → p .at < m .at → m .phase ≤ 2 → Forward total p n
+module _ (total : ℕ) (p : Place) (in-input : p .at ≤ total) (listed : p .phase ≤ TRAILED) where
+  forward : {m n : Place} → m ≡ n → p .at < m .at → m .phase ≤ TRAILED → Forward total p n
   forward e a b = rw (← e) record { before = in-input; further = a; listed = b }
 
   ruling-forward : (from t len : ℕ) {m : Message} {r : Ruling Message} {n : Place} → p .at < from → RuleView t len m r → Leads (lineOf p (head (p .at) from t len) r) n → Forward total p n
@@ -77,18 +78,18 @@ module _ (total : ℕ) (p : Place) (in-input : p .at ≤ total) (listed : p .pha
   frames-forward (b ∷ bs) n x = view-forward (length bs) b bs (view (length bs) (p .at) b bs) x
 
 module _ (s : List ℕ) (p : Place) where
-  unheaded : p .phase ≤ 2 → rank s p ≡ suc (length s) - p .at
+  unheaded : p .phase ≤ TRAILED → rank s p ≡ suc (length s) - p .at
   unfolding rank
   unheaded h = let e = le-ltb 2 (p .phase) h in rw e (omega arith)
 
-  headed : 2 < p .phase → rank s p ≡ suc (suc (length s) - p .at)
+  headed : TRAILED < p .phase → rank s p ≡ suc (suc (length s) - p .at)
   unfolding rank
   headed h = let e = lt-ltb 2 (p .phase) h in rw e (omega arith)
 
 falls : (s : List ℕ) (p n : Place) → Leads (lineAt s p) n → rank s n < rank s p
 falls s p n x = long (ltb 65_536 (length s)) refl
   where
-    cut-off : length s ≤ 65_536 → p .phase ≤ 2 → (y : Bool) → ltb (length s) (p .at) ≡ y → rank s n < rank s p
+    cut-off : length s ≤ 65_536 → p .phase ≤ TRAILED → (y : Bool) → ltb (length s) (p .at) ≡ y → rank s n < rank s p
     cut-off short h true e = absurd (rw (← line-cut-payload s p short h (ltb→lt (length s) (p .at) (rw e tt))) at x)
     cut-off short h false e =
         let w = nltb→le (length s) (p .at) (rw e tt) in

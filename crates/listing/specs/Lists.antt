@@ -25,6 +25,7 @@ use Rattle.listing.specs.Listing as lister
 use Rattle.listing.specs.Lines.{place, first, messageOf, after, usageOf, useOf, lineOf, ruledLine, endOf, endLine, lineIn, entryOf, behind as what-follows, withRest, linesFrom}
 use Rattle.listing.specs.At.{frames-none, line-too-long, line-heading, line-cut-payload, inside}
 use Rattle.listing.specs.declared.Place.{Place}
+use Rattle.streams.specs.Modes.{TRAILED}
 
 -- payload bytes are no headers
 contents-none : (bytes : List ℕ) (xs : List Saying) → accepted (map content-byte bytes ++ xs) ≡ accepted xs
@@ -84,7 +85,7 @@ module _ (R : Rules) (a b : Section) (others : List Section) (head-sound : R .he
     goes-on : completed (request R) u q payload (left m) ≡ on (messageOf (p .phase) (p .sum)) (left (messageOf (p .phase) (p .sum))) []
     same-use : useOf (usageOf u) ≡ u
     at-end : p .at ≡ to
-    listed : p .phase ≤ 2
+    listed : p .phase ≤ TRAILED
 
   -- DATA goes on only behind the header section
   carried : (phase sum len : ℕ) {m q : Message} {s : Step} → messageOf phase sum ≡ m → CarryView len m s → s ≡ goes q
@@ -113,7 +114,7 @@ module _ (R : Rules) (a b : Section) (others : List Section) (head-sound : R .he
   trailers-on (suc zero) sum {stated} {n} e = let i : none ≡ stated = cc in let j : sum ≡ n = cc in rw (i, j) refl
   trailers-on (suc (suc k)) sum e = let z : _≡_ {A = ℕ} 0 1 = cc in absurd (omega arith)
 
-  behind : (t len : ℕ) {m q : Message} {u : Use} (payload : List ℕ) (to : ℕ) (p : Place) → p .phase ≤ 2 → messageOf (p .phase) (p .sum) ≡ m → RuleView t len m (accept u q)
+  behind : (t len : ℕ) {m q : Message} {u : Use} (payload : List ℕ) (to : ℕ) (p : Place) → p .phase ≤ TRAILED → messageOf (p .phase) (p .sum) ≡ m → RuleView t len m (accept u q)
       → Behind u q payload m to (after u to len p)
   unfolding completed after useOf usageOf messageOf
   behind t len payload to p h e (r-skipped n) = record { goes-on = rw e refl; same-use = refl; at-end = refl; listed = h }
@@ -128,7 +129,7 @@ module _ (R : Rules) (a b : Section) (others : List Section) (head-sound : R .he
 
   -- ---- the line at a place, and what the rules say from there
 
-  module _ (total : ℕ) (p : Place) (listed : p .phase ≤ 2) (rest : Place → List Entry) where
+  module _ (total : ℕ) (p : Place) (listed : p .phase ≤ TRAILED) (rest : Place → List Entry) where
     end-line : (e : End) → withRest rest (endOf total e) ≡ entriesOf total (ending (ended e total))
     unfolding entryOf what-follows endOf entriesOf ended accepted lastOf
     end-line complete = refl
@@ -156,7 +157,7 @@ module _ (R : Rules) (a b : Section) (others : List Section) (head-sound : R .he
       abbrev m : Message
       m = messageOf (p .phase) (p .sum)
 
-      cut-line : (part : List ℕ) → ((next : Place) → next .at ≡ from + len → next .phase ≤ 2 → rest next ≡ refused total FRAME-ERROR ∷ [])
+      cut-line : (part : List ℕ) → ((next : Place) → next .at ≡ from + len → next .phase ≤ TRAILED → rest next ≡ refused total FRAME-ERROR ∷ [])
           → (r : Ruling Message) → RuleView t len m r
           → withRest rest (lineOf p (head at from t len) r) ≡ entriesOf total (elim r [
             | refuse code ↦ put (rules.refused (head at from t len) ∷ []) (ending (fault code from))
@@ -168,12 +169,12 @@ module _ (R : Rules) (a b : Section) (others : List Section) (head-sound : R .he
           let k = behind t len part (from + len) p listed refl v in
           accepted-line u q part (ending (fault (of-connection frame-error) total)) (k .same-use) (ih (after u (from + len) len p) (k .at-end) (k .listed))
 
-      line-in-payload : (part : List ℕ) → ((next : Place) → next .at ≡ from + len → next .phase ≤ 2 → rest next ≡ refused total FRAME-ERROR ∷ [])
+      line-in-payload : (part : List ℕ) → ((next : Place) → next .at ≡ from + len → next .phase ≤ TRAILED → rest next ≡ refused total FRAME-ERROR ∷ [])
           → withRest rest (lineIn total p (in-payload (head at from t len) part)) ≡ says total m (in-payload (head at from t len) part)
       unfolding lineIn ruledLine judge
       line-in-payload part ih = cut-line part ih (rule m t len) (rule-view m t len)
 
-      module _ (payload : List ℕ) (fs : Frames) (ih : (next : Place) → next .at ≡ from + len → next .phase ≤ 2 → rest next ≡ says total (messageOf (next .phase) (next .sum)) fs) where
+      module _ (payload : List ℕ) (fs : Frames) (ih : (next : Place) → next .at ≡ from + len → next .phase ≤ TRAILED → rest next ≡ says total (messageOf (next .phase) (next .sum)) fs) where
         abbrev onward : Onward Message → Reading
         onward o = elim o [
           | rules.Onward.stops code ↦ ending (fault code (from + len))
@@ -210,7 +211,7 @@ module _ (R : Rules) (a b : Section) (others : List Section) (head-sound : R .he
       within : p .at ≤ total → linesFrom most s p ≡ says total (messageOf (p .phase) (p .sum)) (framesFrom (p .at) (drop (p .at) s))
       beyond : total < p .at → linesFrom most s p ≡ refused total FRAME-ERROR ∷ []
 
-    module _ (k : ℕ) (read-on : (p : Place) → p .phase ≤ 2 → 0 < k → total < k + p .at → Read k p) (p : Place) (listed : p .phase ≤ 2) where
+    module _ (k : ℕ) (read-on : (p : Place) → p .phase ≤ TRAILED → 0 < k → total < k + p .at → Read k p) (p : Place) (listed : p .phase ≤ TRAILED) where
       lines-view : (b : ℕ) (bs : List ℕ) → drop (p .at) s ≡ b ∷ bs → p .at + length (b ∷ bs) ≡ total → total ≤ k + p .at → {fs : Frames} → View (length bs) (p .at) (b ∷ bs) fs
           → withRest (linesFrom k s) (lineIn total p fs) ≡ says total (messageOf (p .phase) (p .sum)) fs
       lines-view b bs d n l (cut-type e) = line-in-header total p listed (linesFrom k s)
@@ -235,7 +236,7 @@ module _ (R : Rules) (a b : Section) (others : List Section) (head-sound : R .he
       lines-in [] d n l = rw (frames-none (p .at) [] (omega arith)) (line-none total p listed (linesFrom k s))
       lines-in (b ∷ bs) d n l = lines-view b bs d n l (view (length bs) (p .at) b bs)
 
-    lines : (most : ℕ) (p : Place) → p .phase ≤ 2 → 0 < most → total < most + p .at → Read most p
+    lines : (most : ℕ) (p : Place) → p .phase ≤ TRAILED → 0 < most → total < most + p .at → Read most p
     unfolding linesFrom entryOf what-follows
     lines zero p h k l = absurd (omega arith)
     lines (suc k) p h z l = record {

@@ -3,6 +3,7 @@ ghost use mathlib.Core.Path.{_≡_};
 ghost use Prim.Native.Nat.{_+_, _≤_, _<_, _^_, min};
 ghost use mathlib.Core.List.{[], _∷_};
 ghost use lib.ListN.{length};
+ghost use Rattle.streams.specs.Modes.{UNSET};
 ghost use Rattle.meaning.specs.FrameLaws.{head};
 ghost use Rattle.listing.specs.Listing.{frame, whole, refused};
 ghost use Rattle.listing.specs.Lines.{first, endLine, ruledLine, lineAt, useOf, entryOf};
@@ -18,7 +19,9 @@ pub enum Usage {
 }
 
 // Where a listing stands. at: the offset of the next frame; past the input, the input cuts the payload before it.
-// phase 0: before the header section, 1: behind it, 2: behind trailers, 3: the heading is due. sum: of the DATA lengths.
+// The phase is a request's, or the heading is due. sum: of the DATA lengths.
+const HEADING_DUE: u64 = 3;
+
 pub struct Place {
     at: usize,
     phase: u64,
@@ -53,7 +56,7 @@ fn least(a: u64, b: u64) -> u64
 fn end_line(p: Place, total: usize) -> Line
     ensures { λ r. ⌜ r ≡ endLine total p ⌝ }
 {
-    if p.phase == 0 {
+    if p.phase == streams::OPENING {
         Line::Refused {
             bytes: total,
             code: rules::REQUEST_INCOMPLETE,
@@ -65,14 +68,14 @@ fn end_line(p: Place, total: usize) -> Line
 
 // A whole header, its payload from `from` on.
 fn ruled_line(p: Place, from: usize, ftype: u64, len: u64) -> Line
-    requires { ⌜ (p .phase < 3) × (from ≤ 65536) × (len < 2 ^ 62) ⌝ }
+    requires { ⌜ (p .phase < UNSET) × (from ≤ 65536) × (len < 2 ^ 62) ⌝ }
     ensures { λ r. ⌜ r ≡ ruledLine p (head (p .at) from ftype len) ⌝ }
 {
     // more is past the limit on content, whatever is added
     let sum = least(p.sum, 1048577);
     let number = streams::ruled(p.phase, 0, 0, sum, ftype, len);
     let to = from + len as usize;
-    if number == 0 {
+    if number == streams::USE_SKIPPED {
         return Line::Frame {
             at: p.at,
             ftype,
@@ -85,7 +88,7 @@ fn ruled_line(p: Place, from: usize, ftype: u64, len: u64) -> Line
             },
         };
     }
-    if number == 1 {
+    if number == streams::USE_CONTENT {
         return Line::Frame {
             at: p.at,
             ftype,
@@ -98,7 +101,7 @@ fn ruled_line(p: Place, from: usize, ftype: u64, len: u64) -> Line
             },
         };
     }
-    if number == 2 {
+    if number == streams::USE_HEADER_SECTION {
         return Line::Frame {
             at: p.at,
             ftype,
@@ -106,12 +109,12 @@ fn ruled_line(p: Place, from: usize, ftype: u64, len: u64) -> Line
             usage: Usage::HeaderSection,
             next: Place {
                 at: to,
-                phase: 1,
+                phase: streams::BODY,
                 sum: 0,
             },
         };
     }
-    if number == 3 {
+    if number == streams::USE_TRAILERS {
         return Line::Frame {
             at: p.at,
             ftype,
@@ -119,7 +122,7 @@ fn ruled_line(p: Place, from: usize, ftype: u64, len: u64) -> Line
             usage: Usage::Trailers,
             next: Place {
                 at: to,
-                phase: 2,
+                phase: streams::TRAILED,
                 sum: p.sum,
             },
         };
@@ -135,7 +138,7 @@ pub fn start() -> Place
 {
     Place {
         at: 0,
-        phase: 3,
+        phase: HEADING_DUE,
         sum: 0,
     }
 }
@@ -149,10 +152,10 @@ pub fn next(s: &[u8], p: Place) -> Line
     if 65536 < total {
         return Line::TooLong;
     }
-    if 2 < p.phase {
+    if streams::TRAILED < p.phase {
         return Line::Heading(Place {
             at,
-            phase: 0,
+            phase: streams::OPENING,
             sum: p.sum,
         });
     }

@@ -6,7 +6,7 @@ use mathlib.Core.List.{List, [], _∷_}
 use mathlib.Core.Bool.{Bool, true, false}
 use lib.Dec.{eqb, eqb→eq, lit<}
 use Rattle.rules.specs.Reading.{Next, stop, go}
-use Rattle.rules.specs.Numbers.{not-open, not-next, no-record, section-due, none-due, unreadable, short-room, bad-value, not-24, House, request-rejected, request-cancelled, request-incomplete, message-error, stream-creation-error, closed-critical-stream, frame-unexpected, frame-error, excessive-load, id-error, settings-error, missing-settings, Code, of-stream, of-connection, Answer, accepted, refusal, fault, other, houseNumber, codeNumber, numberOf, rows, namedIn, named, codeIn, coded}
+use Rattle.rules.specs.Numbers.{not-open, not-next, no-record, section-due, no-section, unreadable, room-short, bad-value, other-row, House, request-rejected, request-cancelled, request-incomplete, message-error, stream-creation-error, closed-critical-stream, frame-unexpected, frame-error, excessive-load, id-error, settings-error, missing-settings, Code, of-stream, of-connection, Answer, accepted, refusal, fault, other, houseNumber, codeNumber, numberOf, rows, namedIn, named, codeIn, coded}
 
 -- ---- a case for each row
 
@@ -43,11 +43,11 @@ refusal-named not-open = refl
 refusal-named not-next = refl
 refusal-named no-record = refl
 refusal-named section-due = refl
-refusal-named none-due = refl
+refusal-named no-section = refl
 refusal-named unreadable = refl
-refusal-named short-room = refl
+refusal-named room-short = refl
 refusal-named bad-value = refl
-refusal-named not-24 = refl
+refusal-named other-row = refl
 
 pub fault-named : (c : Code) → named (codeNumber c) ≡ fault c
 unfolding named namedIn rows numberOf

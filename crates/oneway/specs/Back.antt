@@ -14,11 +14,13 @@ use Rattle.meaning.specs.Machine.{State, in-type}
 use Rattle.meaning.specs.FeedUses.{StateWithin}
 use Rattle.meaning.specs.OneWayFeed.{OneState, in-stream-type, in-control}
 use Rattle.varint.specs.ByByte.{prog}
+use Rattle.streams.specs.Modes.{IN-TYPE, IN-SETTINGS, UNSET, SET, modeOf, at-kept, at-unkept, at-any}
 use Rattle.streams.specs.declared.Cells.{Cells}
 use Rattle.streams.specs.Both.{Place, of-control}
 use Rattle.streams.specs.Uses.{placeOf, Stands, a-place, any-set}
 use Rattle.streams.specs.Heads.{headState}
-use Rattle.streams.specs.Answers.{stateAt, stateOf, StandsIn}
+use Rattle.streams.specs.Answers.{modeState, stateAt, stateOf, StandsIn}
+use Rattle.record.specs.Kinds.{UNTYPED, CONTROL}
 use Rattle.record.specs.declared.Record.{Record}
 use Rattle.record.specs.Row.{isStated, lengthOf, placeIn, recordAt}
 use Rattle.record.specs.Sound.{Fit, cellsIn, ownPlace, tidied, Sound, stream, Written}
@@ -45,7 +47,7 @@ pub set-back : (s : Settings) (g m : Option ℕ) → controlOf (keptIn 4 (keptNu
 unfolding controlAt keptNumbers
 set-back s g m = let a = some-back (s .section-size) in let b = some-back g in let c = some-back m in rw (a, b, c) refl
 
-said-back : {h n u phase : ℕ} {q : Place} (p : Control) → Stands h n u phase q → q ≡ of-control p → 3 ≤ phase → phase ≤ 4 → controlOf (keptIn phase (keptNumbers p)) ≡ p
+said-back : {h n u phase : ℕ} {q : Place} (p : Control) → Stands h n u phase q → q ≡ of-control p → UNSET ≤ phase → phase ≤ SET → controlOf (keptIn phase (keptNumbers p)) ≡ p
 unfolding placeOf controlAt keptNumbers
 said-back p (a-place {phase = zero}) e l h = absurd (omega arith)
 said-back p (a-place {phase = suc zero}) e l h = absurd (omega arith)
@@ -64,55 +66,31 @@ said-back (set s g m) (any-set (suc k) i) e l h = absurd (omega arith)
 -- ---- what was kept of a payload, back from its bytes
 
 -- outside a kept payload a state looks at none
-blind : {P : Type 0} (mode a e t : ℕ) (p : P) (k l : List ℕ) → mode < 8 → stateAt mode a e t p k ≡ stateAt mode a e t p l
-unfolding stateAt
-blind zero a e t p k l h = refl
-blind (suc zero) a e t p k l h = refl
-blind (suc (suc zero)) a e t p k l h = refl
-blind (suc (suc (suc zero))) a e t p k l h = refl
-blind (suc (suc (suc (suc zero)))) a e t p k l h = refl
-blind (suc (suc (suc (suc (suc zero))))) a e t p k l h = refl
-blind (suc (suc (suc (suc (suc (suc zero)))))) a e t p k l h = refl
-blind (suc (suc (suc (suc (suc (suc (suc zero))))))) a e t p k l h = refl
-blind (suc (suc (suc (suc (suc (suc (suc (suc m)))))))) a e t p k l h = absurd (omega arith)
+blind : {P : Type 0} (mode a e t : ℕ) (p : P) (k l : List ℕ) → mode < IN-SETTINGS → stateAt mode a e t p k ≡ stateAt mode a e t p l
+unfolding modeState
+blind mode a e t p k l = at-unkept (λ m. modeState m a e t p k ≡ modeState m a e t p l) refl refl refl refl (λ x. refl) (λ x. refl) mode
 
-fits-mode : {P : Type 0} (mode a e t : ℕ) (p : P) (k : List ℕ) → StateWithin Fits (stateAt mode a e t p k) → 8 ≤ mode → length k + suc (a - 1) ≤ 256
-unfolding stateAt
-fits-mode zero a e t p k w h = absurd (omega arith)
-fits-mode (suc zero) a e t p k w h = absurd (omega arith)
-fits-mode (suc (suc zero)) a e t p k w h = absurd (omega arith)
-fits-mode (suc (suc (suc zero))) a e t p k w h = absurd (omega arith)
-fits-mode (suc (suc (suc (suc zero)))) a e t p k w h = absurd (omega arith)
-fits-mode (suc (suc (suc (suc (suc zero))))) a e t p k w h = absurd (omega arith)
-fits-mode (suc (suc (suc (suc (suc (suc zero)))))) a e t p k w h = absurd (omega arith)
-fits-mode (suc (suc (suc (suc (suc (suc (suc zero))))))) a e t p k w h = absurd (omega arith)
-fits-mode (suc (suc (suc (suc (suc (suc (suc (suc m)))))))) a e t p k w h = w
+fits-mode : {P : Type 0} (mode a e t : ℕ) (p : P) (k : List ℕ) → StateWithin Fits (stateAt mode a e t p k) → IN-SETTINGS ≤ mode → length k + suc (a - 1) ≤ 256
+unfolding modeState
+fits-mode mode a e t p k w h = at-kept (λ m. StateWithin Fits (modeState m a e t p k) → length k + suc (a - 1) ≤ 256) (λ f v. v) mode h w
 
-mode-fits : {P : Type 0} (mode a e t : ℕ) (p : P) (k : List ℕ) → (8 ≤ mode → length k + suc (a - 1) ≤ 256) → StateWithin Fits (stateAt mode a e t p k)
-unfolding stateAt headState
-mode-fits zero a e t p k h = tt
-mode-fits (suc zero) a e t p k h = tt
-mode-fits (suc (suc zero)) a e t p k h = tt
-mode-fits (suc (suc (suc zero))) a e t p k h = tt
-mode-fits (suc (suc (suc (suc zero)))) a e t p k h = tt
-mode-fits (suc (suc (suc (suc (suc zero))))) a e t p k h = tt
-mode-fits (suc (suc (suc (suc (suc (suc zero)))))) a e t p k h = tt
-mode-fits (suc (suc (suc (suc (suc (suc (suc zero))))))) a e t p k h = tt
-mode-fits (suc (suc (suc (suc (suc (suc (suc (suc m)))))))) a e t p k h = h (omega arith)
+mode-fits : {P : Type 0} (mode a e t : ℕ) (p : P) (k : List ℕ) → (IN-SETTINGS ≤ mode → length k + suc (a - 1) ≤ 256) → StateWithin Fits (stateAt mode a e t p k)
+unfolding modeState headState
+mode-fits mode a e t p k h = at-any (λ m. StateWithin Fits (modeState m a e t p k)) tt tt tt tt (λ x. tt) (λ x. tt) mode (λ l f. h l)
 
-held-all : (mode acc held : ℕ) → 8 ≤ mode → held + acc ≤ 256 → heldIn mode acc held ≡ held
+held-all : (mode acc held : ℕ) → IN-SETTINGS ≤ mode → held + acc ≤ 256 → heldIn mode acc held ≡ held
 unfolding heldIn
-held-all mode acc held h l = let x = le-ltb mode 8 h in let n : min held (256 - acc) ≡ held = omega arith in rw (x, heldIn) n
+held-all mode acc held h l = let x = le-ltb mode IN-SETTINGS h in let n : min held (256 - acc) ≡ held = omega arith in rw (x, heldIn) n
 
-held-back : (mode acc : ℕ) (k : List ℕ) → 8 ≤ mode → length k + acc ≤ 256 → take (heldIn mode acc (length (take 256 k))) (bytesOf (take 256 k)) ≡ k
+held-back : (mode acc : ℕ) (k : List ℕ) → IN-SETTINGS ≤ mode → length k + acc ≤ 256 → take (heldIn mode acc (length (take 256 k))) (bytesOf (take 256 k)) ≡ k
 held-back mode acc k h l =
     ap (λ x. take (heldIn mode acc (length x)) (bytesOf x)) (take-all 256 k (omega arith)) ∙ ap (λ x. take x (bytesOf k)) (held-all mode acc (length k) h l) ∙ bytes-back k (length k) refl (omega arith)
 
 -- ---- an open one-way stream's payload fits
 
-held-few : (mode acc held : ℕ) → 8 ≤ mode → heldIn mode acc held ≤ 256 - acc
+held-few : (mode acc held : ℕ) → IN-SETTINGS ≤ mode → heldIn mode acc held ≤ 256 - acc
 unfolding heldIn
-held-few mode acc held h = let x = le-ltb mode 8 h in rw (x, heldIn) (omega arith)
+held-few mode acc held h = let x = le-ltb mode IN-SETTINGS h in rw (x, heldIn) (omega arith)
 
 module _ (r : Record) (o : Heeds r) (d : Side) where
   fits-at : (kind : ℕ) → r .kind ≡ kind → OneFits (oneStateAt kind (cellsIn r) (placeHere r d) (sofarHere r d))
@@ -133,7 +111,7 @@ module _ (r : Record) (o : Heeds r) (d : Side) where
   pub here-fits : OneFits (stateHere r d)
   here-fits = fits-at (r .kind) refl
 
-shape-kind : (c : Cells) (kind : ℕ) → OneShapeAt kind c → 2 ≤ kind
+shape-kind : (c : Cells) (kind : ℕ) → OneShapeAt kind c → UNTYPED ≤ kind
 unfolding OneShapeAt
 shape-kind c zero sh = absurd sh
 shape-kind c (suc zero) sh = absurd sh
@@ -152,14 +130,14 @@ module _ (id : ℕ) (c : Cells) (p : Control) (k : List ℕ) {q : Record} where
     tidier : Tidier c (cellsIn q)
     tidier = tidy-less c (fit .sane) (fit .shaped .phases) own-cells
 
-  module _ (fit : Fit 3 id c) (written : Written (stream 3 id c) q) (stands : StandsIn c (of-control p)) (fits : StateWithin Fits (stateOf c p k)) where
+  module _ (fit : Fit CONTROL id c) (written : Written (stream CONTROL id c) q) (stands : StandsIn c (of-control p)) (fits : StateWithin Fits (stateOf c p k)) where
     same-cells : stateOf (cellsIn q) p k ≡ stateOf c p k
     same-cells = ap (λ x. stateOf x p k) (own-cells 3 fit written) ∙ state-again c (fit .sane) p k
 
     own-fits : StateWithin Fits (stateOf (cellsIn q) p k)
     own-fits = subst (StateWithin Fits) (sym same-cells) fits
 
-    own-some : 8 ≤ q .mode → 0 < q .acc
+    own-some : IN-SETTINGS ≤ q .mode → 0 < q .acc
     own-some h =
         let t = tidier 3 fit written in
         let m = t .mode-same in
@@ -167,7 +145,7 @@ module _ (id : ℕ) (c : Cells) (p : Control) (k : List ℕ) {q : Record} where
         let a = t .acc-same (omega arith) (λ x. omega arith) (λ x. omega arith) in
         omega arith
 
-    own-room : 8 ≤ q .mode → length k + q .acc ≤ 256
+    own-room : IN-SETTINGS ≤ q .mode → length k + q .acc ≤ 256
     own-room h = let f = fits-mode (q .mode) (q .acc) (q .due) (q .ftype) p k own-fits h in let s = own-some h in omega arith
 
     control-back : (d : Side) → in-control (stateOf (cellsIn q) (placeHere q (sideAfter d (in-control (stateOf c p k)))) (sofarHere q (sideAfter d (in-control (stateOf c p k))))) ≡ in-control (stateOf c p k)
@@ -182,22 +160,22 @@ module _ (id : ℕ) (c : Cells) (p : Control) (k : List ℕ) {q : Record} where
       where
         by : (b : Bool) → ltb (q .mode) 8 ≡ b
             → stateOf (cellsIn q) p (take (heldIn (q .mode) (q .acc) (length (take 256 (sofarIn (stateOf c p k))))) (bytesOf (take 256 (sofarIn (stateOf c p k))))) ≡ stateOf (cellsIn q) p k
-        by true e = blind (q .mode) (q .acc) (q .due) (q .ftype) p _ k (ltb-true (q .mode) 8 e)
+        by true e = blind (q .mode) (q .acc) (q .due) (q .ftype) p _ k (ltb-true (q .mode) IN-SETTINGS e)
         by false e =
-            let h = ltb-false (q .mode) 8 e in
+            let h = ltb-false (q .mode) IN-SETTINGS e in
             let m = tidier 3 fit written .mode-same in
             let sofar = sofar-kept (c .mode) (c .acc) (c .due) (c .ftype) p k (omega arith) in
             ap (stateOf (cellsIn q) p) (ap (λ x. take (heldIn (q .mode) (q .acc) (length (take 256 x))) (bytesOf (take 256 x))) sofar ∙ held-back (q .mode) (q .acc) k h (own-room h))
 
-  type-again : Fit 2 id c → Written (stream 2 id c) q → c .mode ≡ 0 → prog (q .due) (q .acc) ≡ prog (c .due) (c .acc)
-  unfolding stateAt headState
+  type-again : Fit UNTYPED id c → Written (stream UNTYPED id c) q → c .mode ≡ IN-TYPE → prog (q .due) (q .acc) ≡ prog (c .due) (c .acc)
+  unfolding modeState modeOf headState
   type-again fit written m =
       let t = tidier 2 fit written in
       let e = ap (λ x. stateOf x p k) (own-cells 2 fit written) ∙ state-again c (fit .sane) p k in
       same-type (q .mode) (c .mode) (t .mode-same ∙ m) m e
     where
       same-type : (x y : ℕ) → x ≡ 0 → y ≡ 0 → stateAt x (q .acc) (q .due) (q .ftype) p k ≡ stateAt y (c .acc) (c .due) (c .ftype) p k → prog (q .due) (q .acc) ≡ prog (c .due) (c .acc)
-      same-type x y a b e = let f : in-type (prog (q .due) (q .acc)) p ≡ in-type (prog (c .due) (c .acc)) p = unfold stateAt headState in (rw (a, b) at e) in cc
+      same-type x y a b e = let f : in-type (prog (q .due) (q .acc)) p ≡ in-type (prog (c .due) (c .acc)) p = unfold modeState modeOf headState in (rw (a, b) at e) in cc
 
   state-at : (kind : ℕ) → StandsAt kind c p → OneShapeAt kind c → Fit kind id c → Written (stream kind id c) q → OneFits (oneStateAt kind c p k) → (d : Side)
       → let after = sideAfter d (oneStateAt kind c p k) in oneStateAt kind (cellsIn q) (placeHere q after) (sofarHere q after) ≡ oneStateAt kind c p k
@@ -210,13 +188,13 @@ module _ (id : ℕ) (c : Cells) (p : Control) (k : List ℕ) {q : Record} where
   state-at (suc (suc (suc (suc (suc zero))))) st sh fit w f d = refl
   state-at (suc (suc (suc (suc (suc (suc n)))))) st sh fit w f d = refl
 
-  room-at : (kind : ℕ) → OneShapeAt kind c → Fit kind id c → Written (stream kind id c) q → StandsAt kind c p → OneFits (oneStateAt kind c p k) → 8 ≤ q .mode → q .acc ≤ 256
+  room-at : (kind : ℕ) → OneShapeAt kind c → Fit kind id c → Written (stream kind id c) q → StandsAt kind c p → OneFits (oneStateAt kind c p k) → IN-SETTINGS ≤ q .mode → q .acc ≤ 256
   unfolding OneShapeAt StandsAt oneStateAt
   room-at zero sh fit w st f h = absurd sh
   room-at (suc zero) sh fit w st f h = absurd sh
-  room-at (suc (suc zero)) sh fit w st f h = let m = tidier 2 fit w .mode-same in let z : c .mode ≡ 0 = ap (λ x. x .mode) sh in absurd (omega arith)
+  room-at (suc (suc zero)) sh fit w st f h = let m = tidier 2 fit w .mode-same in let z : c .mode ≡ IN-TYPE = ap (λ x. x .mode) sh in absurd (omega arith)
   room-at (suc (suc (suc zero))) sh fit w st f h = let l = own-room fit w st f h in omega arith
-  room-at (suc (suc (suc (suc n)))) sh fit w st f h = let m = tidier (suc (suc (suc (suc n)))) fit w .mode-same in let z : c .mode ≡ 0 = ap (λ x. x .mode) (sh .0) in absurd (omega arith)
+  room-at (suc (suc (suc (suc n)))) sh fit w st f h = let m = tidier (suc (suc (suc (suc n)))) fit w .mode-same in let z : c .mode ≡ IN-TYPE = ap (λ x. x .mode) (sh .0) in absurd (omega arith)
 
   pub left-back : (kind : ℕ) → StandsAt kind c p → OneShapeAt kind c → Fit kind id c → Written (stream kind id c) q → OneFits (oneStateAt kind c p k) → (d side : Side) → side ≡ sideAfter d (oneStateAt kind c p k)
       → Heeds q × (stateHere q side ≡ oneStateAt kind c p k)

@@ -16,13 +16,15 @@ use Rattle.meaning.specs.OneWayFeed.{OneState, in-stream-type, in-control, in-q
 use Rattle.meaning.specs.EveryFeed.{ReadsOn}
 use Rattle.meaning.specs.OneWays.{Came, still-untyped, type-refused, a-control-stream, a-qpack-stream, a-skipped-stream, calls-read, ReadsOnOne, always-reads}
 use Rattle.varint.specs.ByByte.{prog}
+use Rattle.streams.specs.Modes.{modeOf}
 use Rattle.streams.specs.declared.Cells.{Cells}
 use Rattle.streams.specs.Uses.{any-set}
 use Rattle.streams.specs.Heads.{headState}
-use Rattle.streams.specs.Answers.{stateAt}
+use Rattle.streams.specs.Answers.{modeState}
 use Rattle.oneway.specs.declared.OneWay as numbers
 use Rattle.oneway.specs.Stands.{oneStateAt, oneState, OneStands}
 use Rattle.oneway.specs.Frames.{frameCells}
+use Rattle.record.specs.Kinds.{CONTROL, DECODER}
 
 -- ---- ended or reset
 
@@ -37,14 +39,14 @@ abbrev pub Closes : numbers.OneWay → ℕ → Type 0
 Closes w r = (p : Control) (k : List ℕ) → r ≡ closes (oneState w p k)
 
 module _ (c : Cells) (p : Control) (k : List ℕ) where
-  low : (kind : ℕ) → kind < 3 → 0 ≡ closes (oneStateAt kind c p k)
+  low : (kind : ℕ) → kind < CONTROL → 0 ≡ closes (oneStateAt kind c p k)
   unfolding closes oneStateAt
   low zero h = refl
   low (suc zero) h = refl
   low (suc (suc zero)) h = refl
   low (suc (suc (suc n))) h = absurd (omega arith)
 
-  high : (kind : ℕ) → 5 < kind → 0 ≡ closes (oneStateAt kind c p k)
+  high : (kind : ℕ) → DECODER < kind → 0 ≡ closes (oneStateAt kind c p k)
   unfolding closes oneStateAt
   high zero h = absurd (omega arith)
   high (suc zero) h = absurd (omega arith)
@@ -54,7 +56,7 @@ module _ (c : Cells) (p : Control) (k : List ℕ) where
   high (suc (suc (suc (suc (suc zero))))) h = absurd (omega arith)
   high (suc (suc (suc (suc (suc (suc n)))))) h = refl
 
-  held : (kind : ℕ) → 3 ≤ kind → kind ≤ 5 → CLOSED-CRITICAL-STREAM ≡ closes (oneStateAt kind c p k)
+  held : (kind : ℕ) → CONTROL ≤ kind → kind ≤ DECODER → CLOSED-CRITICAL-STREAM ≡ closes (oneStateAt kind c p k)
   unfolding closes oneStateAt
   held zero h l = absurd (omega arith)
   held (suc zero) h l = absurd (omega arith)
@@ -65,13 +67,13 @@ module _ (c : Cells) (p : Control) (k : List ℕ) where
   held (suc (suc (suc (suc (suc (suc n)))))) h l = absurd (omega arith)
 
 module _ (w : numbers.OneWay) where
-  pub closes-untyped : w .kind < 3 → Closes w 0
+  pub closes-untyped : w .kind < CONTROL → Closes w 0
   closes-untyped h p k = low (w .cells) p k (w .kind) h
 
-  pub closes-skipped : 5 < w .kind → Closes w 0
+  pub closes-skipped : DECODER < w .kind → Closes w 0
   closes-skipped h p k = high (w .cells) p k (w .kind) h
 
-  pub closes-held : 3 ≤ w .kind → w .kind ≤ 5 → Closes w CLOSED-CRITICAL-STREAM
+  pub closes-held : CONTROL ≤ w .kind → w .kind ≤ DECODER → Closes w CLOSED-CRITICAL-STREAM
   closes-held h l p k = held (w .cells) p k (w .kind) h l
 
 -- ---- it is the rules' own
@@ -142,6 +144,6 @@ stands-set (goes {s = s} {g = g} {m = m}) q e = let x : set s g m ≡ q = cc in 
 pub behind-judged : (f : Kept) (p q : Control) (all : List ℕ) → judged f p all ≡ go q → OneStands 3 (frameCells 4) q []
 behind-judged f p q all e = stands-set (judged-set f p all) q e
 
-pub behind-between : (q : Control) → oneStateAt 3 (frameCells 4) q [] ≡ in-control (between q)
-unfolding oneStateAt stateAt headState prog
+pub behind-between : (q : Control) → oneStateAt CONTROL (frameCells 4) q [] ≡ in-control (between q)
+unfolding oneStateAt modeState modeOf headState prog
 behind-between q = refl

@@ -16,11 +16,12 @@ use Rattle.meaning.specs.Machine.{between}
 use Rattle.meaning.specs.Feed as F
 use Rattle.meaning.specs.OneWayFeed.{OneFeeding, OneOutcome, lives, dies, in-stream-type, in-skipped, in-qpack, of-frames, qpack-bytes, of-control, halt, qpack-feed, kind-feed, typed-feed, type-feed, feed}
 use Rattle.varint.specs.ByByte.{part, prog, Good}
+use Rattle.streams.specs.Modes.{UNSET, modeOf}
 use Rattle.streams.specs.declared.Cells.{Cells}
 use Rattle.streams.specs.Both as place
 use Rattle.streams.specs.Uses.{placeOf, Stands, a-place}
 use Rattle.streams.specs.Heads.{headState}
-use Rattle.streams.specs.Answers.{stateAt, stateOf, StandsIn, Sane, Held}
+use Rattle.streams.specs.Answers.{modeState, stateOf, StandsIn, Sane, Held}
 use Rattle.oneway.specs.declared.Seen.{Seen}
 use Rattle.oneway.specs.declared.OneWay.{OneWay}
 use Rattle.oneway.specs.declared.OneAnswer.{OneAnswer}
@@ -30,6 +31,7 @@ use Rattle.meaning.specs.NumberLaws.{coded-back, code-high}
 use Rattle.oneway.specs.Stands.{oneStateAt, oneState, OneStands, qpackOf, oneAnswerAt, OneSoundAt, OneSound, cellsOf, OneShapeAt, OneShape, StandsAt, Says, OneFed}
 use Rattle.oneway.specs.Typed.{onePast, one-past-none, typeGoes, TypeRead}
 use Rattle.oneway.specs.Frames.{frame-sane, framesStand, framesFrom, Controlled}
+use Rattle.record.specs.Kinds.{UNTYPED, CONTROL, ENCODER, DECODER, SKIPPED}
 
 abbrev pub untyped : Cells → OneWay
 untyped c = record { kind = 2; cells = c }
@@ -52,7 +54,7 @@ bareFeed (suc (suc (suc (suc (suc (suc n)))))) rest = kind-feed 0 skipped rest
 abbrev pub Bare : (s : List ℕ) (at : ℕ) → OneWay → OneAnswer → Type 0
 Bare s at w r = (before : OneWay) → Says s before (OneShape w) (λ p k. Unit {0}) (λ p k. onePast at (bareFeed (w .kind) (drop at s))) r
 
-bare-sound : (kind : ℕ) (c : Cells) → 4 ≤ kind → OneSoundAt kind c
+bare-sound : (kind : ℕ) (c : Cells) → ENCODER ≤ kind → OneSoundAt kind c
 unfolding OneSoundAt
 bare-sound zero c h = absurd (omega arith)
 bare-sound (suc zero) c h = absurd (omega arith)
@@ -60,7 +62,7 @@ bare-sound (suc (suc zero)) c h = absurd (omega arith)
 bare-sound (suc (suc (suc zero))) c h = absurd (omega arith)
 bare-sound (suc (suc (suc (suc n)))) c h = tt
 
-stands-bare : (kind : ℕ) (c : Cells) (p : Control) → 4 ≤ kind → StandsAt kind c p
+stands-bare : (kind : ℕ) (c : Cells) (p : Control) → ENCODER ≤ kind → StandsAt kind c p
 unfolding StandsAt
 stands-bare zero c p h = absurd (omega arith)
 stands-bare (suc zero) c p h = absurd (omega arith)
@@ -82,7 +84,7 @@ module _ (s : List ℕ) (at : ℕ) (w : at ≤ length s) (c : Cells) where
   left : length (drop at s) ≡ length s - at
   left = length-drop at s
 
-  skipped-all : (kind : ℕ) (p : Control) (k : List ℕ) → 5 < kind → onePast at (bareFeed kind (drop at s)) ≡ oneAnswerAt 0 (length s) 0 (length s) 0 0 (record { kind = kind; cells = c }) p k s
+  skipped-all : (kind : ℕ) (p : Control) (k : List ℕ) → DECODER < kind → onePast at (bareFeed kind (drop at s)) ≡ oneAnswerAt 0 (length s) 0 (length s) 0 0 (record { kind = kind; cells = c }) p k s
   unfolding onePast bareFeed kind-feed oneAnswerAt oneStateAt
   skipped-all zero p k h = absurd (omega arith)
   skipped-all (suc zero) p k h = absurd (omega arith)
@@ -92,7 +94,7 @@ module _ (s : List ℕ) (at : ℕ) (w : at ≤ length s) (c : Cells) where
   skipped-all (suc (suc (suc (suc (suc zero))))) p k h = absurd (omega arith)
   skipped-all (suc (suc (suc (suc (suc (suc n)))))) p k h = let e : at + length (drop at s) ≡ length s = omega (arith, left) in rw e refl
 
-  qpack-all : (kind : ℕ) (p : Control) (k : List ℕ) → 4 ≤ kind → kind ≤ 5 → at < length s
+  qpack-all : (kind : ℕ) (p : Control) (k : List ℕ) → ENCODER ≤ kind → kind ≤ DECODER → at < length s
       → onePast at (bareFeed kind (drop at s)) ≡ oneAnswerAt 7 at (length s - at) (length s) 0 0 (record { kind = kind; cells = c }) p k s
   unfolding onePast bareFeed oneAnswerAt oneStateAt qpackOf
   qpack-all zero p k h l m = absurd (omega arith)
@@ -103,7 +105,7 @@ module _ (s : List ℕ) (at : ℕ) (w : at ≤ length s) (c : Cells) where
   qpack-all (suc (suc (suc (suc (suc zero))))) p k h l m = ap (onePast at) (some-qpack decoder (drop at s) (omega (arith, left))) ∙ (let e : at + length (drop at s) ≡ length s = omega (arith, left) in let f = left in rw (e, f) refl)
   qpack-all (suc (suc (suc (suc (suc (suc n)))))) p k h l m = absurd (omega arith)
 
-  qpack-none : (kind : ℕ) (p : Control) (k : List ℕ) → 4 ≤ kind → kind ≤ 5 → length s ≤ at
+  qpack-none : (kind : ℕ) (p : Control) (k : List ℕ) → ENCODER ≤ kind → kind ≤ DECODER → length s ≤ at
       → onePast at (bareFeed kind (drop at s)) ≡ oneAnswerAt 0 at 0 at 0 0 (record { kind = kind; cells = c }) p k s
   unfolding onePast bareFeed oneAnswerAt oneStateAt halt
   qpack-none zero p k h l m = absurd (omega arith)
@@ -115,7 +117,7 @@ module _ (s : List ℕ) (at : ℕ) (w : at ≤ length s) (c : Cells) where
   qpack-none (suc (suc (suc (suc (suc (suc n)))))) p k h l m = absurd (omega arith)
 
 module _ (s : List ℕ) (at : ℕ) (w : at ≤ length s) (o : OneWay) where
-  pub bare-skipped : {r : OneAnswer} → 5 < o .kind → r ≡ quietAt (length s) o → Bare s at o r
+  pub bare-skipped : {r : OneAnswer} → DECODER < o .kind → r ≡ quietAt (length s) o → Bare s at o r
   bare-skipped h e b = rw e (record {
     is = λ p k st. skipped-all s at w (o .cells) (o .kind) p k h;
     within = omega arith;
@@ -131,7 +133,7 @@ module _ (s : List ℕ) (at : ℕ) (w : at ≤ length s) (o : OneWay) where
     leaves = λ x y p k st. stands-bare (o .kind) (o .cells) p (omega arith);
   })
 
-  pub bare-bytes : 4 ≤ o .kind → o .kind ≤ 5 → at < length s
+  pub bare-bytes : ENCODER ≤ o .kind → o .kind ≤ DECODER → at < length s
       → Bare s at o (record { event = 7; start = at; len = length s - at; used = length s; heads = 0; payload = 0; stream = o })
   bare-bytes h l m b = record {
     is = λ p k st. qpack-all s at w (o .cells) (o .kind) p k h l m;
@@ -148,7 +150,7 @@ module _ (s : List ℕ) (at : ℕ) (w : at ≤ length s) (o : OneWay) where
     leaves = λ x y p k st. stands-bare (o .kind) (o .cells) p (omega arith);
   }
 
-  pub bare-none : {r : OneAnswer} → 4 ≤ o .kind → o .kind ≤ 5 → length s ≤ at → r ≡ quietAt at o → Bare s at o r
+  pub bare-none : {r : OneAnswer} → ENCODER ≤ o .kind → o .kind ≤ DECODER → length s ≤ at → r ≡ quietAt at o → Bare s at o r
   bare-none h l m e b = rw e (record {
     is = λ p k st. qpack-none s at w (o .cells) (o .kind) p k h l m;
     within = w;
@@ -166,15 +168,15 @@ module _ (s : List ℕ) (at : ℕ) (w : at ≤ length s) (o : OneWay) where
 
 -- ---- what is sound, by its kind
 
-pub sound-type : (kind : ℕ) (c : Cells) → OneSoundAt kind c → kind ≡ 2 → Good (part (c .acc) (c .due))
+pub sound-type : (kind : ℕ) (c : Cells) → OneSoundAt kind c → kind ≡ UNTYPED → Good (part (c .acc) (c .due))
 unfolding OneSoundAt
 sound-type kind c g e = rw e at g
 
-pub sound-control : (kind : ℕ) (c : Cells) → OneSoundAt kind c → kind ≡ 3 → Sane c × (3 ≤ c .phase)
+pub sound-control : (kind : ℕ) (c : Cells) → OneSoundAt kind c → kind ≡ CONTROL → Sane c × (UNSET ≤ c .phase)
 unfolding OneSoundAt
 sound-control kind c g e = rw e at g
 
-pub sound-bare : (kind : ℕ) (c : Cells) → OneSoundAt kind c → (kind ≡ 2 → ⊥) → (kind ≡ 3 → ⊥) → 4 ≤ kind
+pub sound-bare : (kind : ℕ) (c : Cells) → OneSoundAt kind c → (kind ≡ UNTYPED → ⊥) → (kind ≡ CONTROL → ⊥) → ENCODER ≤ kind
 unfolding OneSoundAt
 sound-bare zero c g n m = absurd g
 sound-bare (suc zero) c g n m = absurd g
@@ -184,7 +186,7 @@ sound-bare (suc (suc (suc (suc k)))) c g n m = omega arith
 
 -- ---- a stream whose type is known
 
-bare-state : (kind : ℕ) (c : Cells) (seen : List ℕ) (allow : ℕ) (p : Control) (k rest : List ℕ) → 4 ≤ kind → feed seen allow (oneStateAt kind c p k) rest ≡ bareFeed kind rest
+bare-state : (kind : ℕ) (c : Cells) (seen : List ℕ) (allow : ℕ) (p : Control) (k rest : List ℕ) → ENCODER ≤ kind → feed seen allow (oneStateAt kind c p k) rest ≡ bareFeed kind rest
 unfolding oneStateAt bareFeed feed kind-feed
 bare-state zero c seen allow p k rest h = absurd (omega arith)
 bare-state (suc zero) c seen allow p k rest h = absurd (omega arith)
@@ -195,7 +197,7 @@ bare-state (suc (suc (suc (suc (suc zero))))) c seen allow p k rest h = refl
 bare-state (suc (suc (suc (suc (suc (suc n)))))) c seen allow p k rest h = refl
 
 module _ (o : OneWay) (seen : Seen) (s : List ℕ) (allow : ℕ) where
-  pub fed-bare : {r : OneAnswer} → 4 ≤ o .kind → Bare s 0 o r → OneFed o seen s allow r
+  pub fed-bare : {r : OneAnswer} → ENCODER ≤ o .kind → Bare s 0 o r → OneFed o seen s allow r
   fed-bare h bare = let b = bare o in record {
     is = λ p k st. bare-state (o .kind) (o .cells) (seenOf seen) allow p k s h ∙ sym (one-past-none _) ∙ b .is p k tt;
     within = b .within;
@@ -214,7 +216,7 @@ module _ (o : OneWay) (seen : Seen) (s : List ℕ) (allow : ℕ) where
   same-kind : (kind : ℕ) → o .kind ≡ kind → _≡_ {A = OneWay} (record { kind = kind; cells = o .cells }) o
   same-kind kind e = ap (λ n. record { kind = n; cells = o .cells }) (sym e)
 
-  pub fed-type : {r : OneAnswer} → o .kind ≡ 2 → OneFed (untyped (o .cells)) seen s allow r → OneFed o seen s allow r
+  pub fed-type : {r : OneAnswer} → o .kind ≡ UNTYPED → OneFed (untyped (o .cells)) seen s allow r → OneFed o seen s allow r
   fed-type e b = record {
     is = λ p k st. ap (λ n. feed (seenOf seen) allow (oneStateAt n (o .cells) p k) s) e ∙ b .is p k (rw e at st);
     within = b .within;
@@ -230,15 +232,15 @@ module _ (o : OneWay) (seen : Seen) (s : List ℕ) (allow : ℕ) where
     leaves = λ x y p k st. b .leaves x y p k (rw e at st);
   }
 
-  control-stands : (kind : ℕ) (p : Control) (k : List ℕ) → kind ≡ 3 → OneStands kind (o .cells) p k → framesStand (o .cells) p k
+  control-stands : (kind : ℕ) (p : Control) (k : List ℕ) → kind ≡ CONTROL → OneStands kind (o .cells) p k → framesStand (o .cells) p k
   unfolding OneStands
   control-stands kind p k e st = rw e at st
 
-  control-state : (kind : ℕ) (p : Control) (k : List ℕ) → kind ≡ 3 → feed (seenOf seen) allow (oneStateAt kind (o .cells) p k) s ≡ of-control (F.feed control allow (stateOf (o .cells) p k) s)
+  control-state : (kind : ℕ) (p : Control) (k : List ℕ) → kind ≡ CONTROL → feed (seenOf seen) allow (oneStateAt kind (o .cells) p k) s ≡ of-control (F.feed control allow (stateOf (o .cells) p k) s)
   unfolding oneStateAt feed
   control-state kind p k e = rw e refl
 
-  pub fed-control : {r : OneAnswer} → o .kind ≡ 3 → Controlled s 0 o (o .cells) allow r → OneFed o seen s allow r
+  pub fed-control : {r : OneAnswer} → o .kind ≡ CONTROL → Controlled s 0 o (o .cells) allow r → OneFed o seen s allow r
   fed-control e b = record {
     is = λ p k st. control-state (o .kind) p k e ∙ sym (one-past-none _) ∙ b .is p k (control-stands (o .kind) p k e st);
     within = b .within;
@@ -257,7 +259,7 @@ module _ (o : OneWay) (seen : Seen) (s : List ℕ) (allow : ℕ) where
 -- ---- a stream whose type is read
 
 fresh-frames : (k : List ℕ) → stateOf (cellsOf 0 0 3) unset k ≡ between unset
-unfolding stateAt headState prog
+unfolding modeState modeOf headState prog
 fresh-frames k = refl
 
 fresh-stands : StandsIn (cellsOf 0 0 3) (place.of-control unset)
@@ -285,7 +287,7 @@ kind-listed (is (a-qpack encoder)) number e h = absurd (omega arith)
 kind-listed (is (a-qpack decoder)) number e h = absurd (omega arith)
 kind-listed (is skipped) number e h = absurd (omega arith)
 
-control-feeds : (allow : ℕ) (x : Typed) (kind : ℕ) (rest : List ℕ) → kind ≡ kindNumber x → kind ≡ 3 → typed-feed allow x rest ≡ of-control (F.feed control allow (between unset) rest)
+control-feeds : (allow : ℕ) (x : Typed) (kind : ℕ) (rest : List ℕ) → kind ≡ kindNumber x → kind ≡ CONTROL → typed-feed allow x rest ≡ of-control (F.feed control allow (between unset) rest)
 unfolding kindNumber typed-feed kind-feed
 control-feeds allow (refuse c) kind rest e h = let l = code-high c in absurd (omega arith)
 control-feeds allow (is a-control) kind rest e h = refl
@@ -293,7 +295,7 @@ control-feeds allow (is (a-qpack encoder)) kind rest e h = absurd (omega arith)
 control-feeds allow (is (a-qpack decoder)) kind rest e h = absurd (omega arith)
 control-feeds allow (is skipped) kind rest e h = absurd (omega arith)
 
-bare-feeds : (allow : ℕ) (x : Typed) (kind : ℕ) (rest : List ℕ) → kind ≡ kindNumber x → (6 < kind → ⊥) → (kind ≡ 3 → ⊥) → (typed-feed allow x rest ≡ bareFeed kind rest) × (4 ≤ kind)
+bare-feeds : (allow : ℕ) (x : Typed) (kind : ℕ) (rest : List ℕ) → kind ≡ kindNumber x → (SKIPPED < kind → ⊥) → (kind ≡ CONTROL → ⊥) → (typed-feed allow x rest ≡ bareFeed kind rest) × (ENCODER ≤ kind)
 unfolding kindNumber typed-feed kind-feed bareFeed
 bare-feeds allow (refuse c) kind rest e h n = let l = code-high c in absurd (h (omega arith))
 bare-feeds allow (is a-control) kind rest e h n = absurd (n e)
@@ -345,7 +347,7 @@ module _ (c : Cells) (seen : Seen) (s : List ℕ) (allow : ℕ) (e : TypeEnd) (q
         → feed (seenOf seen) allow (oneState (untyped c) p k) s ≡ onePast (e .next) (f (drop (e .next) s))
     known-state f p k x = type-state p k ∙ ap (onePast (e .next)) (goes-typed (seenOf seen) allow (e .whole) (e .acc) (e .due) (drop (e .next) s) whole ∙ x)
 
-    pub typed-refused : Good (part (c .acc) (c .due)) → 6 < kind
+    pub typed-refused : Good (part (c .acc) (c .due)) → SKIPPED < kind
         → OneFed (untyped c) seen s allow (record { event = 4; start = e .next; len = kind; used = e .next; heads = 0; payload = 0; stream = untyped c })
     unfolding OneSoundAt onePast halt oneAnswerAt
     typed-refused g h = record {
@@ -374,11 +376,11 @@ module _ (c : Cells) (seen : Seen) (s : List ℕ) (allow : ℕ) (e : TypeEnd) (q
     unfolding OneStands
     is-unset p k st = st .0
 
-    pub frames-ask : {d : Cells} → Good (part (c .acc) (c .due)) → d ≡ cellsOf 0 0 3 → (e .next ≤ length s) × Sane d × (3 ≤ d .phase) × OneSound (untyped c)
+    pub frames-ask : {d : Cells} → Good (part (c .acc) (c .due)) → d ≡ cellsOf 0 0 3 → (e .next ≤ length s) × Sane d × (UNSET ≤ d .phase) × OneSound (untyped c)
     unfolding OneSoundAt
     frames-ask good f = let g = frame-sane 3 (omega arith) in rw f (q .within, g .0, g .1, good)
 
-    pub typed-control : {d : Cells} {r : OneAnswer} → kind ≡ 3 → d ≡ cellsOf 0 0 3 → Controlled s (e .next) (untyped c) d allow r → OneFed (untyped c) seen s allow r
+    pub typed-control : {d : Cells} {r : OneAnswer} → kind ≡ CONTROL → d ≡ cellsOf 0 0 3 → Controlled s (e .next) (untyped c) d allow r → OneFed (untyped c) seen s allow r
     typed-control {d} {r} h f b =
         let b′ : Controlled s (e .next) (untyped c) (cellsOf 0 0 3) allow r = rw f at b in
         record {
@@ -398,7 +400,7 @@ module _ (c : Cells) (seen : Seen) (s : List ℕ) (allow : ℕ) (e : TypeEnd) (q
           leaves = λ x y p k st. b′ .leaves x y p k (untyped-stands p k st);
         }
 
-    pub kind-bare : (6 < kind → ⊥) → (kind ≡ 3 → ⊥) → 4 ≤ kind
+    pub kind-bare : (SKIPPED < kind → ⊥) → (kind ≡ CONTROL → ⊥) → ENCODER ≤ kind
     kind-bare h n = bare-feeds allow _ kind (drop (e .next) s) is-kind h n .1
 
     bare-shape : (n : ℕ) (d : Cells) → 4 ≤ n → (6 < n → ⊥) → d ≡ cellsOf 0 0 0 → OneShapeAt n d
@@ -415,7 +417,7 @@ module _ (c : Cells) (seen : Seen) (s : List ℕ) (allow : ℕ) (e : TypeEnd) (q
         small (suc (suc zero)) u = omega arith
         small (suc (suc (suc n))) u = absurd (u (omega arith))
 
-    pub typed-bare : {d : Cells} {r : OneAnswer} → d ≡ cellsOf 0 0 0 → (6 < kind → ⊥) → (kind ≡ 3 → ⊥) → Bare s (e .next) (record { kind = kind; cells = d }) r → OneFed (untyped c) seen s allow r
+    pub typed-bare : {d : Cells} {r : OneAnswer} → d ≡ cellsOf 0 0 0 → (SKIPPED < kind → ⊥) → (kind ≡ CONTROL → ⊥) → Bare s (e .next) (record { kind = kind; cells = d }) r → OneFed (untyped c) seen s allow r
     typed-bare {d} f h n bare = let b = bare (untyped c) in record {
       is = λ p k st. known-state (bareFeed kind) p k (bare-feeds allow _ kind (drop (e .next) s) is-kind h n .0) ∙ b .is p k tt;
       within = b .within;

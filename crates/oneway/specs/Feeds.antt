@@ -10,7 +10,8 @@ use lib.Seq.{sets, sets-eq, length-sets, take-nil, take-all, take-append-seam, l
 use lib.Dec.{eqb}
 use mathlib.Core.Bool.{Bool, true, false}
 use borrow.Author.Tests.{le-ltb, eq-eqb, eqb-true, eqb-false}
-use Rattle.rules.specs.Numbers.{Code, codeNumber, coded}
+use Rattle.rules.specs.Events.{NOTHING, FAULT, KEPT, KEPT-PART, QPACK}
+use Rattle.rules.specs.Numbers.{ACCEPTED, Code, codeNumber, coded}
 use Rattle.rules.specs.Reading.{Kept as Payload, Next, stop, go, kept}
 use Rattle.rules.specs.Control.{Control, control, judged, Told}
 use Rattle.meaning.specs.Machine.{in-payload, between, answered}
@@ -20,11 +21,13 @@ use Rattle.meaning.specs.Feed as F
 use Rattle.meaning.specs.FeedLaws.{past, kept-short}
 use Rattle.meaning.specs.OneWayFeed.{OneState, OneFeeding, OneOutcome, lives, dies, of-frames, in-control, controlled, of-control, feed}
 use Rattle.varint.specs.ByByte.{prog}
+use Rattle.streams.specs.Modes.{IN-SETTINGS, SET}
 use Rattle.streams.specs.declared.Cells.{Cells}
 use Rattle.streams.specs.Both as both
 use Rattle.streams.specs.Heads.{headState}
 use Rattle.streams.specs.Parts.{judgedAs, kept-judged}
-use Rattle.streams.specs.Answers.{keptAt, stateAt, stateOf, StandsIn, Sane}
+use Rattle.streams.specs.Answers.{kept-state, keptAt, stateOf, StandsIn, Sane}
+use Rattle.record.specs.Kinds.{CONTROL}
 use Rattle.record.specs.declared.Record.{Record}
 use Rattle.record.specs.Row.{placeIn, oneWayRecord, free-record}
 use Rattle.record.specs.Sound.{Fit, cellsIn, stream, Written}
@@ -62,10 +65,10 @@ pub behind-sound : OneSoundAt 3 (cellsOf 0 0 4) × OneShapeAt 3 (cellsOf 0 0 4)
 unfolding OneSoundAt OneShapeAt
 behind-sound = (frame-sane 4 (omega arith), (omega arith, λ l. absurd (omega arith)))
 
-pub behind-fit : (id : ℕ) → id < 2 ^ 62 → id % 4 ≡ 2 → Fit 3 id (cellsOf 0 0 4)
+pub behind-fit : (id : ℕ) → id < 2 ^ 62 → id % 4 ≡ 2 → Fit CONTROL id (cellsOf 0 0 4)
 behind-fit id i m = one-fit id i m (record { kind = 3; cells = cellsOf 0 0 4 }) (behind-sound .0) (behind-sound .1)
 
-behind-row : (id : ℕ) (p : Control) {q : Record} → OneStands 3 (frameCells 4) p [] → id < 2 ^ 62 → id % 4 ≡ 2 → Written (stream 3 id (cellsOf 0 0 4)) q → q ≡ oneWayRecord id (in-control (between p))
+behind-row : (id : ℕ) (p : Control) {q : Record} → OneStands 3 (frameCells 4) p [] → id < 2 ^ 62 → id % 4 ≡ 2 → Written (stream CONTROL id (cellsOf 0 0 4)) q → q ≡ oneWayRecord id (in-control (between p))
 unfolding OneStands
 behind-row id p st i m w = control-row id (cellsOf 0 0 4) p [] (st .0) (behind-fit id i m) w ∙ ap (oneWayRecord id) (unfold oneStateAt in behind-between p)
 
@@ -83,7 +86,7 @@ module _ (which phase : ℕ) (payload : List ℕ) (used heads : ℕ) (r : Record
   unfolding judgedAs
   wants-is = refl
 
-  refused-as : (n : Next Control) (told : Told) (v : Verdict) → Says was told v n → (v .number ≡ 0 → ⊥) → heard (v .number) 0 0 0 used heads 0 r d ≡ wants n
+  refused-as : (n : Next Control) (told : Told) (v : Verdict) → Says was told v n → (v .number ≡ ACCEPTED → ⊥) → heard (v .number) 0 0 0 used heads 0 r d ≡ wants n
   unfolding Says saidBy of-control past halt judged-event answered controlled
   refused-as (stop code) told v s z =
       let u = add-zero used in
@@ -91,9 +94,9 @@ module _ (which phase : ℕ) (payload : List ℕ) (used heads : ℕ) (r : Record
       rw (s, u, h) refl
   refused-as (go q) told v s z = absurd (z (s .0))
 
-  good-as : (n : Next Control) (told : Told) (v : Verdict) → n ≡ judgement → Says was told v n → v .number ≡ 0 → {q : Record} {tidy : Kept} {side : Side} {event value : ℕ}
+  good-as : (n : Next Control) (told : Told) (v : Verdict) → n ≡ judgement → Says was told v n → v .number ≡ ACCEPTED → {q : Record} {tidy : Kept} {side : Side} {event value : ℕ}
       → r .id < 2 ^ 62 → r .id % 4 ≡ 2 → tidy ≡ keptNumbers (controlOf (v .kept)) → event ≡ takenNumber (keptAt which) → value ≡ valueIn (keptAt which) tidy
-      → Written (stream 3 (r .id) (cellsOf 0 0 4)) q → side ≡ sideOf 1 (d .encoder) (d .decoder) tidy 0 (replicate 256 0) → heard 0 event 0 0 used heads value q side ≡ wants n
+      → Written (stream CONTROL (r .id) (cellsOf 0 0 4)) q → side ≡ sideOf 1 (d .encoder) (d .decoder) tidy 0 (replicate 256 0) → heard 0 event 0 0 used heads value q side ≡ wants n
   unfolding Says saidBy of-control past halt judged-event answered controlled frameEvent frameValue sideAfter sofarIn placeIn
   good-as (stop code) told v j s z i m t e f w g = let x : v .number ≡ codeNumber code = ap (λ y. y .number) s in let h = code-high code in absurd (omega arith)
   good-as (go p) told v j s z {q} i m t e f w g =
@@ -112,46 +115,46 @@ module _ (which phase : ℕ) (payload : List ℕ) (used heads : ℕ) (r : Record
   unfolding judgedAs
   fed-is = refl
 
-  refused-stays : (n : Next Control) (told : Told) (v : Verdict) → Says was told v n → (v .number ≡ 0 → ⊥) → (row : Record) (side : Side) → Stays row side (wants-fed n)
+  refused-stays : (n : Next Control) (told : Told) (v : Verdict) → Says was told v n → (v .number ≡ ACCEPTED → ⊥) → (row : Record) (side : Side) → Stays row side (wants-fed n)
   unfolding Says of-control past halt answered controlled
   refused-stays (stop code) told v s z row side t e = absurd (dies-not e)
   refused-stays (go q) told v s z row side t e = absurd (z (s .0))
 
-  good-stays : (n : Next Control) (told : Told) (v : Verdict) → n ≡ judgement → Says was told v n → v .number ≡ 0 → {q : Record} {tidy : Kept} {side : Side}
+  good-stays : (n : Next Control) (told : Told) (v : Verdict) → n ≡ judgement → Says was told v n → v .number ≡ ACCEPTED → {q : Record} {tidy : Kept} {side : Side}
       → r .id < 2 ^ 62 → r .id % 4 ≡ 2 → tidy ≡ keptNumbers (controlOf (v .kept))
-      → Written (stream 3 (r .id) (cellsOf 0 0 4)) q → side ≡ sideOf 1 (d .encoder) (d .decoder) tidy 0 (replicate 256 0) → Stays q side (wants-fed n)
+      → Written (stream CONTROL (r .id) (cellsOf 0 0 4)) q → side ≡ sideOf 1 (d .encoder) (d .decoder) tidy 0 (replicate 256 0) → Stays q side (wants-fed n)
   unfolding Says of-control past halt judged-event answered controlled sideAfter sofarIn placeIn OneStands StandsAt
   good-stays (stop code) told v j s z i m t w g x e = absurd (dies-not e)
   good-stays (go p) told v j s z {q} {tidy} {side} i m t w g x e =
       let st = behind-judged (keptAt which) (controlOf was) p payload (sym j) in
-      let at : oneStateAt 3 (cellsOf 0 0 4) p [] ≡ in-control (between p) = behind-between p in
+      let at : oneStateAt CONTROL (cellsOf 0 0 4) p [] ≡ in-control (between p) = behind-between p in
       let nil = take-nil {A = ℕ} 256 in
       let here : side ≡ sideAfter d (in-control (between p)) = (let n = s .1 in g ∙ rw (t, n, nil) refl) in
       let is : in-control (between p) ≡ x = lives-one e in
       let b = left-back (r .id) (cellsOf 0 0 4) p [] 3 (st .0) (behind-sound .1) (behind-fit (r .id) i m) w (subst OneFits (sym at) tt) d side (here ∙ ap (sideAfter d) (sym at)) in
       (b .0, b .1 ∙ at ∙ is)
 
-  pub judged-refused-stays : (v : Verdict) → v ≡ judgedOf which was payload → (v .number ≡ 0 → ⊥) → (row : Record) (side : Side) → Stays row side (judging which phase payload used heads d)
+  pub judged-refused-stays : (v : Verdict) → v ≡ judgedOf which was payload → (v .number ≡ ACCEPTED → ⊥) → (row : Record) (side : Side) → Stays row side (judging which phase payload used heads d)
   judged-refused-stays v e z row side =
       let x = judged-says was payload which in
       subst (Stays row side) fed-is (refused-stays judgement (x .0) v (subst (λ y. Says was (x .0) y judgement) (sym e) (x .1)) z row side)
 
-  pub judged-good-stays : (v : Verdict) → v ≡ judgedOf which was payload → v .number ≡ 0 → {q : Record} {tidy : Kept} {side : Side}
+  pub judged-good-stays : (v : Verdict) → v ≡ judgedOf which was payload → v .number ≡ ACCEPTED → {q : Record} {tidy : Kept} {side : Side}
       → r .id < 2 ^ 62 → r .id % 4 ≡ 2 → tidy ≡ keptNumbers (controlOf (v .kept))
-      → Written (stream 3 (r .id) (cellsOf 0 0 4)) q → side ≡ sideOf 1 (d .encoder) (d .decoder) tidy 0 (replicate 256 0) → Stays q side (judging which phase payload used heads d)
+      → Written (stream CONTROL (r .id) (cellsOf 0 0 4)) q → side ≡ sideOf 1 (d .encoder) (d .decoder) tidy 0 (replicate 256 0) → Stays q side (judging which phase payload used heads d)
   judged-good-stays v e z {q} {tidy} {side} i m t w g =
       let x = judged-says was payload which in
       subst (Stays q side) fed-is
       (good-stays judgement (x .0) v refl (subst (λ y. Says was (x .0) y judgement) (sym e) (x .1)) z i m t w g)
 
-  pub judged-refused : (v : Verdict) → v ≡ judgedOf which was payload → (v .number ≡ 0 → ⊥) → heard (v .number) 0 0 0 used heads 0 r d ≡ judgedHere which phase payload used heads r d
+  pub judged-refused : (v : Verdict) → v ≡ judgedOf which was payload → (v .number ≡ ACCEPTED → ⊥) → heard (v .number) 0 0 0 used heads 0 r d ≡ judgedHere which phase payload used heads r d
   judged-refused v e z =
       let x = judged-says was payload which in
       refused-as judgement (x .0) v (subst (λ y. Says was (x .0) y judgement) (sym e) (x .1)) z ∙ wants-is
 
-  pub judged-good : (v : Verdict) → v ≡ judgedOf which was payload → v .number ≡ 0 → {q : Record} {tidy : Kept} {side : Side} {event value : ℕ}
+  pub judged-good : (v : Verdict) → v ≡ judgedOf which was payload → v .number ≡ ACCEPTED → {q : Record} {tidy : Kept} {side : Side} {event value : ℕ}
       → r .id < 2 ^ 62 → r .id % 4 ≡ 2 → tidy ≡ keptNumbers (controlOf (v .kept)) → event ≡ takenNumber (keptAt which) → value ≡ valueIn (keptAt which) tidy
-      → Written (stream 3 (r .id) (cellsOf 0 0 4)) q → side ≡ sideOf 1 (d .encoder) (d .decoder) tidy 0 (replicate 256 0) → heard 0 event 0 0 used heads value q side ≡ judgedHere which phase payload used heads r d
+      → Written (stream CONTROL (r .id) (cellsOf 0 0 4)) q → side ≡ sideOf 1 (d .encoder) (d .decoder) tidy 0 (replicate 256 0) → heard 0 event 0 0 used heads value q side ≡ judgedHere which phase payload used heads r d
   judged-good v e z i m t f g w h =
       let x = judged-says was payload which in
       good-as judgement (x .0) v refl (subst (λ y. Says was (x .0) y judgement) (sym e) (x .1)) z i m t f g w h ∙ wants-is
@@ -165,19 +168,19 @@ module _ (r : Record) (d : Side) (start len used heads payload : ℕ) (w : OneWa
   abbrev leaves : (event value start′ len′ : ℕ) → List ℕ → Heard
   leaves event value start′ len′ k = heard 0 event start′ len′ used heads value (oneWayRecord (r .id) (oneState w p k)) (sideAfter d (oneState w p k))
 
-  said-fault : (event : ℕ) → event ≡ 4 → codeNumber (coded len) ≡ len → heard len 0 0 0 used heads 0 r d ≡ says event
+  said-fault : (event : ℕ) → event ≡ FAULT → codeNumber (coded len) ≡ len → heard len 0 0 0 used heads 0 r d ≡ says event
   unfolding oneAnswerAt saidBy
   said-fault event e n = rw e (ap (λ x. heard x 0 0 0 used heads 0 r d) (sym n))
 
-  said-part : (event : ℕ) → event ≡ 6 → leaves 0 0 0 0 (take len (drop start s)) ≡ says event
+  said-part : (event : ℕ) → event ≡ KEPT-PART → leaves 0 0 0 0 (take len (drop start s)) ≡ says event
   unfolding oneAnswerAt saidBy frameEvent frameValue
   said-part event e = rw e refl
 
-  said-qpack : (event : ℕ) → event ≡ 7 → leaves 7 (typeNumber (qpackOf (w .kind))) (used - len) len [] ≡ says event
+  said-qpack : (event : ℕ) → event ≡ QPACK → leaves 7 (typeNumber (qpackOf (w .kind))) (used - len) len [] ≡ says event
   unfolding oneAnswerAt saidBy
   said-qpack event e = rw e refl
 
-  said-quiet : (event : ℕ) → event ≡ 0 → leaves 0 0 0 0 [] ≡ says event
+  said-quiet : (event : ℕ) → event ≡ NOTHING → leaves 0 0 0 0 [] ≡ says event
   unfolding oneAnswerAt saidBy frameEvent frameValue
   said-quiet event e = rw e refl
 
@@ -202,11 +205,11 @@ begun-few event len = by (eqb event 6)
 below-four : (e : ℕ) → e ≤ 7 → (e ≡ 4 → ⊥) → (e ≡ 5 → ⊥) → (e ≡ 6 → ⊥) → (e ≡ 7 → ⊥) → e < 4
 below-four e h a b c d = omega arith
 
-pub begun-six : (event len : ℕ) → event ≡ 6 → begunIn event len ≡ min len 256
+pub begun-six : (event len : ℕ) → event ≡ KEPT-PART → begunIn event len ≡ min len 256
 unfolding begunIn
 begun-six event len e = let x = eq-eqb event 6 e in rw (x, begunIn) refl
 
-module _ (r : Record) (o : Heeds r) (d : Side) {c : Cells} (ec : c ≡ cellsIn r) (m : c .mode < 8) (s : List ℕ) (allow : ℕ) (a : OneAnswer)
+module _ (r : Record) (o : Heeds r) (d : Side) {c : Cells} (ec : c ≡ cellsIn r) (m : c .mode < IN-SETTINGS) (s : List ℕ) (allow : ℕ) (a : OneAnswer)
     (fed : OneFed (record { kind = r .kind; cells = c }) (record { control = d .control; encoder = d .encoder; decoder = d .decoder }) s allow a) where
   abbrev want : Heard
   want = fedHere r d allow s (stateHere r d)
@@ -217,7 +220,7 @@ module _ (r : Record) (o : Heeds r) (d : Side) {c : Cells} (ec : c ≡ cellsIn r
   pub own-fed : OneFed (record { kind = r .kind; cells = cellsIn r }) (record { control = d .control; encoder = d .encoder; decoder = d .decoder }) s allow a
   own-fed = rw ec at fed
 
-  low : r .mode < 8
+  low : r .mode < IN-SETTINGS
   low = rw ec at m
 
   wanted : said r d (oneAnswerAt (a .event) (a .start) (a .len) (a .used) (a .heads) (a .payload) (a .stream) p [] s) ≡ want
@@ -234,40 +237,40 @@ module _ (r : Record) (o : Heeds r) (d : Side) {c : Cells} (ec : c ≡ cellsIn r
   pub on-fit : Fit (after .kind) (r .id) (after .cells)
   on-fit = let h = o .sound .fit .shaped in one-fit (r .id) (h .ids) (h .one-way-id (o .kind)) after (own-fed .sound) shape-after
 
-  pub on-fault : a .event ≡ 4 → {x : Heard} → x ≡ heard (a .len) 0 0 0 (a .used) (a .heads) 0 r d → x ≡ want
+  pub on-fault : a .event ≡ FAULT → {x : Heard} → x ≡ heard (a .len) 0 0 0 (a .used) (a .heads) 0 r d → x ≡ want
   on-fault e q = q ∙ said-fault r d (a .start) (a .len) (a .used) (a .heads) (a .payload) after p s (a .event) e (own-fed .listed e) ∙ wanted
 
   is-fed : feeding d allow s (stateHere r d) ≡ oneAnswerAt (a .event) (a .start) (a .len) (a .used) (a .heads) (a .payload) after p [] s
   is-fed = ap (λ k. feeding d allow s (oneStateAt (r .kind) (cellsIn r) p k)) (none-held r o d low) ∙ own-fed .is p [] (stands-here r o d)
 
-  fault-after : (event start len used heads payload : ℕ) (k : List ℕ) → event ≡ 4 → oneAnswerAt event start len used heads payload after p k s .after ≡ dies (coded len)
+  fault-after : (event start len used heads payload : ℕ) (k : List ℕ) → event ≡ FAULT → oneAnswerAt event start len used heads payload after p k s .after ≡ dies (coded len)
   unfolding oneAnswerAt
   fault-after event start len used heads payload k e = rw e refl
 
-  pub fault-stays : a .event ≡ 4 → (row : Record) (side : Side) → Stays row side (feeding d allow s (stateHere r d))
+  pub fault-stays : a .event ≡ FAULT → (row : Record) (side : Side) → Stays row side (feeding d allow s (stateHere r d))
   fault-stays e row side t f = absurd (dies-not (sym (ap (λ y. y .after) is-fed ∙ fault-after (a .event) (a .start) (a .len) (a .used) (a .heads) (a .payload) [] e) ∙ f))
 
-  part-is : (a .event ≡ 4 → ⊥) → a .start + a .len ≡ a .used
+  part-is : (a .event ≡ FAULT → ⊥) → a .start + a .len ≡ a .used
   part-is n = ⊎-elim (λ e. e) (λ e. absurd (n e)) (own-fed .part)
 
-  pub part-from : (a .event ≡ 4 → ⊥) → a .start ≤ a .used
+  pub part-from : (a .event ≡ FAULT → ⊥) → a .start ≤ a .used
   part-from n = let e = part-is n in omega arith
 
-  pub part-in : (a .event ≡ 4 → ⊥) → {n : ℕ} → n ≡ begunIn (a .event) (a .len) → a .start + n ≤ length s
+  pub part-in : (a .event ≡ FAULT → ⊥) → {n : ℕ} → n ≡ begunIn (a .event) (a .len) → a .start + n ≤ length s
   part-in n q = let e = part-is n in let l = begun-low (a .event) (a .len) in omega (arith, own-fed .within)
 
-  judged-answer : (event start len used heads payload : ℕ) → event ≡ 5 → of-control (past used heads (judgedAs control 0 p (keptAt payload) (take len (drop start s)))) ≡ oneAnswerAt event start len used heads payload after p [] s
+  judged-answer : (event start len used heads payload : ℕ) → event ≡ KEPT → of-control (past used heads (judgedAs control 0 p (keptAt payload) (take len (drop start s)))) ≡ oneAnswerAt event start len used heads payload after p [] s
   unfolding oneAnswerAt
   judged-answer event start len used heads payload e = rw e refl
 
-  pub on-judged : a .event ≡ 5 → {phase : ℕ} → phase ≡ c .phase → {all : List ℕ} → all ≡ take (a .used - a .start) (drop (a .start) s)
+  pub on-judged : a .event ≡ KEPT → {phase : ℕ} → phase ≡ c .phase → {all : List ℕ} → all ≡ take (a .used - a .start) (drop (a .start) s)
       → judging (a .payload) phase all (a .used) (a .heads) d ≡ feeding d allow s (stateHere r d)
   on-judged e f g =
       let l : a .used - a .start ≡ a .len = (let z = part-is (λ y. omega arith) in omega arith) in
       let ph : c .phase ≡ r .phase = ap (λ y. y .phase) ec in
       rw (g, l, f, ph) (judged-answer (a .event) (a .start) (a .len) (a .used) (a .heads) (a .payload) e ∙ sym is-fed)
 
-  module _ (n4 : a .event ≡ 4 → ⊥) (n5 : a .event ≡ 5 → ⊥) {row : Record} (written : Written (stream (after .kind) (r .id) (after .cells)) row)
+  module _ (n4 : a .event ≡ FAULT → ⊥) (n5 : a .event ≡ KEPT → ⊥) {row : Record} (written : Written (stream (after .kind) (r .id) (after .cells)) row)
       {side : Side} (beside : side ≡ sideBy (after .kind) (c .phase) d (take (begunIn (a .event) (a .len)) (drop (a .start) s))) where
     pub row-is : (k : List ℕ) → row ≡ oneWayRecord (r .id) (oneState after p k)
     row-is k = row-of-state (r .id) (after .cells) p k (after .kind) (own-fed .leaves n4 n5 p [] (stands-here r o d)) shape-after on-fit written
@@ -277,13 +280,13 @@ module _ (r : Record) (o : Heeds r) (d : Side) {c : Cells} (ec : c ≡ cellsIn r
         let ph : c .phase ≡ r .phase = ap (λ y. y .phase) ec in
         beside ∙ rw (e, ph) (side-of-state d (r .phase) (after .cells) k (after .kind) f)
 
-    pub none-begun : (a .event ≡ 6 → ⊥) → take (begunIn (a .event) (a .len)) (drop (a .start) s) ≡ take {A = ℕ} 256 []
+    pub none-begun : (a .event ≡ KEPT-PART → ⊥) → take (begunIn (a .event) (a .len)) (drop (a .start) s) ≡ take {A = ℕ} 256 []
     none-begun n = let z = begun-none (a .event) (a .len) n in ap (λ y. take y (drop (a .start) s)) (sym z) ∙ sym (take-nil 256)
 
     pub none-kept : sofarIn (stateOf (after .cells) p []) ≡ []
     none-kept = sofar-none (after .cells .mode) (after .cells .acc) (after .cells .due) (after .cells .ftype) p
 
-    pub on-qpack : a .event ≡ 7 → {value : ℕ} → value ≡ typeNumber (qpackOf (after .kind)) → heard 0 7 (a .start) (a .len) (a .used) (a .heads) value row side ≡ want
+    pub on-qpack : a .event ≡ QPACK → {value : ℕ} → value ≡ typeNumber (qpackOf (after .kind)) → heard 0 7 (a .start) (a .len) (a .used) (a .heads) value row side ≡ want
     on-qpack e v =
         let l : a .start ≡ a .used - a .len = (let z = part-is n4 in omega arith) in
         let x = row-is [] in
@@ -298,11 +301,11 @@ module _ (r : Record) (o : Heeds r) (d : Side) {c : Cells} (ec : c ≡ cellsIn r
         let b = left-back (r .id) (after .cells) p k (after .kind) (own-fed .leaves n4 n5 p [] (stands-here r o d)) shape-after on-fit written (rw (sym is) at fit) d side g in
         (b .0, b .1 ∙ is)
 
-    part-after : (event start len used heads payload : ℕ) → event ≡ 6 → oneAnswerAt event start len used heads payload after p [] s .after ≡ lives (oneState after p (take len (drop start s)))
+    part-after : (event start len used heads payload : ℕ) → event ≡ KEPT-PART → oneAnswerAt event start len used heads payload after p [] s .after ≡ lives (oneState after p (take len (drop start s)))
     unfolding oneAnswerAt
     part-after event start len used heads payload e = rw e refl
 
-    plain-after : (event start len used heads payload : ℕ) → (event ≡ 4 → ⊥) → (event ≡ 5 → ⊥) → (event ≡ 6 → ⊥) → oneAnswerAt event start len used heads payload after p [] s .after ≡ lives (oneState after p [])
+    plain-after : (event start len used heads payload : ℕ) → (event ≡ FAULT → ⊥) → (event ≡ KEPT → ⊥) → (event ≡ KEPT-PART → ⊥) → oneAnswerAt event start len used heads payload after p [] s .after ≡ lives (oneState after p [])
     unfolding oneAnswerAt
     plain-after zero start len used heads payload x y z = refl
     plain-after (suc zero) start len used heads payload x y z = refl
@@ -313,21 +316,21 @@ module _ (r : Record) (o : Heeds r) (d : Side) {c : Cells} (ec : c ≡ cellsIn r
     plain-after (suc (suc (suc (suc (suc (suc zero)))))) start len used heads payload x y z = absurd (z refl)
     plain-after (suc (suc (suc (suc (suc (suc (suc n))))))) start len used heads payload x y z = refl
 
-    part-beside : a .event ≡ 6 → side ≡ sideAfter d (oneState after p (take (a .len) (drop (a .start) s)))
+    part-beside : a .event ≡ KEPT-PART → side ≡ sideAfter d (oneState after p (take (a .len) (drop (a .start) s)))
     part-beside e =
         let k = take (a .len) (drop (a .start) s) in
         let h = own-fed .held e in
         let b = begun-six (a .event) (a .len) e in
         side-is k (ap (λ z. take z (drop (a .start) s)) b ∙ take-least (a .len) (drop (a .start) s)) (sofar-kept (after .cells .mode) (after .cells .acc) (after .cells .due) (after .cells .ftype) p k (h .1))
 
-    pub on-part : a .event ≡ 6 → heard 0 0 0 0 (a .used) (a .heads) 0 row side ≡ want
+    pub on-part : a .event ≡ KEPT-PART → heard 0 0 0 0 (a .used) (a .heads) 0 row side ≡ want
     on-part e =
         let k = take (a .len) (drop (a .start) s) in
         let x = row-is k in
         let y = part-beside e in
         rw (x, y) (said-part r d (a .start) (a .len) (a .used) (a .heads) (a .payload) after p s (a .event) e ∙ wanted)
 
-    on-quiet : a .event ≡ 0 → heard 0 0 0 0 (a .used) (a .heads) 0 row side ≡ want
+    on-quiet : a .event ≡ NOTHING → heard 0 0 0 0 (a .used) (a .heads) 0 row side ≡ want
     on-quiet e =
         let x = row-is [] in
         let y = side-is [] (none-begun (λ z. omega arith)) none-kept in
@@ -342,7 +345,7 @@ module _ (r : Record) (o : Heeds r) (d : Side) {c : Cells} (ec : c ≡ cellsIn r
         by false e = let q = eqb-false (a .event) 6 e in stays-at [] (plain-after (a .event) (a .start) (a .len) (a .used) (a .heads) (a .payload) n4 n5 q) (side-is [] (none-begun q) none-kept)
 
     -- nothing else comes
-    pub on-other : (a .event ≡ 7 → ⊥) → heard 0 0 0 0 (a .used) (a .heads) 0 row side ≡ want
+    pub on-other : (a .event ≡ QPACK → ⊥) → heard 0 0 0 0 (a .used) (a .heads) 0 row side ≡ want
     on-other n7 = by (eqb (a .event) 6) refl
       where
         by : (b : Bool) → eqb (a .event) 6 ≡ b → heard 0 0 0 0 (a .used) (a .heads) 0 row side ≡ want
@@ -350,20 +353,20 @@ module _ (r : Record) (o : Heeds r) (d : Side) {c : Cells} (ec : c ≡ cellsIn r
         by false e = on-quiet (own-fed .plain (heeds-shape r o) (below-four (a .event) (own-fed .known) n4 n5 (eqb-false (a .event) 6 e) n7))
 
 -- what a judgement asks
-pub heeds-asks : (r : Record) → Heeds r → {c : Cells} → c ≡ cellsIn r → (c .phase ≤ 4) × (r .id < 2 ^ 62) × (r .id % 4 ≡ 2)
+pub heeds-asks : (r : Record) → Heeds r → {c : Cells} → c ≡ cellsIn r → (c .phase ≤ SET) × (r .id < 2 ^ 62) × (r .id % 4 ≡ 2)
 heeds-asks r o {c} ec = let h = o .sound .fit .shaped in let e : c .phase ≡ r .phase = ap (λ x. x .phase) ec in (omega (arith, h .phases), h .ids, h .one-way-id (o .kind))
 
 -- ---- on with a payload that an earlier piece began
 
-module _ (r : Record) (o : Heeds r) (d : Side) {c : Cells} (ec : c ≡ cellsIn r) (m : 8 ≤ c .mode) (s : List ℕ) (allow : ℕ) where
-  kept-mode : 8 ≤ r .mode
+module _ (r : Record) (o : Heeds r) (d : Side) {c : Cells} (ec : c ≡ cellsIn r) (m : IN-SETTINGS ≤ c .mode) (s : List ℕ) (allow : ℕ) where
+  kept-mode : IN-SETTINGS ≤ r .mode
   kept-mode = rw ec at m
 
   -- it is a control stream
-  pub kept-kind : r .kind ≡ 3
+  pub kept-kind : r .kind ≡ CONTROL
   kept-kind = by (eqb (r .kind) 3) refl
     where
-      by : (b : Bool) → eqb (r .kind) 3 ≡ b → r .kind ≡ 3
+      by : (b : Bool) → eqb (r .kind) 3 ≡ b → r .kind ≡ CONTROL
       by true e = eqb-true (r .kind) 3 e
       by false e = let z = o .sound .fit .shaped .bare-mode (o .kind) (eqb-false (r .kind) 3 e) in absurd (omega (arith, kept-mode))
 
@@ -375,27 +378,15 @@ module _ (r : Record) (o : Heeds r) (d : Side) {c : Cells} (ec : c ≡ cellsIn r
 
   held-is : {n : ℕ} → n ≡ min (d .held) (256 - c .acc) → n ≡ heldIn (r .mode) (r .acc) (d .held)
   unfolding heldIn
-  held-is q = let x = le-ltb (r .mode) 8 kept-mode in let e : c .acc ≡ r .acc = ap (λ y. y .acc) ec in q ∙ rw (x, heldIn, e) refl
+  held-is q = let x = le-ltb (r .mode) IN-SETTINGS kept-mode in let e : c .acc ≡ r .acc = ap (λ y. y .acc) ec in q ∙ rw (x, heldIn, e) refl
 
   abbrev sofar : List ℕ
   sofar = sofarHere r d
 
-  payload-state : (mode a e t : ℕ) (k : List ℕ) (p : Control) → 8 ≤ mode → stateAt mode a e t p k ≡ in-payload (kept (keptAt mode)) k (a - 1) p
-  unfolding stateAt
-  payload-state zero a e t k p h = absurd (omega arith)
-  payload-state (suc zero) a e t k p h = absurd (omega arith)
-  payload-state (suc (suc zero)) a e t k p h = absurd (omega arith)
-  payload-state (suc (suc (suc zero))) a e t k p h = absurd (omega arith)
-  payload-state (suc (suc (suc (suc zero)))) a e t k p h = absurd (omega arith)
-  payload-state (suc (suc (suc (suc (suc zero))))) a e t k p h = absurd (omega arith)
-  payload-state (suc (suc (suc (suc (suc (suc zero)))))) a e t k p h = absurd (omega arith)
-  payload-state (suc (suc (suc (suc (suc (suc (suc zero))))))) a e t k p h = absurd (omega arith)
-  payload-state (suc (suc (suc (suc (suc (suc (suc (suc n)))))))) a e t k p h = refl
-
-  pub frames-want : (kind : ℕ) → kind ≡ 3 → feed (typesOf (d .control) (d .encoder) (d .decoder)) allow (oneStateAt kind (cellsIn r) (placeHere r d) sofar) s
+  pub frames-want : (kind : ℕ) → kind ≡ CONTROL → feed (typesOf (d .control) (d .encoder) (d .decoder)) allow (oneStateAt kind (cellsIn r) (placeHere r d) sofar) s
       ≡ of-control (F.feed control allow (in-payload (kept (keptAt (r .mode))) sofar (r .acc - 1) (placeHere r d)) s)
   unfolding oneStateAt feed
-  frames-want kind e = rw e (ap (λ x. of-control (F.feed control allow x s)) (payload-state (r .mode) (r .acc) (r .due) (r .ftype) sofar (placeHere r d) kept-mode))
+  frames-want kind e = rw e (ap (λ x. of-control (F.feed control allow x s)) (kept-state (r .mode) (r .acc) (r .due) (r .ftype) (placeHere r d) sofar kept-mode))
 
   kept-fed : feeding d allow s (stateHere r d) ≡ of-control (F.feed control allow (in-payload (kept (keptAt (r .mode))) sofar (r .acc - 1) (placeHere r d)) s)
   kept-fed = frames-want (r .kind) kept-kind
@@ -446,7 +437,7 @@ module _ (r : Record) (o : Heeds r) (d : Side) {c : Cells} (ec : c ≡ cellsIn r
     unfolding OneSoundAt OneShapeAt
     less-sound = let h = o .sound .fit .shaped in ((less-sane, h .control-phase kept-kind), (h .phases, h .control-mode kept-kind))
 
-    pub kept-fit : {e : Cells} → e ≡ less → Fit 3 (r .id) e
+    pub kept-fit : {e : Cells} → e ≡ less → Fit CONTROL (r .id) e
     kept-fit q = let h = o .sound .fit .shaped in rw q (one-fit (r .id) (h .ids) (h .one-way-id (o .kind)) (record { kind = 3; cells = less }) (less-sound .0) (less-sound .1))
 
     part-fed : feeding d allow s (stateHere r d) ≡ record { used = length s; heads = 0; event = of-frames F.quiet; after = lives (in-control (stateOf less (placeHere r d) (sofar ++ s))) }
@@ -455,7 +446,7 @@ module _ (r : Record) (o : Heeds r) (d : Side) {c : Cells} (ec : c ≡ cellsIn r
         let left : (r .acc - 1) - length s ≡ (r .acc - length s) - 1 = omega arith in
         let here = placeHere r d in
         let k = sofar ++ s in
-        let st : stateOf less here k ≡ in-payload (kept (keptAt (r .mode))) k ((r .acc - 1) - length s) here = payload-state (r .mode) (r .acc - length s) (r .due) (r .ftype) k here kept-mode ∙ ap (λ x. in-payload (kept (keptAt (r .mode))) k x here) (sym left) in
+        let st : stateOf less here k ≡ in-payload (kept (keptAt (r .mode))) k ((r .acc - 1) - length s) here = kept-state (r .mode) (r .acc - length s) (r .due) (r .ftype) here k kept-mode ∙ ap (λ x. in-payload (kept (keptAt (r .mode))) k x here) (sym left) in
         let ks = kept-short control allow here (keptAt (r .mode)) (r .acc - 1) sofar s (omega (arith, less-acc)) in
         kept-fed ∙ ap of-control ks ∙ rw st refl
 
@@ -478,8 +469,8 @@ module _ (r : Record) (o : Heeds r) (d : Side) {c : Cells} (ec : c ≡ cellsIn r
           let sd = control-side d (r .phase) less k (sofar-kept (r .mode) (r .acc - length s) (r .due) (r .ftype) (placeHere r d) k kept-mode) in
           hd ∙ rw (ht, ph, lk, all-is) (rw tk at sd)
 
-      module _ {e : Cells} {row : Record} (he : e ≡ less) (w : Written (stream 3 (r .id) e) row) where
-        less-written : Written (stream 3 (r .id) less) row
+      module _ {e : Cells} {row : Record} (he : e ≡ less) (w : Written (stream CONTROL (r .id) e) row) where
+        less-written : Written (stream CONTROL (r .id) less) row
         less-written = rw he at w
 
         pub kept-part : heard 0 0 0 0 (length s) 0 0 row side ≡ fedHere r d allow s (stateHere r d)

@@ -7,6 +7,7 @@ use mathlib.Core.Logic.{_⊎_, inl, inr}
 use lib.ListN.{length, take, drop, length-drop}
 use lib.Seq.{drop-drop, take-all}
 use mathlib.Core.Option.{none}
+use Rattle.rules.specs.Events.{NOTHING, FAULT, KEPT, KEPT-PART}
 use Rattle.rules.specs.Numbers.{Code}
 use Rattle.rules.specs.Reading.{Kept, Use, content, skipped, section, kept, Ruling, Next, stop, go}
 use Rattle.rules.specs.Control.{Control, unset, set, no-settings, control, judged}
@@ -19,6 +20,7 @@ use Rattle.meaning.specs.FeedLaws.{past}
 use Rattle.meaning.specs.Hom.{map-next, map-outcome, map-feeding, map-state}
 use Rattle.meaning.specs.OneWayFeed.{OneFeeding, controlled, of-control}
 use Rattle.varint.specs.ByByte.{fresh-good}
+use Rattle.streams.specs.Modes.{IN-CONTENT, IN-SETTINGS, UNSET, SET, modeOf, at-kept}
 use Rattle.streams.specs.declared.Cells.{Cells}
 use Rattle.streams.specs.declared.Answer.{Answer}
 use Rattle.streams.specs.Both.{Place, both}
@@ -26,13 +28,14 @@ use Rattle.streams.specs.Both as place
 use Rattle.streams.specs.Uses.{placeOf, Stands, a-place, any-set}
 use Rattle.streams.specs.Heads.{headState}
 use Rattle.streams.specs.Parts.{judgedAs}
-use Rattle.streams.specs.Answers.{keptAt, stateAt, stateOf, placeAt, placeIn, StandsIn, answerAt, answerOf, Sane, Held}
+use Rattle.streams.specs.Answers.{modeState, keptAt, stateAt, stateOf, placeAt, placeIn, StandsIn, answerAt, answerOf, Sane, Held}
 use Rattle.streams.specs.Fed.{Fed}
 use Rattle.streams.specs.Apart.{controls, state-carried, control-fed}
 use Rattle.oneway.specs.declared.OneWay.{OneWay}
 use Rattle.oneway.specs.declared.OneAnswer.{OneAnswer}
 use Rattle.oneway.specs.Stands.{oneStateAt, oneState, oneAnswerAt, OneSoundAt, OneSound, cellsOf, OneShapeAt, OneShape, StandsAt, Says}
 use Rattle.oneway.specs.Typed.{onePast}
+use Rattle.record.specs.Kinds.{CONTROL}
 
 abbrev pub controlAt : Cells → OneWay
 controlAt c = record { kind = 3; cells = c }
@@ -42,15 +45,15 @@ frameCells phase = cellsOf 0 0 phase
 
 -- what such cells may stand for, and the definition's feed of the frames from `at` on
 abbrev pub framesStand : Cells → Control → List ℕ → Type 0
-framesStand c p k = StandsIn c (place.of-control p) × Held (8 - c .mode) k
+framesStand c p k = StandsIn c (place.of-control p) × Held (IN-SETTINGS - c .mode) k
 
 abbrev pub framesFrom : (s : List ℕ) (at : ℕ) (c : Cells) (allow : ℕ) → Control → List ℕ → OneFeeding
 framesFrom s at c allow p k = onePast at (of-control (F.feed control allow (stateOf c p k) (drop at s)))
 
 abbrev pub Controlled : (s : List ℕ) (at : ℕ) (before : OneWay) (c : Cells) (allow : ℕ) → OneAnswer → Type 0
-Controlled s at before c allow r = Says s before (OneShapeAt 3 c × OneShape before) (framesStand c) (framesFrom s at c allow) r
+Controlled s at before c allow r = Says s before (OneShapeAt CONTROL c × OneShape before) (framesStand c) (framesFrom s at c allow) r
 
-pub frame-sane : (phase : ℕ) → 3 ≤ phase → Sane (frameCells phase) × (3 ≤ phase)
+pub frame-sane : (phase : ℕ) → UNSET ≤ phase → Sane (frameCells phase) × (UNSET ≤ phase)
 frame-sane phase h = (
   record {
     modes = omega arith;
@@ -123,7 +126,7 @@ module _ (at : ℕ) (s : List ℕ) (p : Control) (k : List ℕ) (start len used 
   unfolding controls
   carried j = state-carried controls (c .mode) (c .acc) (c .due) (c .ftype) (place.of-control p) j
 
-  event-low : (event f : ℕ) → event < 4 → rest-says event ≡ oneAnswerAt event (at + start) len (at + used) heads f (controlAt c) p k s
+  event-low : (event f : ℕ) → event < FAULT → rest-says event ≡ oneAnswerAt event (at + start) len (at + used) heads f (controlAt c) p k s
   unfolding onePast of-control map-feeding map-outcome controlled answerAt oneAnswerAt oneStateAt
   event-low zero f h = let x = carried k in rw x refl
   event-low (suc zero) f h = let x = carried k in rw x refl
@@ -131,17 +134,17 @@ module _ (at : ℕ) (s : List ℕ) (p : Control) (k : List ℕ) (start len used 
   event-low (suc (suc (suc zero))) f h = let x = carried k in rw x refl
   event-low (suc (suc (suc (suc n)))) f h = absurd (omega arith)
 
-  event-fault : (from f : ℕ) (w : OneWay) → rest-says 4 ≡ oneAnswerAt 4 from len (at + used) heads f w p k s
+  event-fault : (from f : ℕ) (w : OneWay) → rest-says FAULT ≡ oneAnswerAt FAULT from len (at + used) heads f w p k s
   unfolding onePast of-control map-feeding map-outcome controlled answerAt oneAnswerAt
   event-fault from f w = refl
 
-  event-complete : (w : OneWay) → rest-says 5 ≡ oneAnswerAt 5 (at + start) len (at + used) heads (c .mode) w p k s
+  event-complete : (w : OneWay) → rest-says KEPT ≡ oneAnswerAt KEPT (at + start) len (at + used) heads (c .mode) w p k s
   unfolding answerAt oneAnswerAt
   event-complete w =
       ap (λ x. onePast at (of-control x)) (past-carried used heads _ ∙ ap (past used heads) (judged-control p (keptAt (c .mode)) _)) ∙ past-from at used heads _
       ∙ ap (λ x. of-control (past (at + used) heads (judgedAs control 0 p (keptAt (c .mode)) (k ++ x)))) the-part
 
-  event-part : (event f : ℕ) → 6 ≤ event → rest-says event ≡ oneAnswerAt 6 (at + start) len (at + used) heads f (controlAt c) p k s
+  event-part : (event f : ℕ) → KEPT-PART ≤ event → rest-says event ≡ oneAnswerAt KEPT-PART (at + start) len (at + used) heads f (controlAt c) p k s
   unfolding onePast of-control map-feeding map-outcome controlled answerAt oneAnswerAt oneStateAt
   event-part zero f h = absurd (omega arith)
   event-part (suc zero) f h = absurd (omega arith)
@@ -180,20 +183,15 @@ any-next (go p) = tt
 control-within : (n : ℕ) (s : State Control) → StateWithin Unseen s → (bs : List ℕ) → FeedWithin Unseen Any (F.feed control n s bs)
 control-within n s h bs = feed-within control Unseen Any clear (λ f k b l h. h) (λ c t len. viewed len (control-view c t len)) (λ k c payload. any-next (judged k c payload)) n s h bs
 
-mode-within : (mode a d t : ℕ) (p : Control) (k : List ℕ) → (3 ≤ mode → 8 ≤ mode) → StateWithin Unseen (stateAt mode a d t p k)
-unfolding stateAt headState
+mode-within : (mode a d t : ℕ) (p : Control) (k : List ℕ) → (IN-CONTENT ≤ mode → IN-SETTINGS ≤ mode) → StateWithin Unseen (stateAt mode a d t p k)
+unfolding modeState modeOf headState
 mode-within zero a d t p k h = tt
 mode-within (suc zero) a d t p k h = tt
 mode-within (suc (suc zero)) a d t p k h = tt
-mode-within (suc (suc (suc zero))) a d t p k h = let x = h (omega arith) in absurd (omega arith)
-mode-within (suc (suc (suc (suc zero)))) a d t p k h = let x = h (omega arith) in absurd (omega arith)
-mode-within (suc (suc (suc (suc (suc zero))))) a d t p k h = let x = h (omega arith) in absurd (omega arith)
-mode-within (suc (suc (suc (suc (suc (suc zero)))))) a d t p k h = let x = h (omega arith) in absurd (omega arith)
-mode-within (suc (suc (suc (suc (suc (suc (suc zero))))))) a d t p k h = let x = h (omega arith) in absurd (omega arith)
-mode-within (suc (suc (suc (suc (suc (suc (suc (suc m)))))))) a d t p k h = tt
+mode-within (suc (suc (suc n))) a d t p k h = at-kept (λ m. StateWithin Unseen (modeState m a d t p k)) (λ f. tt) (suc (suc (suc n))) (h (omega arith))
 
-within-mode : (mode a d t : ℕ) (p : Control) (k : List ℕ) → StateWithin Unseen (stateAt mode a d t p k) → 3 ≤ mode → 8 ≤ mode
-unfolding stateAt
+within-mode : (mode a d t : ℕ) (p : Control) (k : List ℕ) → StateWithin Unseen (stateAt mode a d t p k) → IN-CONTENT ≤ mode → IN-SETTINGS ≤ mode
+unfolding modeState modeOf headState
 within-mode zero a d t p k w h = absurd (omega arith)
 within-mode (suc zero) a d t p k w h = absurd (omega arith)
 within-mode (suc (suc zero)) a d t p k w h = absurd (omega arith)
@@ -209,7 +207,7 @@ module _ (s : List ℕ) (p : Control) (k : List ℕ) (start len used heads : ℕ
   says-so event = FeedWithin Unseen Any (map-feeding controls (answerAt event start len used heads c (place.of-control p) k s))
 
   -- no event of a handed part
-  event-plain : (event : ℕ) → says-so event → event < 4 → event ≡ 0
+  event-plain : (event : ℕ) → says-so event → event < FAULT → event ≡ NOTHING
   unfolding map-feeding answerAt
   event-plain zero w h = refl
   event-plain (suc zero) w h = absurd (w .event)
@@ -218,7 +216,7 @@ module _ (s : List ℕ) (p : Control) (k : List ℕ) (start len used heads : ℕ
   event-plain (suc (suc (suc (suc n)))) w h = absurd (omega arith)
 
   -- the mode that is left
-  left-mode : (event : ℕ) → says-so event → (event ≡ 4 → ⊥) → (event ≡ 5 → ⊥) → 3 ≤ c .mode → 8 ≤ c .mode
+  left-mode : (event : ℕ) → says-so event → (event ≡ FAULT → ⊥) → (event ≡ KEPT → ⊥) → IN-CONTENT ≤ c .mode → IN-SETTINGS ≤ c .mode
   unfolding map-feeding map-outcome answerAt
   left-mode zero w m n = let x = carried 0 s p k start len used heads c k in within-mode (c .mode) (c .acc) (c .due) (c .ftype) p k (subst (StateWithin Unseen) x (w .after))
   left-mode (suc zero) w m n = absurd (w .event)
@@ -232,7 +230,7 @@ module _ (s : List ℕ) (p : Control) (k : List ℕ) (start len used heads : ℕ
       within-mode (c .mode) (c .acc) (c .due) (c .ftype) p j (subst (StateWithin Unseen) x (w .after))
 
 -- a place that such cells stand for
-some-place : (h n m ph : ℕ) → 3 ≤ ph → ph ≤ 4 → (p : Control) × Stands h n m ph (place.of-control p)
+some-place : (h n m ph : ℕ) → 3 ≤ ph → ph ≤ SET → (p : Control) × Stands h n m ph (place.of-control p)
 some-place h n m zero l u = absurd (omega arith)
 some-place h n m (suc zero) l u = absurd (omega arith)
 some-place h n m (suc (suc zero)) l u = absurd (omega arith)
@@ -250,11 +248,11 @@ none-held (suc n) = refl
 pub rest-fed : (s : List ℕ) (at : ℕ) (c : Cells) (allow : ℕ) (a : Answer) → Fed c (take (length s - at) (drop at s)) allow a → Fed c (drop at s) allow a
 rest-fed s at c allow a f = let e : take (length s - at) (drop at s) ≡ drop at s = take-all (length s - at) (drop at s) (let l = length-drop at s in omega arith) in rw e at f
 
-module _ (s : List ℕ) (at : ℕ) (before : OneWay) (c : Cells) (allow : ℕ) (a : Answer) (w : at ≤ length s) (sane : Sane c) (phase : 3 ≤ c .phase) (sound : OneSound before) (fed : Fed c (drop at s) allow a) where
+module _ (s : List ℕ) (at : ℕ) (before : OneWay) (c : Cells) (allow : ℕ) (a : Answer) (w : at ≤ length s) (sane : Sane c) (phase : UNSET ≤ c .phase) (sound : OneSound before) (fed : Fed c (drop at s) allow a) where
   abbrev Controls : OneAnswer → Type 0
   Controls r = Controlled s at before c allow r
 
-  left-stands : (p : Control) (k : List ℕ) → framesStand c p k → StandsAt 3 (a .cells) p
+  left-stands : (p : Control) (k : List ℕ) → framesStand c p k → StandsAt CONTROL (a .cells) p
   unfolding StandsAt
   left-stands p k st =
       subst (λ ph. Stands (a .cells .has) (a .cells .stated) (a .cells .sum) ph (place.of-control p)) (sym (fed .phase))
@@ -272,17 +270,17 @@ module _ (s : List ℕ) (at : ℕ) (before : OneWay) (c : Cells) (allow : ℕ) (
   is-control p k st = ap (λ x. onePast at (of-control x)) (frames-are p k st)
 
   -- what the shape before says of the answer, at some place
-  unseen : OneShapeAt 3 c → (p : Control) × says-so (drop at s) p [] (a .start) (a .len) (a .used) (a .heads) (a .cells) (a .event)
+  unseen : OneShapeAt CONTROL c → (p : Control) × says-so (drop at s) p [] (a .start) (a .len) (a .used) (a .heads) (a .cells) (a .event)
   unfolding OneShapeAt
   unseen sh =
       let q = some-place (c .has) (c .stated) (c .sum) (c .phase) phase (sh .0) in
-      let st : framesStand c (q .0) [] = (q .1, none-held (8 - c .mode)) in
+      let st : framesStand c (q .0) [] = (q .1, none-held (IN-SETTINGS - c .mode)) in
       (q .0, subst (FeedWithin Unseen Any) (frames-are (q .0) [] st) (control-within allow (stateOf c (q .0) []) (mode-within (c .mode) (c .acc) (c .due) (c .ftype) (q .0) [] (sh .1)) (drop at s)))
 
-  pub feed-plain : OneShapeAt 3 c → a .event < 4 → a .event ≡ 0
+  pub feed-plain : OneShapeAt CONTROL c → a .event < FAULT → a .event ≡ NOTHING
   feed-plain sh h = let u = unseen sh in event-plain (drop at s) (u .0) [] (a .start) (a .len) (a .used) (a .heads) (a .cells) (a .event) (u .1) h
 
-  left-shape : OneShapeAt 3 c → (a .event ≡ 4 → ⊥) → (a .event ≡ 5 → ⊥) → OneShapeAt 3 (a .cells)
+  left-shape : OneShapeAt CONTROL c → (a .event ≡ FAULT → ⊥) → (a .event ≡ KEPT → ⊥) → OneShapeAt 3 (a .cells)
   unfolding OneShapeAt
   left-shape sh m n =
       let u = unseen sh in
@@ -297,20 +295,20 @@ module _ (s : List ℕ) (at : ℕ) (before : OneWay) (c : Cells) (allow : ℕ) (
   used-fits = let l = length-drop at s in let u = fed .within in omega arith
 
   -- the part ends where the feed does
-  ends-here : (x y z : ℕ) → x + y ≡ z ⊎ a .event ≡ 4 → (a .event ≡ 4 → ⊥) → (at + x) + y ≡ at + z
+  ends-here : (x y z : ℕ) → x + y ≡ z ⊎ a .event ≡ FAULT → (a .event ≡ FAULT → ⊥) → (at + x) + y ≡ at + z
   ends-here x y z (inl e) n = omega arith
   ends-here x y z (inr e) n = absurd (n e)
 
-  part-ends : (a .event ≡ 4 → ⊥) → (at + a .start) + a .len ≡ at + a .used
+  part-ends : (a .event ≡ FAULT → ⊥) → (at + a .start) + a .len ≡ at + a .used
   part-ends n = ends-here (a .start) (a .len) (a .used) (fed .part) n
 
-  pub start-fits : (a .event ≡ 4 → ⊥) → at + a .start ≤ length s
+  pub start-fits : (a .event ≡ FAULT → ⊥) → at + a .start ≤ length s
   start-fits n = let x = part-ends n in let y = used-fits in omega arith
 
-  left-sane : (a .event ≡ 5 → ⊥) → Sane (a .cells) × (3 ≤ a .cells .phase)
+  left-sane : (a .event ≡ KEPT → ⊥) → Sane (a .cells) × (3 ≤ a .cells .phase)
   left-sane n = (fed .sane n, (let e = fed .phase in omega arith))
 
-  pub control-fault : a .event ≡ 4 → Controls (record { event = 4; start = at + a .used; len = a .len; used = at + a .used; heads = a .heads; payload = 0; stream = before })
+  pub control-fault : a .event ≡ FAULT → Controls (record { event = 4; start = at + a .used; len = a .len; used = at + a .used; heads = a .heads; payload = 0; stream = before })
   control-fault e = record {
     is = λ p k st. by-event 4 e p k st ∙ event-fault at s p k (a .start) (a .len) (a .used) (a .heads) (a .cells) (at + a .used) 0 before;
     within = used-fits;
@@ -326,7 +324,7 @@ module _ (s : List ℕ) (at : ℕ) (before : OneWay) (c : Cells) (allow : ℕ) (
     leaves = λ x y p k st. absurd (x refl);
   }
 
-  pub control-complete : {d : Cells} → a .event ≡ 5 → d ≡ frameCells 4
+  pub control-complete : {d : Cells} → a .event ≡ KEPT → d ≡ frameCells 4
       → Controls (record { event = 5; start = at + a .start; len = a .len; used = at + a .used; heads = a .heads; payload = a .cells .mode; stream = controlAt d })
   unfolding OneSoundAt OneShapeAt
   control-complete e g = rw g (record {
@@ -361,7 +359,7 @@ module _ (s : List ℕ) (at : ℕ) (before : OneWay) (c : Cells) (allow : ℕ) (
     leaves = λ x y p k st. left-stands p k st;
   }
 
-  pub control-low : a .event < 4 → Controls (record { event = a .event; start = at + a .start; len = a .len; used = at + a .used; heads = a .heads; payload = 0; stream = controlAt (a .cells) })
+  pub control-low : a .event < FAULT → Controls (record { event = a .event; start = at + a .start; len = a .len; used = at + a .used; heads = a .heads; payload = 0; stream = controlAt (a .cells) })
   unfolding OneSoundAt
   control-low h = record {
     is = λ p k st. is-control p k st ∙ event-low at s p k (a .start) (a .len) (a .used) (a .heads) (a .cells) (a .event) 0 h;

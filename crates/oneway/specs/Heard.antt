@@ -4,15 +4,18 @@ use Prim.Native.Nat.{ℕ, zero, suc, _-_, _≤_}
 use mathlib.Core.List.{List}
 use mathlib.Core.Bool.{Bool}
 use lib.ListN.{take}
-use Rattle.rules.specs.Numbers.{codeNumber}
+use Rattle.rules.specs.Events.{NOTHING, QPACK, SETTINGS, GOAWAY, MAX-PUSH-ID, FREED}
+use Rattle.rules.specs.Numbers.{ACCEPTED, NOT-OPEN, NO-SECTION, codeNumber}
 use Rattle.rules.specs.Reading.{Kept as Payload, settings, goaway, max-push-id, cancel-push}
 use Rattle.rules.specs.Control.{Control, control}
 use Rattle.rules.specs.OneWay.{Qpack, encoder, decoder}
 use Rattle.meaning.specs.Feed.{Event, quiet, section-bytes, content-bytes, taken}
 use Rattle.meaning.specs.OneWayFeed.{OneState, OneOutcome, lives, dies, OneEvent, of-frames, qpack-bytes, OneFeeding, of-control, feed}
 use Rattle.meaning.specs.FeedLaws.{past}
+use Rattle.streams.specs.Modes.{IN-SETTINGS}
 use Rattle.streams.specs.Parts.{judgedAs}
 use Rattle.streams.specs.Answers.{keptAt}
+use Rattle.record.specs.Kinds.{UNTYPED}
 use Rattle.record.specs.declared.Record.{Record}
 use Rattle.record.specs.Row.{oneWayRecord, free-record}
 use Rattle.record.specs.Sound.{cellsIn, Sound}
@@ -30,8 +33,8 @@ use Rattle.oneway.specs.Mirror.{keptIn, heldIn, sideAfter}
 -- sound, of a one-way kind, and what is to come of a kept payload is no more than a connection keeps
 pub record Heeds (r : Record) : Type 0 where
   pub sound : Sound r
-  pub kind : 2 ≤ r .kind
-  pub room : 8 ≤ r .mode → r .acc ≤ 256
+  pub kind : UNTYPED ≤ r .kind
+  pub room : IN-SETTINGS ≤ r .mode → r .acc ≤ 256
 
 abbrev pub placeHere : Record → Side → Control
 placeHere r d = controlOf (keptIn (r .phase) (d .kept))
@@ -48,14 +51,14 @@ abbrev pub heard : (number event start len used heads value : ℕ) → Record �
 heard n e s l u h v r d = record { number = n; event = e; start = s; len = l; used = u; heads = h; value = v; row = r; side = d }
 
 abbrev pub refused : (number : ℕ) → Record → Side → Heard
-refused n r d = heard n 0 0 0 0 0 0 r d
+refused n r d = heard n NOTHING 0 0 0 0 0 r d
 
--- 8 settings, 9 a client's GOAWAY, 10 MAX_PUSH_ID; CANCEL_PUSH is never judged good
+-- CANCEL_PUSH is never judged good
 unfoldable pub takenNumber : Payload → ℕ
-takenNumber settings = 8
-takenNumber goaway = 9
-takenNumber max-push-id = 10
-takenNumber cancel-push = 0
+takenNumber settings = SETTINGS
+takenNumber goaway = GOAWAY
+takenNumber max-push-id = MAX-PUSH-ID
+takenNumber cancel-push = NOTHING
 
 -- the push ID that is kept then
 unfoldable pub valueIn : Payload → Kept → ℕ
@@ -66,9 +69,9 @@ valueIn cancel-push k = 0
 
 -- on a control stream nothing is handed over
 unfoldable pub frameEvent : Event → ℕ
-frameEvent quiet = 0
-frameEvent (section-bytes len last) = 0
-frameEvent (content-bytes len) = 0
+frameEvent quiet = NOTHING
+frameEvent (section-bytes len last) = NOTHING
+frameEvent (content-bytes len) = NOTHING
 frameEvent (taken f payload) = takenNumber f
 
 unfoldable pub frameValue : Event → Kept → ℕ
@@ -83,9 +86,9 @@ typeNumber decoder = 3
 
 -- A PIECE FED: every fault of a one-way stream is the connection's, and leaves record and side
 unfoldable pub saidBy : Record → Side → (used heads : ℕ) → OneEvent → OneOutcome → Heard
-saidBy r d u h e (dies code) = heard (codeNumber code) 0 0 0 u h 0 r d
-saidBy r d u h (of-frames e) (lives s) = heard 0 (frameEvent e) 0 0 u h (frameValue e (sideAfter d s .kept)) (oneWayRecord (r .id) s) (sideAfter d s)
-saidBy r d u h (qpack-bytes q len) (lives s) = heard 0 7 (u - len) len u h (typeNumber q) (oneWayRecord (r .id) s) (sideAfter d s)
+saidBy r d u h e (dies code) = heard (codeNumber code) NOTHING 0 0 u h 0 r d
+saidBy r d u h (of-frames e) (lives s) = heard ACCEPTED (frameEvent e) 0 0 u h (frameValue e (sideAfter d s .kept)) (oneWayRecord (r .id) s) (sideAfter d s)
+saidBy r d u h (qpack-bytes q len) (lives s) = heard ACCEPTED QPACK (u - len) len u h (typeNumber q) (oneWayRecord (r .id) s) (sideAfter d s)
 
 abbrev pub said : Record → Side → OneFeeding → Heard
 said r d f = saidBy r d (f .used) (f .heads) (f .event) (f .after)
@@ -110,20 +113,20 @@ Stays r d f = (s : OneState) → f .after ≡ lives s → Heeds r × (stateHere 
 
 -- A SECTION GIVEN: none is ever due
 abbrev pub givenHere : Record → Side → OneState → Heard
-givenHere r d s = refused 5 r d
+givenHere r d s = refused NO-SECTION r d
 
--- THE END OR A RESET: freed (event 12), or the code
+-- THE END OR A RESET: freed, or the code
 unfoldable pub closedBy : Record → Side → (number : ℕ) → Heard
-closedBy r d zero = heard 0 12 0 0 0 0 0 free-record d
+closedBy r d zero = heard ACCEPTED FREED 0 0 0 0 0 free-record d
 closedBy r d (suc c) = refused (suc c) r d
 
 abbrev pub closedHere : Record → Side → OneState → Heard
 closedHere r d s = closedBy r d (closes s)
 
--- ---- THE ANSWER TO ANY RECORD: 1, nothing altered, unless it is an open one-way stream; then what the call answers from its state
+-- ---- THE ANSWER TO ANY RECORD: not open, nothing altered, unless it is an open one-way stream; then what the call answers from its state
 
 pub data HeardAs (r : Record) (d : Side) (want : OneState → Heard) (a : Heard) : Type 0 where
-  shut : (Heeds r → ⊥) → a ≡ refused 1 r d → HeardAs r d want a
+  shut : (Heeds r → ⊥) → a ≡ refused NOT-OPEN r d → HeardAs r d want a
   opened : Heeds r → a ≡ want (stateHere r d) → HeardAs r d want a
 
 -- and a piece fed

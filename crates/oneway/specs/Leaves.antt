@@ -8,18 +8,21 @@ use lib.ListN.{length, take, drop, length-take}
 use lib.Seq.{take-all, take-take, take-nil, length-take-le}
 use lib.Dec.{ltb, ltb→lt, nltb→le}
 use borrow.Author.Tests.{lt-ltb, ne-eqb}
+use Rattle.rules.specs.Reading.{content, skipped, section, kept}
 use Rattle.rules.specs.Message.{opening}
 use Rattle.rules.specs.Control.{Control, unset, set}
 use Rattle.meaning.specs.Machine.{State, in-type, between}
 use Rattle.meaning.specs.Hom.{map-state}
 use Rattle.meaning.specs.OneWayFeed.{in-stream-type, in-control}
 use Rattle.varint.specs.ByByte.{prog, partOf}
+use Rattle.streams.specs.Modes.{IN-TYPE, IN-SETTINGS, OPENING, UNSET, SET, Mode, typing, sizing, paying, waiting, modeOf, at-kept}
 use Rattle.streams.specs.declared.Cells.{Cells}
 use Rattle.streams.specs.Both.{Place, of-request, of-control}
 use Rattle.streams.specs.Uses.{placeOf, Stands, a-place, any-set}
 use Rattle.streams.specs.Heads.{headState}
-use Rattle.streams.specs.Answers.{stateAt, stateOf, StandsIn, Sane, Held}
+use Rattle.streams.specs.Answers.{modeState, stateAt, stateOf, StandsIn, Sane, Held}
 use Rattle.streams.specs.Apart.{state-carried}
+use Rattle.record.specs.Kinds.{FREE, UNTYPED, CONTROL, ENCODER, DECODER, SKIPPED, UNSOUND}
 use Rattle.record.specs.declared.Record.{Record}
 use Rattle.record.specs.declared.Stream.{Stream}
 use Rattle.record.specs.Row.{phaseOf, statedIn, isStated, lengthOf, sumIn, numbersOf, placeIn, recordOf, oneWayRecord}
@@ -37,25 +40,25 @@ use Rattle.oneway.specs.Heard.{Heeds, placeHere, sofarHere}
 -- ---- an open one-way stream
 
 module _ (r : Record) (s : Stream) (read : Read r s) where
-  opened-at : 2 ≤ s .kind → s .kind ≤ 6 → Sound r × (s ≡ stream (r .kind) (r .id) (cellsIn r))
+  opened-at : UNTYPED ≤ s .kind → s .kind ≤ SKIPPED → Sound r × (s ≡ stream (r .kind) (r .id) (cellsIn r))
   opened-at l h = by read
     where
       by : Read r s → Sound r × (s ≡ stream (r .kind) (r .id) (cellsIn r))
-      by (is-free e q) = let z : s .kind ≡ 0 = ap (λ x. x .kind) q in absurd (omega arith)
+      by (is-free e q) = let z : s .kind ≡ FREE = ap (λ x. x .kind) q in absurd (omega arith)
       by (is-open t q) = (t, q)
-      by (is-unsound n u q) = let z : s .kind ≡ 7 = ap (λ x. x .kind) q in absurd (omega arith)
+      by (is-unsound n u q) = let z : s .kind ≡ UNSOUND = ap (λ x. x .kind) q in absurd (omega arith)
 
   own : Heeds r → s ≡ stream (r .kind) (r .id) (cellsIn r)
   own o = sound-read r s (o .sound) read
 
-  pub heeds-low : s .kind < 2 → Heeds r → ⊥
+  pub heeds-low : s .kind < UNTYPED → Heeds r → ⊥
   heeds-low l o = let z : s .kind ≡ r .kind = ap (λ x. x .kind) (own o) in omega (arith, o .kind)
 
-  pub heeds-high : 6 < s .kind → Heeds r → ⊥
+  pub heeds-high : SKIPPED < s .kind → Heeds r → ⊥
   heeds-high l o = let z : s .kind ≡ r .kind = ap (λ x. x .kind) (own o) in omega (arith, o .sound .fit .shaped .known)
 
-  module _ (l : 2 ≤ s .kind) (h : s .kind ≤ 6) where
-    pub heeds-so : (8 ≤ s .cells .mode → s .cells .acc ≤ 256) → Heeds r
+  module _ (l : UNTYPED ≤ s .kind) (h : s .kind ≤ SKIPPED) where
+    pub heeds-so : (IN-SETTINGS ≤ s .cells .mode → s .cells .acc ≤ 256) → Heeds r
     heeds-so room =
         let x = opened-at l h in
         let k : s .kind ≡ r .kind = ap (λ y. y .kind) (x .1) in
@@ -63,7 +66,7 @@ module _ (r : Record) (s : Stream) (read : Read r s) where
         let a : s .cells .acc ≡ r .acc = ap (λ y. y .cells .acc) (x .1) in
         record { sound = x .0; kind = omega arith; room = λ e. omega (arith, room (omega arith)) }
 
-    pub heeds-not : 8 ≤ s .cells .mode → 256 < s .cells .acc → Heeds r → ⊥
+    pub heeds-not : IN-SETTINGS ≤ s .cells .mode → 256 < s .cells .acc → Heeds r → ⊥
     heeds-not e f o =
         let m : s .cells .mode ≡ r .mode = ap (λ y. y .cells .mode) (own o) in
         let a : s .cells .acc ≡ r .acc = ap (λ y. y .cells .acc) (own o) in
@@ -91,7 +94,7 @@ module _ (r : Record) (o : Heeds r) where
   at-kind (suc zero) e = absurd (omega (arith, o .kind))
   at-kind (suc (suc zero)) e =
       let s = o .sound in
-      let m : c .mode ≡ 0 = s .fit .shaped .bare-mode (o .kind) (λ x. omega arith) in
+      let m : c .mode ≡ IN-TYPE = s .fit .shaped .bare-mode (o .kind) (λ x. omega arith) in
       (s .fit .sane .header (omega arith), own-bare (cellsIn (oneWayRecord (r .id) (in-stream-type (prog (r .due) (r .acc))))) refl (ap cellsIn (type-record r s e)))
   at-kind (suc (suc (suc zero))) e = let s = o .sound .fit in ((s .sane, s .shaped .control-phase e), (s .shaped .phases, s .shaped .control-mode e))
   at-kind (suc (suc (suc (suc zero)))) e = (tt, (ap cellsIn (encoder-record r (o .sound) e), omega arith))
@@ -107,7 +110,7 @@ module _ (r : Record) (o : Heeds r) where
 
 -- ---- where it stands
 
-phase-stands : (h n u phase : ℕ) (k : Kept) → 3 ≤ phase → phase ≤ 4 → Stands h n u phase (of-control (controlAt (phase - 3) k))
+phase-stands : (h n u phase : ℕ) (k : Kept) → UNSET ≤ phase → phase ≤ SET → Stands h n u phase (of-control (controlAt (phase - 3) k))
 unfolding controlAt placeOf
 phase-stands h n u zero k a b = absurd (omega arith)
 phase-stands h n u (suc zero) k a b = absurd (omega arith)
@@ -116,19 +119,19 @@ phase-stands h n u (suc (suc (suc zero))) k a b = a-place
 phase-stands h n u (suc (suc (suc (suc zero)))) k a b = any-set 0 tt
 phase-stands h n u (suc (suc (suc (suc (suc m))))) k a b = absurd (omega arith)
 
-unset-low : (phase : ℕ) (k : Kept) → phase ≡ 0 → controlAt (phase - 3) k ≡ unset
+unset-low : (phase : ℕ) (k : Kept) → phase ≡ OPENING → controlAt (phase - 3) k ≡ unset
 unfolding controlAt
 unset-low phase k e = rw e refl
 
-held-none : (mode : ℕ) → Held (8 - mode) []
-held-none mode = by (8 - mode)
+held-none : (mode : ℕ) → Held (IN-SETTINGS - mode) []
+held-none mode = by (IN-SETTINGS - mode)
   where
     by : (n : ℕ) → Held n []
     by zero = tt
     by (suc n) = refl
 
 module _ (r : Record) (o : Heeds r) (d : Side) where
-  pub control-stands : r .kind ≡ 3 → StandsIn (cellsIn r) (of-control (placeHere r d))
+  pub control-stands : r .kind ≡ CONTROL → StandsIn (cellsIn r) (of-control (placeHere r d))
   control-stands e = let h = o .sound .fit .shaped in phase-stands (r .has) (r .stated) (r .sum) (r .phase) (keptIn (r .phase) (d .kept)) (h .control-phase e) (h .phases)
 
   here-stands : (kind : ℕ) → r .kind ≡ kind → OneStands kind (cellsIn r) (placeHere r d) []
@@ -143,14 +146,14 @@ module _ (r : Record) (o : Heeds r) (d : Side) where
   stands-here = here-stands (r .kind) refl
 
   -- outside a kept payload nothing is held
-  pub none-held : r .mode < 8 → sofarHere r d ≡ []
+  pub none-held : r .mode < IN-SETTINGS → sofarHere r d ≡ []
   unfolding heldIn
-  none-held l = let x = lt-ltb (r .mode) 8 l in rw (x, heldIn) refl
+  none-held l = let x = lt-ltb (r .mode) IN-SETTINGS l in rw (x, heldIn) refl
 
 -- ---- the record that it leaves
 
-opening-state : (m a e t ph h n u : ℕ) (k : List ℕ) → m ≡ 0 → ph ≡ 0 → stateAt m a e t (placeOf ph h n u) k ≡ in-type (prog e a) (of-request opening)
-unfolding stateAt headState placeOf
+opening-state : (m a e t ph h n u : ℕ) (k : List ℕ) → m ≡ 0 → ph ≡ OPENING → stateAt m a e t (placeOf ph h n u) k ≡ in-type (prog e a) (of-request opening)
+unfolding modeState modeOf headState placeOf
 opening-state m a e t ph h n u k x y = rw (x, y) refl
 
 module _ (id : ℕ) (c : Cells) {q : Record} (p : Control) (k : List ℕ) where
@@ -160,47 +163,40 @@ module _ (id : ℕ) (c : Cells) {q : Record} (p : Control) (k : List ℕ) where
       ∙ ap (recordOf kind id) (opening-state (c .mode) (c .acc) (c .due) (c .ftype) (c .phase) (c .has) (c .stated) (c .sum) [] (ap (λ y. y .mode) x) (ap (λ y. y .phase) x)
       ∙ ap (λ y. in-type (prog (y .due) (y .acc)) (of-request opening)) x)
 
-  pub control-row : StandsIn c (of-control p) → Fit 3 id c → Written (stream 3 id c) q → q ≡ oneWayRecord id (in-control (stateOf c p k))
+  pub control-row : StandsIn c (of-control p) → Fit CONTROL id c → Written (stream CONTROL id c) q → q ≡ oneWayRecord id (in-control (stateOf c p k))
   unfolding oneWayRecord
-  control-row st fit w = written-as (stream 3 id c) q w fit (of-control p) k st ∙ ap (recordOf 3 id) (sym (state-carried of-control (c .mode) (c .acc) (c .due) (c .ftype) p k))
+  control-row st fit w = written-as (stream CONTROL id c) q w fit (of-control p) k st ∙ ap (recordOf CONTROL id) (sym (state-carried of-control (c .mode) (c .acc) (c .due) (c .ftype) p k))
 
   -- THE RECORD OF THE STATE that the numbers stand for
   pub row-of-state : (kind : ℕ) → StandsAt kind c p → OneShapeAt kind c → Fit kind id c → Written (stream kind id c) q → q ≡ oneWayRecord id (oneStateAt kind c p k)
   unfolding StandsAt OneShapeAt oneStateAt oneWayRecord prog
   row-of-state zero st sh fit w = absurd sh
   row-of-state (suc zero) st sh fit w = absurd sh
-  row-of-state (suc (suc zero)) st sh fit w = bare-row 2 (c .acc) (c .due) sh fit w
+  row-of-state (suc (suc zero)) st sh fit w = bare-row UNTYPED (c .acc) (c .due) sh fit w
   row-of-state (suc (suc (suc zero))) st sh fit w = control-row st fit w
-  row-of-state (suc (suc (suc (suc zero)))) st sh fit w = bare-row 4 0 0 (sh .0) fit w
-  row-of-state (suc (suc (suc (suc (suc zero))))) st sh fit w = bare-row 5 0 0 (sh .0) fit w
-  row-of-state (suc (suc (suc (suc (suc (suc zero)))))) st sh fit w = bare-row 6 0 0 (sh .0) fit w
+  row-of-state (suc (suc (suc (suc zero)))) st sh fit w = bare-row ENCODER 0 0 (sh .0) fit w
+  row-of-state (suc (suc (suc (suc (suc zero))))) st sh fit w = bare-row DECODER 0 0 (sh .0) fit w
+  row-of-state (suc (suc (suc (suc (suc (suc zero)))))) st sh fit w = bare-row SKIPPED 0 0 (sh .0) fit w
   row-of-state (suc (suc (suc (suc (suc (suc (suc n))))))) st sh fit w = absurd (omega (arith, sh .1))
 
 -- ---- the side that it leaves
 
-pub sofar-none : {P : Type 0} (mode a e t : ℕ) (p : P) → sofarIn (stateAt mode a e t p []) ≡ []
-unfolding sofarIn stateAt headState
-sofar-none zero a e t p = refl
-sofar-none (suc zero) a e t p = refl
-sofar-none (suc (suc zero)) a e t p = refl
-sofar-none (suc (suc (suc zero))) a e t p = refl
-sofar-none (suc (suc (suc (suc zero)))) a e t p = refl
-sofar-none (suc (suc (suc (suc (suc zero))))) a e t p = refl
-sofar-none (suc (suc (suc (suc (suc (suc zero)))))) a e t p = refl
-sofar-none (suc (suc (suc (suc (suc (suc (suc zero))))))) a e t p = refl
-sofar-none (suc (suc (suc (suc (suc (suc (suc (suc m)))))))) a e t p = refl
+sofar-mode : {P : Type 0} (m : Mode) (a e t : ℕ) (p : P) → sofarIn (modeState m a e t p []) ≡ []
+unfolding sofarIn modeState headState
+sofar-mode typing a e t p = refl
+sofar-mode sizing a e t p = refl
+sofar-mode (paying content) a e t p = refl
+sofar-mode (paying skipped) a e t p = refl
+sofar-mode (paying (section x)) a e t p = refl
+sofar-mode (paying (kept f)) a e t p = refl
+sofar-mode (waiting x) a e t p = refl
 
-pub sofar-kept : {P : Type 0} (mode a e t : ℕ) (p : P) (k : List ℕ) → 8 ≤ mode → sofarIn (stateAt mode a e t p k) ≡ k
-unfolding sofarIn stateAt
-sofar-kept zero a e t p k h = absurd (omega arith)
-sofar-kept (suc zero) a e t p k h = absurd (omega arith)
-sofar-kept (suc (suc zero)) a e t p k h = absurd (omega arith)
-sofar-kept (suc (suc (suc zero))) a e t p k h = absurd (omega arith)
-sofar-kept (suc (suc (suc (suc zero)))) a e t p k h = absurd (omega arith)
-sofar-kept (suc (suc (suc (suc (suc zero))))) a e t p k h = absurd (omega arith)
-sofar-kept (suc (suc (suc (suc (suc (suc zero)))))) a e t p k h = absurd (omega arith)
-sofar-kept (suc (suc (suc (suc (suc (suc (suc zero))))))) a e t p k h = absurd (omega arith)
-sofar-kept (suc (suc (suc (suc (suc (suc (suc (suc m)))))))) a e t p k h = refl
+pub sofar-none : {P : Type 0} (mode a e t : ℕ) (p : P) → sofarIn (stateAt mode a e t p []) ≡ []
+sofar-none mode a e t p = sofar-mode (modeOf mode) a e t p
+
+pub sofar-kept : {P : Type 0} (mode a e t : ℕ) (p : P) (k : List ℕ) → IN-SETTINGS ≤ mode → sofarIn (stateAt mode a e t p k) ≡ k
+unfolding sofarIn modeState
+sofar-kept mode a e t p k = at-kept (λ m. sofarIn (modeState m a e t p k) ≡ k) (λ f. refl) mode
 
 module _ (d : Side) (phase : ℕ) (c : Cells) (k : List ℕ) where
   abbrev p : Control

@@ -16,6 +16,7 @@ use Rattle.control.specs.declared.Kept.{Kept}
 use Rattle.control.specs.Judged.{push-id}
 use Rattle.control.specs.Rules.{someIf, limitsIs, controlAt, controlOf}
 use Rattle.oneway.specs.declared.calls.Side.{Side}
+use Rattle.streams.specs.Modes.{IN-SETTINGS, UNSET}
 
 -- ---- what a control stream has said
 
@@ -37,10 +38,10 @@ keptNumbers (set s g m) = record {
   push = push-id (lengthOf m);
 }
 
--- what is kept, of a control stream in this phase: its SETTINGS have come if it is above 3
+-- what is kept, of a control stream in this phase: its SETTINGS have come if it is behind UNSET
 abbrev pub keptIn : (phase : ℕ) → Kept → Kept
 keptIn phase k = record {
-  set = phase - 3;
+  set = phase - UNSET;
   limited = k .limited;
   size = k .size;
   capacity = k .capacity;
@@ -64,9 +65,9 @@ sofarIn (due t p) = []
 abbrev pub bytesOf : List ℕ → List ℕ
 bytesOf k = sets (replicate 256 0) 0 k
 
--- how many are held: none outside a kept payload (mode 8 and up), and no more than fit beside those to come
+-- how many are held: none outside a kept payload, and no more than fit beside those to come
 unfoldable pub heldIn : (mode acc held : ℕ) → ℕ
-heldIn mode acc held = elim (ltb mode 8) [ true ↦ 0 | false ↦ min held (256 - acc) ]
+heldIn mode acc held = elim (ltb mode IN-SETTINGS) [ true ↦ 0 | false ↦ min held (256 - acc) ]
 
 -- ---- THE SIDE that a stream in this state leaves
 

@@ -8,10 +8,13 @@ use lib.ListN.{length, take, drop, getD, set, replicate, length-replicate}
 use lib.Seq.{sets, sets-eq, length-sets, take-suc, take-all, take-append-seam, length-take-le}
 use native.Mathlib.Numerals.{add-one}
 use borrow.Author.Tests.{eq-eqb, ne-eqb}
+use Rattle.rules.specs.Events.{NOTHING, SETTINGS, GOAWAY, MAX-PUSH-ID}
 use Rattle.rules.specs.Reading.{settings, goaway, max-push-id, cancel-push}
 use Rattle.rules.specs.OneWay.{encoder, decoder}
+use Rattle.record.specs.Kinds.{CONTROL, ENCODER, DECODER}
 use Rattle.record.specs.Row.{isStated, lengthOf}
-use Rattle.streams.specs.Answers.{keptAt}
+use Rattle.streams.specs.Modes.{IN-SETTINGS, IN-GOAWAY, IN-MAX-PUSH-ID, UNSET, modeOf}
+use Rattle.streams.specs.Answers.{modeKept, keptAt}
 use Rattle.oneway.specs.Stands.{qpackOf}
 use Rattle.control.specs.declared.Kept.{Kept}
 use Rattle.control.specs.Judged.{push-id}
@@ -56,7 +59,7 @@ abbrev saying : (set limited size capacity blocked goaways goaway pushes push : 
 saying s l z c b gs g ps p = record { set = s; limited = l; size = z; capacity = c; blocked = b; goaways = gs; goaway = push-id g; pushes = ps; push = push-id p }
 
 module _ (k : Kept) where
-  pub set-in : (phase s : ℕ) → s ≡ phase - 3 → saying s (k .limited) (k .size) (k .capacity) (k .blocked) (k .goaways) (k .goaway .0) (k .pushes) (k .push .0) ≡ keptIn phase k
+  pub set-in : (phase s : ℕ) → s ≡ phase - UNSET → saying s (k .limited) (k .size) (k .capacity) (k .blocked) (k .goaways) (k .goaway .0) (k .pushes) (k .push .0) ≡ keptIn phase k
   set-in phase s e = ap (λ x. saying x (k .limited) (k .size) (k .capacity) (k .blocked) (k .goaways) (k .goaway .0) (k .pushes) (k .push .0)) e
 
   pub tidy-none : k .set ≡ 0 → nothing-said ≡ keptNumbers (controlOf k)
@@ -83,20 +86,20 @@ module _ (k : Kept) where
 
 -- ---- which payload
 
-pub taken-settings : (which : ℕ) → which ≡ 8 → 8 ≡ takenNumber (keptAt which)
-unfolding takenNumber keptAt
+pub taken-settings : (which : ℕ) → which ≡ IN-SETTINGS → SETTINGS ≡ takenNumber (keptAt which)
+unfolding takenNumber modeKept modeOf
 taken-settings which e = rw e refl
 
-pub taken-goaway : (which : ℕ) → which ≡ 9 → 9 ≡ takenNumber (keptAt which)
-unfolding takenNumber keptAt
+pub taken-goaway : (which : ℕ) → which ≡ IN-GOAWAY → GOAWAY ≡ takenNumber (keptAt which)
+unfolding takenNumber modeKept modeOf
 taken-goaway which e = rw e refl
 
-pub taken-push : (which : ℕ) → which ≡ 10 → 10 ≡ takenNumber (keptAt which)
-unfolding takenNumber keptAt
+pub taken-push : (which : ℕ) → which ≡ IN-MAX-PUSH-ID → MAX-PUSH-ID ≡ takenNumber (keptAt which)
+unfolding takenNumber modeKept modeOf
 taken-push which e = rw e refl
 
-pub kept-other : (which : ℕ) → (which ≡ 8 → ⊥) → (which ≡ 9 → ⊥) → (which ≡ 10 → ⊥) → keptAt which ≡ cancel-push
-unfolding keptAt
+pub kept-other : (which : ℕ) → (which ≡ IN-SETTINGS → ⊥) → (which ≡ IN-GOAWAY → ⊥) → (which ≡ IN-MAX-PUSH-ID → ⊥) → keptAt which ≡ cancel-push
+unfolding modeKept modeOf
 kept-other zero a b c = refl
 kept-other (suc zero) a b c = refl
 kept-other (suc (suc zero)) a b c = refl
@@ -110,21 +113,21 @@ kept-other (suc (suc (suc (suc (suc (suc (suc (suc (suc zero))))))))) a b c = ab
 kept-other (suc (suc (suc (suc (suc (suc (suc (suc (suc (suc zero)))))))))) a b c = absurd (c refl)
 kept-other (suc (suc (suc (suc (suc (suc (suc (suc (suc (suc (suc n))))))))))) a b c = refl
 
-pub taken-other : (which : ℕ) → (which ≡ 8 → ⊥) → (which ≡ 9 → ⊥) → (which ≡ 10 → ⊥) → 0 ≡ takenNumber (keptAt which)
+pub taken-other : (which : ℕ) → (which ≡ IN-SETTINGS → ⊥) → (which ≡ IN-GOAWAY → ⊥) → (which ≡ IN-MAX-PUSH-ID → ⊥) → NOTHING ≡ takenNumber (keptAt which)
 unfolding takenNumber
 taken-other which a b c = sym (ap takenNumber (kept-other which a b c))
 
 module _ (k : Kept) where
-  pub value-goaway : (which : ℕ) → which ≡ 9 → k .goaway .0 ≡ valueIn (keptAt which) k
-  unfolding valueIn keptAt
+  pub value-goaway : (which : ℕ) → which ≡ IN-GOAWAY → k .goaway .0 ≡ valueIn (keptAt which) k
+  unfolding valueIn modeKept modeOf
   value-goaway which e = rw e refl
 
-  pub value-push : (which : ℕ) → which ≡ 10 → k .push .0 ≡ valueIn (keptAt which) k
-  unfolding valueIn keptAt
+  pub value-push : (which : ℕ) → which ≡ IN-MAX-PUSH-ID → k .push .0 ≡ valueIn (keptAt which) k
+  unfolding valueIn modeKept modeOf
   value-push which e = rw e refl
 
-  pub value-other : (which : ℕ) → (which ≡ 9 → ⊥) → (which ≡ 10 → ⊥) → 0 ≡ valueIn (keptAt which) k
-  unfolding valueIn keptAt
+  pub value-other : (which : ℕ) → (which ≡ IN-GOAWAY → ⊥) → (which ≡ IN-MAX-PUSH-ID → ⊥) → 0 ≡ valueIn (keptAt which) k
+  unfolding valueIn modeKept modeOf
   value-other zero a b = refl
   value-other (suc zero) a b = refl
   value-other (suc (suc zero)) a b = refl
@@ -138,11 +141,11 @@ module _ (k : Kept) where
   value-other (suc (suc (suc (suc (suc (suc (suc (suc (suc (suc zero)))))))))) a b = absurd (b refl)
   value-other (suc (suc (suc (suc (suc (suc (suc (suc (suc (suc (suc n))))))))))) a b = refl
 
-pub type-encoder : (kind : ℕ) → kind ≡ 4 → 2 ≡ typeNumber (qpackOf kind)
+pub type-encoder : (kind : ℕ) → kind ≡ ENCODER → 2 ≡ typeNumber (qpackOf kind)
 unfolding typeNumber qpackOf
 type-encoder kind e = rw e refl
 
-pub type-decoder : (kind : ℕ) → (kind ≡ 4 → ⊥) → 3 ≡ typeNumber (qpackOf kind)
+pub type-decoder : (kind : ℕ) → (kind ≡ ENCODER → ⊥) → 3 ≡ typeNumber (qpackOf kind)
 unfolding typeNumber qpackOf
 type-decoder zero n = refl
 type-decoder (suc zero) n = refl
@@ -154,15 +157,15 @@ type-decoder (suc (suc (suc (suc (suc k))))) n = refl
 -- ---- sides
 
 module _ (d : Side) where
-  pub bare-encoder : (kind : ℕ) → kind ≡ 4 → sideOf (d .control) 1 (d .decoder) (d .kept) (d .held) (d .bytes) ≡ bareSide d kind
+  pub bare-encoder : (kind : ℕ) → kind ≡ ENCODER → sideOf (d .control) 1 (d .decoder) (d .kept) (d .held) (d .bytes) ≡ bareSide d kind
   unfolding bareSide
   bare-encoder kind e = rw e refl
 
-  pub bare-decoder : (kind : ℕ) → kind ≡ 5 → sideOf (d .control) (d .encoder) 1 (d .kept) (d .held) (d .bytes) ≡ bareSide d kind
+  pub bare-decoder : (kind : ℕ) → kind ≡ DECODER → sideOf (d .control) (d .encoder) 1 (d .kept) (d .held) (d .bytes) ≡ bareSide d kind
   unfolding bareSide
   bare-decoder kind e = rw e refl
 
-  pub bare-other : (kind : ℕ) → (kind ≡ 4 → ⊥) → (kind ≡ 5 → ⊥) → d ≡ bareSide d kind
+  pub bare-other : (kind : ℕ) → (kind ≡ ENCODER → ⊥) → (kind ≡ DECODER → ⊥) → d ≡ bareSide d kind
   unfolding bareSide
   bare-other zero a b = refl
   bare-other (suc zero) a b = refl
@@ -172,12 +175,12 @@ module _ (d : Side) where
   bare-other (suc (suc (suc (suc (suc zero))))) a b = absurd (b refl)
   bare-other (suc (suc (suc (suc (suc (suc n)))))) a b = refl
 
-  pub side-control : (kind phase : ℕ) (k : List ℕ) {kept : Kept} {bytes : List ℕ} {n : ℕ} {r : Side} → kind ≡ 3 → kept ≡ keptNumbers (controlOf (keptIn phase (d .kept))) → n ≡ length k → bytes ≡ bytesOf k
+  pub side-control : (kind phase : ℕ) (k : List ℕ) {kept : Kept} {bytes : List ℕ} {n : ℕ} {r : Side} → kind ≡ CONTROL → kept ≡ keptNumbers (controlOf (keptIn phase (d .kept))) → n ≡ length k → bytes ≡ bytesOf k
       → r ≡ sideOf 1 (d .encoder) (d .decoder) kept n bytes → r ≡ sideBy kind phase d k
   unfolding sideBy
   side-control kind phase k e f g h q = let x = eq-eqb kind 3 e in q ∙ rw (f, g, h) (rw (x, sideBy) refl)
 
-  pub side-bare : (kind phase : ℕ) (k : List ℕ) {r : Side} → (kind ≡ 3 → ⊥) → r ≡ bareSide d kind → r ≡ sideBy kind phase d k
+  pub side-bare : (kind phase : ℕ) (k : List ℕ) {r : Side} → (kind ≡ CONTROL → ⊥) → r ≡ bareSide d kind → r ≡ sideBy kind phase d k
   unfolding sideBy
   side-bare kind phase k n q = let x = ne-eqb kind 3 n in q ∙ rw (x, sideBy) refl
 

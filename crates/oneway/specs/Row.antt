@@ -3,13 +3,15 @@ use mathlib.Core.Path.{_≡_, refl}
 use Prim.Native.Nat.{ℕ, zero, suc, _%_, _≤_, _<_, _^_}
 use native.Mathlib.Omega.{arith}
 use Rattle.varint.specs.ByByte.{part, Good, small, fresh-good}
+use Rattle.streams.specs.Modes.{IN-CONTENT, IN-SETTINGS, OPENING, UNSET, SET}
 use Rattle.streams.specs.declared.Cells.{Cells}
 use Rattle.streams.specs.Answers.{Sane}
+use Rattle.record.specs.Kinds.{UNTYPED, CONTROL, ENCODER, SKIPPED}
 use Rattle.record.specs.Sound.{Shaped, Fit}
 use Rattle.oneway.specs.declared.OneWay.{OneWay}
 use Rattle.oneway.specs.Stands.{OneSoundAt, OneSound, cellsOf, OneShapeAt, OneShape}
 
-part-sane : (acc due : ℕ) → Good (part acc due) → Sane (cellsOf acc due 0)
+part-sane : (acc due : ℕ) → Good (part acc due) → Sane (cellsOf acc due OPENING)
 part-sane acc due g = record {
   modes = omega arith;
   header = λ l. g;
@@ -22,7 +24,7 @@ part-sane acc due g = record {
 
 module _ (id : ℕ) (i : id < 2 ^ 62) (m : id % 4 ≡ 2) where
   -- of a stream that has no frames, or none yet
-  bare-fit : (kind acc due : ℕ) → 2 ≤ kind → kind ≤ 6 → (kind ≡ 3 → ⊥) → Good (part acc due) → (4 ≤ kind → due ≡ 0) → Fit kind id (cellsOf acc due 0)
+  bare-fit : (kind acc due : ℕ) → UNTYPED ≤ kind → kind ≤ SKIPPED → (kind ≡ CONTROL → ⊥) → Good (part acc due) → (ENCODER ≤ kind → due ≡ 0) → Fit kind id (cellsOf acc due OPENING)
   bare-fit kind acc due lo hi n g d = record {
     sane = part-sane acc due g;
     shaped = record {
@@ -42,7 +44,7 @@ module _ (id : ℕ) (i : id < 2 ^ 62) (m : id % 4 ≡ 2) where
     };
   }
 
-  control-fit : (c : Cells) → Sane c → 3 ≤ c .phase → c .phase ≤ 4 → (3 ≤ c .mode → 8 ≤ c .mode) → Fit 3 id c
+  control-fit : (c : Cells) → Sane c → UNSET ≤ c .phase → c .phase ≤ SET → (IN-CONTENT ≤ c .mode → IN-SETTINGS ≤ c .mode) → Fit CONTROL id c
   control-fit c s lo hi mode = record {
     sane = s;
     shaped = record {
@@ -66,7 +68,7 @@ module _ (id : ℕ) (i : id < 2 ^ 62) (m : id % 4 ≡ 2) where
   unfolding OneSoundAt OneShapeAt
   fit-at zero c s h = absurd h
   fit-at (suc zero) c s h = absurd h
-  fit-at (suc (suc zero)) c s h = rw h (bare-fit 2 (c .acc) (c .due) (omega arith) (omega arith) (λ e. omega arith) s (λ e. absurd (omega arith)))
+  fit-at (suc (suc zero)) c s h = rw h (bare-fit UNTYPED (c .acc) (c .due) (omega arith) (omega arith) (λ e. omega arith) s (λ e. absurd (omega arith)))
   fit-at (suc (suc (suc zero))) c s h = control-fit c (s .0) (s .1) (h .0) (h .1)
   fit-at (suc (suc (suc (suc n)))) c s h =
       let u = h .1 in

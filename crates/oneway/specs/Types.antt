@@ -9,6 +9,7 @@ use Rattle.rules.specs.Numbers.{STREAM-CREATION-ERROR, codeNumber}
 use Rattle.rules.specs.Text.{isOneOf, lookup}
 use Rattle.rules.specs.OneWay.{Qpack, encoder, decoder, Kind, a-control, a-qpack, skipped, Typed, refuse, is, once, typeRule}
 use Rattle.oneway.specs.declared.Seen.{Seen}
+use Rattle.record.specs.Kinds.{CONTROL, ENCODER, DECODER, SKIPPED}
 
 -- a type that came, unless this is 0
 unfoldable pub came : (times type : ℕ) → List ℕ
@@ -24,10 +25,10 @@ seenOf s = typesOf (s .control) (s .encoder) (s .decoder)
 
 unfoldable pub kindNumber : Typed → ℕ
 kindNumber (refuse code) = codeNumber code
-kindNumber (is a-control) = 3
-kindNumber (is (a-qpack encoder)) = 4
-kindNumber (is (a-qpack decoder)) = 5
-kindNumber (is skipped) = 6
+kindNumber (is a-control) = CONTROL
+kindNumber (is (a-qpack encoder)) = ENCODER
+kindNumber (is (a-qpack decoder)) = DECODER
+kindNumber (is skipped) = SKIPPED
 
 unfoldable pub onceOf : (times kind : ℕ) → ℕ
 onceOf zero kind = kind
@@ -45,7 +46,7 @@ once-again (suc n) kind z = refl
 -- ---- laws: one for each row of the rule
 
 module _ (t : ℕ) where
-  control-type : (c e d : ℕ) → onceOf c 3 ≡ kindNumber (typeRule (typesOf c e d) 0)
+  control-type : (c e d : ℕ) → onceOf c CONTROL ≡ kindNumber (typeRule (typesOf c e d) 0)
   unfolding onceOf kindNumber typeRule typesOf came once isOneOf lookup
   control-type zero zero zero = refl
   control-type zero zero (suc d) = refl
@@ -53,7 +54,7 @@ module _ (t : ℕ) where
   control-type zero (suc e) (suc d) = refl
   control-type (suc c) e d = refl
 
-  encoder-type : (c e d : ℕ) → onceOf e 4 ≡ kindNumber (typeRule (typesOf c e d) 2)
+  encoder-type : (c e d : ℕ) → onceOf e ENCODER ≡ kindNumber (typeRule (typesOf c e d) 2)
   unfolding onceOf kindNumber typeRule typesOf came once isOneOf lookup
   encoder-type zero zero zero = refl
   encoder-type zero zero (suc d) = refl
@@ -62,7 +63,7 @@ module _ (t : ℕ) where
   encoder-type (suc c) zero (suc d) = refl
   encoder-type (suc c) (suc e) d = refl
 
-  decoder-type : (c e d : ℕ) → onceOf d 5 ≡ kindNumber (typeRule (typesOf c e d) 3)
+  decoder-type : (c e d : ℕ) → onceOf d DECODER ≡ kindNumber (typeRule (typesOf c e d) 3)
   unfolding onceOf kindNumber typeRule typesOf came once isOneOf lookup
   decoder-type zero zero zero = refl
   decoder-type zero zero (suc d) = refl
@@ -77,20 +78,20 @@ module _ (t : ℕ) where
     abbrev Kinds : ℕ → Type 0
     Kinds r = r ≡ kindNumber (typeRule (seenOf s) t)
 
-    pub kind-control : {r : ℕ} → t ≡ 0 → r ≡ onceOf (s .control) 3 → Kinds r
+    pub kind-control : {r : ℕ} → t ≡ 0 → r ≡ onceOf (s .control) CONTROL → Kinds r
     kind-control e f = f ∙ rw e (control-type (s .control) (s .encoder) (s .decoder))
 
     pub kind-push : t ≡ 1 → Kinds STREAM-CREATION-ERROR
     unfolding kindNumber typeRule lookup
     kind-push e = rw e refl
 
-    pub kind-encoder : {r : ℕ} → t ≡ 2 → r ≡ onceOf (s .encoder) 4 → Kinds r
+    pub kind-encoder : {r : ℕ} → t ≡ 2 → r ≡ onceOf (s .encoder) ENCODER → Kinds r
     kind-encoder e f = f ∙ rw e (encoder-type (s .control) (s .encoder) (s .decoder))
 
-    pub kind-decoder : {r : ℕ} → t ≡ 3 → r ≡ onceOf (s .decoder) 5 → Kinds r
+    pub kind-decoder : {r : ℕ} → t ≡ 3 → r ≡ onceOf (s .decoder) DECODER → Kinds r
     kind-decoder e f = f ∙ rw e (decoder-type (s .control) (s .encoder) (s .decoder))
 
-    pub kind-other : (t ≡ 0 → ⊥) → (t ≡ 1 → ⊥) → (t ≡ 2 → ⊥) → (t ≡ 3 → ⊥) → Kinds 6
+    pub kind-other : (t ≡ 0 → ⊥) → (t ≡ 1 → ⊥) → (t ≡ 2 → ⊥) → (t ≡ 3 → ⊥) → Kinds SKIPPED
     unfolding kindNumber typeRule lookup
     kind-other n0 n1 n2 n3 =
         let a = ne-eqb t 0 n0 in let b = ne-eqb t 1 n1 in let c = ne-eqb t 2 n2 in let d = ne-eqb t 3 n3 in rw (a, b, c, d, typeRule, lookup) refl

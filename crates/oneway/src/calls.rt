@@ -12,6 +12,8 @@ ghost use Prim.Native.Nat.{ℕ, _+_, _-_, _%_, _≤_, _<_, _^_, min};
 ghost use mathlib.Core.List.{_++_};
 ghost use lib.ListN.{length, take, drop};
 ghost use lib.Seq.{sets};
+ghost use Rattle.rules.specs.Events.{NOTHING};
+ghost use Rattle.streams.specs.Modes.{IN-SETTINGS, SET};
 ghost use Rattle.streams.specs.Answers.{keptAt};
 ghost use Rattle.record.specs.Sound.{Decides, Fit, cellsIn, stream, Written};
 ghost use Rattle.control.specs.Rules.{controlOf};
@@ -61,8 +63,7 @@ pub fn fresh() -> Side
     }
 }
 
-// number 0: accepted; 1: not an open one-way stream; 5; else the code. event 0: none, 7: QPACK stream bytes, 8: settings, 9: a client's GOAWAY,
-// 10: MAX_PUSH_ID, 12: freed. A part is len bytes of the piece from start on. used and heads: bytes and frame headers of the piece.
+// number: accepted, not an open one-way stream, no section is due, or the code. A part is len bytes of the piece from start on. used and heads: bytes and frame headers of the piece.
 // value: the QPACK stream's type, or the push ID.
 pub struct Heard {
     pub number: u64,
@@ -90,15 +91,15 @@ fn number_if(has: u64, x: u64) -> u64
     if has == 0 { 0 } else { x }
 }
 
-// Of a stream in this phase: SETTINGS have come if it is above 3.
+// Of a stream in this phase: SETTINGS have come if it is behind UNSET.
 fn kept_in(phase: u64, k: Kept) -> Kept
-    requires { ⌜ phase ≤ 4 ⌝ }
+    requires { ⌜ phase ≤ SET ⌝ }
     ensures { λ r. ⌜ r ≡ keptIn phase k ⌝ }
 {
     let goaway = k.goaway;
     let push = k.push;
     Kept {
-        set: if 3 < phase { 1 } else { 0 },
+        set: if streams::UNSET < phase { 1 } else { 0 },
         limited: k.limited,
         size: k.size,
         capacity: k.capacity,
@@ -180,11 +181,11 @@ fn behind_settings() -> Cells
     ensures { λ r. ⌜ r ≡ cellsOf 0 0 4 ⌝ }
 {
     Cells {
-        mode: 0,
+        mode: streams::IN_TYPE,
         acc: 0,
         due: 0,
         ftype: 0,
-        phase: 4,
+        phase: streams::SET,
         has: 0,
         stated: 0,
         sum: 0,
@@ -210,11 +211,11 @@ fn bare_side(d: Side, kind: u64) -> Side
     ensures { λ r. ⌜ r ≡ bareSide d kind ⌝ }
 {
     let mut side = d;
-    if kind == 4 {
+    if kind == record::ENCODER {
         side.encoder = 1;
         return side;
     }
-    if kind == 5 {
+    if kind == record::DECODER {
         side.decoder = 1;
         return side;
     }
@@ -222,7 +223,7 @@ fn bare_side(d: Side, kind: u64) -> Side
 }
 
 fn refuse(number: u64, used: usize, heads: u64, r: Record, d: Side) -> Heard
-    ensures { λ a. ⌜ a ≡ heard number 0 0 0 used heads 0 r d ⌝ }
+    ensures { λ a. ⌜ a ≡ heard number NOTHING 0 0 used heads 0 r d ⌝ }
 {
     Heard {
         number,
@@ -245,7 +246,7 @@ fn taken_number(which: u64) -> u64
     if which == 8 {
         rules::SETTINGS
     } else if which == 9 {
-        rules::CLIENT_GOAWAY
+        rules::GOAWAY
     } else if which == 10 {
         rules::MAX_PUSH_ID
     } else {
@@ -277,16 +278,16 @@ fn judged(
     r: Record,
     d: Side,
 ) -> Heard
-    requires { ⌜ (phase ≤ 4) × (r .id < 2 ^ 62) × (r .id % 4 ≡ 2) ⌝ }
+    requires { ⌜ (phase ≤ SET) × (r .id < 2 ^ 62) × (r .id % 4 ≡ 2) ⌝ }
     ensures { λ a. ⌜ (a ≡ judgedHere which phase (now (payload .entry)) used heads r d) × Stays (a .row) (a .side) (judging which phase (now (payload .entry)) used heads d) ⌝ }
 {
     let kept = d.kept;
     let v = control::judge(which, kept_in(phase, kept), payload);
-    if v.number == 0 {
+    if v.number == rules::ACCEPTED {
         let after = v.kept;
         let tidy = tidy_kept(after);
         Heard {
-            number: 0,
+            number: rules::ACCEPTED,
             event: taken_number(which),
             start: 0,
             len: 0,
@@ -305,7 +306,7 @@ fn judged(
 
 // On with a payload that an earlier piece began.
 fn on_kept(r: Record, c: Cells, d: Side, piece: &[u8], allow: u64) -> Heard
-    requires { ⌜ Heeds r × (c ≡ cellsIn r) × (8 ≤ c .mode) ⌝ }
+    requires { ⌜ Heeds r × (c ≡ cellsIn r) × (IN-SETTINGS ≤ c .mode) ⌝ }
     ensures { λ a. ⌜ (a ≡ fedHere r d allow (now (piece .entry)) (stateHere r d)) × Stays (a .row) (a .side) (feeding d allow (now (piece .entry)) (stateHere r d)) ⌝ }
 {
     let kept = d.kept;
@@ -321,7 +322,7 @@ fn on_kept(r: Record, c: Cells, d: Side, piece: &[u8], allow: u64) -> Heard
         let mut e = c;
         e.acc = c.acc - came;
         Heard {
-            number: 0,
+            number: rules::ACCEPTED,
             event: rules::NOTHING,
             start: 0,
             len: 0,
@@ -337,7 +338,7 @@ fn on_kept(r: Record, c: Cells, d: Side, piece: &[u8], allow: u64) -> Heard
 fn qpack_type(kind: u64) -> u64
     ensures { λ r. ⌜ r ≡ typeNumber (qpackOf kind) ⌝ }
 {
-    if kind == 4 { 2 } else { 3 }
+    if kind == record::ENCODER { 2 } else { 3 }
 }
 
 // How many bytes of the piece are kept of a payload that it begins: all that came, and never more than 256.
@@ -353,12 +354,12 @@ fn begun(event: u64, len: u64) -> usize
 
 // Beside a stream of this kind, of whose kept payload the piece has n bytes from `from` on.
 fn side_of(kind: u64, phase: u64, d: Side, piece: &[u8], from: usize, n: usize) -> Side
-    requires { ⌜ (phase ≤ 4) × (n ≤ 256) × (from + n ≤ length (now piece)) ⌝ }
+    requires { ⌜ (phase ≤ SET) × (n ≤ 256) × (from + n ≤ length (now piece)) ⌝ }
     ensures { λ r. ⌜ r ≡ sideBy kind phase d (take n (drop from (now (piece .entry)))) ⌝ }
 {
     let kept = d.kept;
     let bytes = d.bytes;
-    if kind == 3 {
+    if kind == record::CONTROL {
         control_side(
             d,
             tidy_kept(kept_in(phase, kept)),
@@ -372,7 +373,7 @@ fn side_of(kind: u64, phase: u64, d: Side, piece: &[u8], from: usize, n: usize) 
 
 // On with a type, with frames, or with what has none.
 fn on(r: Record, c: Cells, d: Side, piece: &[u8], allow: u64) -> Heard
-    requires { ⌜ Heeds r × (c ≡ cellsIn r) × (c .mode < 8) ⌝ }
+    requires { ⌜ Heeds r × (c ≡ cellsIn r) × (c .mode < IN-SETTINGS) ⌝ }
     ensures { λ a. ⌜ (a ≡ fedHere r d allow (now (piece .entry)) (stateHere r d)) × Stays (a .row) (a .side) (feeding d allow (now (piece .entry)) (stateHere r d)) ⌝ }
 {
     let a = crate::feed(
@@ -400,10 +401,10 @@ fn on(r: Record, c: Cells, d: Side, piece: &[u8], allow: u64) -> Heard
     let e = w.cells;
     let row = row_of(w.kind, r.id, e);
     let side = side_of(w.kind, c.phase, d, piece, a.start, begun(a.event, a.len));
-    if a.event == rules::QPACK_BYTES {
+    if a.event == rules::QPACK {
         return Heard {
-            number: 0,
-            event: rules::QPACK_BYTES,
+            number: rules::ACCEPTED,
+            event: rules::QPACK,
             start: a.start,
             len: a.len,
             used: a.used,
@@ -414,7 +415,7 @@ fn on(r: Record, c: Cells, d: Side, piece: &[u8], allow: u64) -> Heard
         };
     }
     Heard {
-        number: 0,
+        number: rules::ACCEPTED,
         event: rules::NOTHING,
         start: 0,
         len: 0,
@@ -434,13 +435,13 @@ fn heeds(r: Record) -> bool
 {
     let s = record::read(r);
     let c = s.cells;
-    if s.kind < 2 {
+    if s.kind < record::UNTYPED {
         return false;
     }
-    if 6 < s.kind {
+    if record::SKIPPED < s.kind {
         return false;
     }
-    if c.mode < 8 {
+    if c.mode < streams::IN_SETTINGS {
         return true;
     }
     if 256 < c.acc { false } else { true }
@@ -453,7 +454,7 @@ pub fn feed(r: Record, d: Side, piece: &[u8], allow: u64) -> Heard
     if heeds(r) {
         let s = record::read(r);
         let c = s.cells;
-        if c.mode < 8 {
+        if c.mode < streams::IN_SETTINGS {
             on(r, c, d, piece, allow)
         } else {
             on_kept(r, c, d, piece, allow)
@@ -468,7 +469,7 @@ pub fn give(r: Record, d: Side) -> Heard
     ensures { λ a. ⌜ HeardAs r d (givenHere r d) a ⌝ }
 {
     if heeds(r) {
-        refuse(rules::NONE_DUE, 0, 0, r, d)
+        refuse(rules::NO_SECTION, 0, 0, r, d)
     } else {
         refuse(rules::NOT_OPEN, 0, 0, r, d)
     }
@@ -487,7 +488,7 @@ pub fn close(r: Record, d: Side) -> Heard
         });
         if n == 0 {
             Heard {
-                number: 0,
+                number: rules::ACCEPTED,
                 event: rules::FREED,
                 start: 0,
                 len: 0,

@@ -12,7 +12,9 @@ ghost use Rattle.varint.specs.ByByte.{part, Good};
 ghost use Rattle.oneway.specs.Types.{seenOf, onceOf, kindNumber};
 ghost use Rattle.oneway.specs.Stands.{OneSound, cellsOf, OneFed};
 ghost use Rattle.oneway.specs.Typed.{TypeRead};
+ghost use Rattle.streams.specs.Modes.{UNSET};
 ghost use Rattle.streams.specs.Answers.{Sane};
+ghost use Rattle.record.specs.Kinds.{ENCODER};
 ghost use Rattle.oneway.specs.Frames.{Controlled};
 ghost use Rattle.oneway.specs.Fed.{untyped, quietAt, Bare};
 ghost use Rattle.oneway.specs.Closed.{Closes};
@@ -25,7 +27,7 @@ pub struct Seen {
     pub decoder: u64,
 }
 
-// kind 2: its type is not whole, 3: control, 4: QPACK encoder, 5: QPACK decoder, 6: skipped. The cells are those of `streams`; before the
+// A kind of crate record, but a request. The cells are those of `streams`; before the
 // type is whole acc and due hold what was read of it.
 #[repr(C)]
 pub struct OneWay {
@@ -33,7 +35,7 @@ pub struct OneWay {
     pub cells: Cells,
 }
 
-// event 0: none, 4: a fault, its code in len, 5: a kept payload is complete, 6: a part of one, 7: QPACK stream bytes.
+// Nothing, a fault with its code in len, a kept payload that is complete, a part of one, or QPACK stream bytes.
 // A part is len bytes of the piece from start on. payload: which one is complete (8 SETTINGS, 9 GOAWAY, 10 MAX_PUSH_ID, 11 CANCEL_PUSH); then the
 // stream is where it stands once the payload is judged good.
 pub struct OneAnswer {
@@ -64,15 +66,15 @@ fn kind_of(t: u64, seen: Seen) -> u64
     ensures { λ r. ⌜ r ≡ kindNumber (typeRule (seenOf seen) t) ⌝ }
 {
     if t == 0 {
-        once(seen.control, 3)
+        once(seen.control, record::CONTROL)
     } else if t == 1 {
         rules::STREAM_CREATION_ERROR
     } else if t == 2 {
-        once(seen.encoder, 4)
+        once(seen.encoder, record::ENCODER)
     } else if t == 3 {
-        once(seen.decoder, 5)
+        once(seen.decoder, record::DECODER)
     } else {
-        6
+        record::SKIPPED
     }
 }
 
@@ -116,12 +118,12 @@ fn type_on(s: &[u8], acc: u64, due: u64) -> TypeEnd
 
 // ---- behind the type
 
-// What was read of a type; or, with none of it, between two frames of a control stream, before SETTINGS (phase 3) or behind them (4).
+// What was read of a type; or, with none of it, between two frames of a control stream, before SETTINGS or behind them.
 fn cells(acc: u64, due: u64, phase: u64) -> Cells
     ensures { λ r. ⌜ r ≡ cellsOf acc due phase ⌝ }
 {
     Cells {
-        mode: 0,
+        mode: streams::IN_TYPE,
         acc,
         due,
         ftype: 0,
@@ -134,13 +136,13 @@ fn cells(acc: u64, due: u64, phase: u64) -> Cells
 
 // The frames of a control stream, from at on; w is the stream before.
 fn control(s: &[u8], at: usize, w: OneWay, c: Cells, allow: u64) -> OneAnswer
-    requires { ⌜ (at ≤ length (now s)) × Sane c × (3 ≤ c .phase) × OneSound w ⌝ }
+    requires { ⌜ (at ≤ length (now s)) × Sane c × (UNSET ≤ c .phase) × OneSound w ⌝ }
     ensures { λ r. ⌜ Controlled (now (s .entry)) at w c allow r ⌝ }
 {
     let rest = &s[at..];
     let a = streams::feed(rest, c, allow);
     let left = a.cells;
-    if a.event < 4 {
+    if a.event < rules::FAULT {
         OneAnswer {
             event: a.event,
             start: at + a.start,
@@ -149,7 +151,7 @@ fn control(s: &[u8], at: usize, w: OneWay, c: Cells, allow: u64) -> OneAnswer
             heads: a.heads,
             payload: 0,
             stream: OneWay {
-                kind: 3,
+                kind: record::CONTROL,
                 cells: left,
             },
         }
@@ -172,8 +174,8 @@ fn control(s: &[u8], at: usize, w: OneWay, c: Cells, allow: u64) -> OneAnswer
             heads: a.heads,
             payload: left.mode,
             stream: OneWay {
-                kind: 3,
-                cells: cells(0, 0, 4),
+                kind: record::CONTROL,
+                cells: cells(0, 0, streams::SET),
             },
         }
     } else {
@@ -185,7 +187,7 @@ fn control(s: &[u8], at: usize, w: OneWay, c: Cells, allow: u64) -> OneAnswer
             heads: a.heads,
             payload: 0,
             stream: OneWay {
-                kind: 3,
+                kind: record::CONTROL,
                 cells: left,
             },
         }
@@ -209,14 +211,14 @@ fn quiet(to: usize, w: OneWay) -> OneAnswer
 
 // A QPACK or skipped stream, from at on.
 fn bare(s: &[u8], at: usize, w: OneWay) -> OneAnswer
-    requires { ⌜ (at ≤ length (now s)) × (4 ≤ w .kind) ⌝ }
+    requires { ⌜ (at ≤ length (now s)) × (ENCODER ≤ w .kind) ⌝ }
     ensures { λ r. ⌜ Bare (now (s .entry)) at w r ⌝ }
 {
-    if 5 < w.kind {
+    if record::DECODER < w.kind {
         quiet(s.len(), w)
     } else if at < s.len() {
         OneAnswer {
-            event: rules::QPACK_BYTES,
+            event: rules::QPACK,
             start: at,
             len: (s.len() - at) as u64,
             used: s.len(),
@@ -241,13 +243,13 @@ fn typed(s: &[u8], c: Cells, seen: Seen, allow: u64) -> OneAnswer
         return quiet(
             s.len(),
             OneWay {
-                kind: 2,
-                cells: cells(e.acc, e.due, 0),
+                kind: record::UNTYPED,
+                cells: cells(e.acc, e.due, streams::OPENING),
             },
         );
     }
     let kind = kind_of(e.acc, seen);
-    if 6 < kind {
+    if record::SKIPPED < kind {
         return OneAnswer {
             event: rules::FAULT,
             start: e.next,
@@ -255,15 +257,21 @@ fn typed(s: &[u8], c: Cells, seen: Seen, allow: u64) -> OneAnswer
             used: e.next,
             heads: 0,
             payload: 0,
-            stream: OneWay { kind: 2, cells: c },
+            stream: OneWay {
+                kind: record::UNTYPED,
+                cells: c,
+            },
         };
     }
-    if kind == 3 {
+    if kind == record::CONTROL {
         return control(
             s,
             e.next,
-            OneWay { kind: 2, cells: c },
-            cells(0, 0, 3),
+            OneWay {
+                kind: record::UNTYPED,
+                cells: c,
+            },
+            cells(0, 0, streams::UNSET),
             allow,
         );
     }
@@ -272,7 +280,7 @@ fn typed(s: &[u8], c: Cells, seen: Seen, allow: u64) -> OneAnswer
         e.next,
         OneWay {
             kind,
-            cells: cells(0, 0, 0),
+            cells: cells(0, 0, streams::OPENING),
         },
     )
 }
@@ -283,9 +291,9 @@ pub fn feed(s: &[u8], w: OneWay, seen: Seen, allow: u64) -> OneAnswer
     ensures { λ r. ⌜ OneFed w seen (now (s .entry)) allow r ⌝ }
 {
     let c = w.cells;
-    if w.kind == 2 {
+    if w.kind == record::UNTYPED {
         typed(s, c, seen, allow)
-    } else if w.kind == 3 {
+    } else if w.kind == record::CONTROL {
         control(s, 0, w, c, allow)
     } else {
         bare(s, 0, w)
@@ -296,9 +304,9 @@ pub fn feed(s: &[u8], w: OneWay, seen: Seen, allow: u64) -> OneAnswer
 pub fn close(w: OneWay) -> u64
     ensures { λ r. ⌜ Closes w r ⌝ }
 {
-    if w.kind < 3 {
+    if w.kind < record::CONTROL {
         0
-    } else if 5 < w.kind {
+    } else if record::DECODER < w.kind {
         0
     } else {
         rules::CLOSED_CRITICAL_STREAM

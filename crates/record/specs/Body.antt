@@ -5,8 +5,11 @@ use native.Mathlib.Omega.{arith}
 use mathlib.Core.Bool.{true, false}
 use lib.Dec.{lit≤, lit<}
 use Rattle.varint.specs.ByByte.{part, Good}
+use Rattle.rules.specs.Events.{CONTENT}
+use Rattle.streams.specs.Modes.{IN-TYPE, IN-CONTENT, TRAILERS-DUE, BODY}
 use Rattle.streams.specs.declared.Cells.{Cells}
 use Rattle.streams.specs.Answers.{Sane, Content, goes-on, is-over}
+use Rattle.record.specs.Kinds.{REQUEST}
 use Rattle.record.specs.declared.Record.{Record}
 use Rattle.record.specs.Row.{recordAt}
 use Rattle.record.specs.Sound.{Fit, cellsIn, tidied, Sound, stream, Written}
@@ -20,8 +23,8 @@ said-no e = let z : _≡_ {A = ℕ} 0 1 = cc in absurd (omega arith)
 
 -- what both have in common
 pub record Body (r : Record) : Type 0 where
-  pub kind : r .kind ≡ 1
-  pub phase : r .phase ≡ 1
+  pub kind : r .kind ≡ REQUEST
+  pub phase : r .phase ≡ BODY
   pub due : r .due ≡ 0
   pub owner : r .owner ≡ 0
   pub room : r .room ≡ 0
@@ -48,7 +51,7 @@ module _ (r : Record) (b : Body r) where
   head-own : (acc : ℕ) → c .acc ≡ acc → c ≡ headAs c acc 0 0
   head-own acc e = ap (λ x. headAs c x (c .due) (c .ftype)) e ∙ ap (λ x. headAs c acc x (c .ftype)) (b .due) ∙ ap (λ x. headAs c acc 0 x) (b .type)
 
-  sound : Sane c → c .mode ≤ 7 → c ≡ headTidied c → Sound r
+  sound : Sane c → c .mode ≤ TRAILERS-DUE → c ≡ headTidied c → Sound r
   sound s m e =
       let p = b .phase in
       let k = b .kind in
@@ -59,14 +62,14 @@ module _ (r : Record) (b : Body r) where
       }
 
   -- IN CONTENT
-  pub content-sound : r .mode ≡ 3 → (r .acc ≡ 0 → ⊥) → r .acc < 2 ^ 62 → Sound r
+  pub content-sound : r .mode ≡ IN-CONTENT → (r .acc ≡ 0 → ⊥) → r .acc < 2 ^ 62 → Sound r
   content-sound m a l =
       let y = b .type in
       let s : Sane c = record { modes = omega arith; header = λ h. absurd (omega arith); small = l; type = omega arith; some = λ g h i. omega arith; sums = b .sums; stateds = b .stateds } in
       sound s (omega arith) (tidy-payload c s (omega arith) (λ e. omega arith) (λ e. omega arith) (head-own (c .acc) refl))
 
   -- BETWEEN TWO FRAMES
-  pub between-sound : r .mode ≡ 0 → r .acc ≡ 0 → Sound r
+  pub between-sound : r .mode ≡ IN-TYPE → r .acc ≡ 0 → Sound r
   between-sound m a =
       let y = b .type in
       let d = b .due in
@@ -103,8 +106,8 @@ module _ (r : Record) (b : Body r) where
   sound-again {d} s (is-over sum) = let q = contentIn r d in (head-own q (body-again s) 0 refl, between-sound q (body-again s) refl refl)
 
   -- SO ALTERED IT IS the one record of the state behind the content
-  pub content-written : {d : Cells} → Sane d → Content (cellsIn r) d → Written (stream 1 (r .id) d) (contentIn r d)
+  pub content-written : {d : Cells} → Sane d → Content (cellsIn r) d → Written (stream REQUEST (r .id) d) (contentIn r d)
   content-written {d} s h =
       let q = contentIn r d in
       let w : Written (stream (r .kind) (r .id) (cellsIn q)) q = written-own q (sound-again s h .1) in
-      subst (λ x. Written (stream 1 (r .id) x) q) (sound-again s h .0) (subst (λ k. Written (stream k (r .id) (cellsIn q)) q) (b .kind) w)
+      subst (λ x. Written (stream REQUEST (r .id) x) q) (sound-again s h .0) (subst (λ k. Written (stream k (r .id) (cellsIn q)) q) (b .kind) w)

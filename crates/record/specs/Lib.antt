@@ -1,3 +1,4 @@
+pub mod Kinds
 pub mod Row
 pub mod Sound
 pub mod Tests

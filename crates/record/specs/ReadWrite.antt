@@ -2,6 +2,7 @@
 use mathlib.Core.Path.{_≡_, refl, sym, ap, _∙_}
 use Prim.Native.Nat.{ℕ}
 use Rattle.streams.specs.declared.Cells.{Cells}
+use Rattle.record.specs.Kinds.{FREE, UNSOUND}
 use Rattle.record.specs.declared.Record.{Record}
 use Rattle.record.specs.declared.Stream.{Stream}
 use Rattle.record.specs.Row.{recordAt, no-cells, free-record}
@@ -9,12 +10,12 @@ use Rattle.record.specs.Sound.{Fit, cellsIn, tidied, stream, Read, is-fr
 use Rattle.record.specs.Tidy.{one-state}
 
 module _ (r : Record) where
-  pub read-free : {z : Cells} → r ≡ free-record → z ≡ no-cells → Read r (stream 0 0 z)
-  read-free e f = is-free e (ap (stream 0 0) f)
+  pub read-free : {z : Cells} → r ≡ free-record → z ≡ no-cells → Read r (stream FREE 0 z)
+  read-free e f = is-free e (ap (stream FREE 0) f)
 
   module _ {kind : ℕ} {c : Cells} (k : kind ≡ r .kind) (e : c ≡ cellsIn r) (taken : r ≡ free-record → ⊥) where
-    pub read-unfit : {z : Cells} → (Fit kind (r .id) c → ⊥) → z ≡ no-cells → Read r (stream 7 0 z)
-    read-unfit n f = is-unsound taken (λ s. n (rw (k, e) (s .fit))) (ap (stream 7 0) f)
+    pub read-unfit : {z : Cells} → (Fit kind (r .id) c → ⊥) → z ≡ no-cells → Read r (stream UNSOUND 0 z)
+    read-unfit n f = is-unsound taken (λ s. n (rw (k, e) (s .fit))) (ap (stream UNSOUND 0) f)
 
     module _ {t : Cells} (q : t ≡ tidied c) where
       own : recordAt (r .kind) (r .id) t ≡ recordAt (r .kind) (r .id) (tidied (cellsIn r))
@@ -23,8 +24,8 @@ module _ (r : Record) where
       pub read-sound : Fit kind (r .id) c → r ≡ recordAt (r .kind) (r .id) t → Read r (stream kind (r .id) c)
       read-sound f o = is-open (record { fit = rw (k, e) at f; own = o ∙ own }) (rw (k, e) refl)
 
-      pub read-other : {z : Cells} → (r ≡ recordAt (r .kind) (r .id) t → ⊥) → z ≡ no-cells → Read r (stream 7 0 z)
-      read-other n f = is-unsound taken (λ s. n (s .own ∙ sym own)) (ap (stream 7 0) f)
+      pub read-other : {z : Cells} → (r ≡ recordAt (r .kind) (r .id) t → ⊥) → z ≡ no-cells → Read r (stream UNSOUND 0 z)
+      read-other n f = is-unsound taken (λ s. n (s .own ∙ sym own)) (ap (stream UNSOUND 0) f)
 
 module _ (s : Stream) {r : Record} where
   pub write-open : {t : Cells} → Fit (s .kind) (s .id) (s .cells) → t ≡ tidied (s .cells) → r ≡ recordAt (s .kind) (s .id) t → Written s r

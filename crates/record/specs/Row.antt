@@ -1,7 +1,7 @@
 -- THE ONE RECORD that means a state: numbers alone, and those that would say nothing are 0. Assumes nothing.
 use Prim.Native.Nat.{ℕ, suc}
 use mathlib.Core.Option.{Option, none, some}
-use Rattle.rules.specs.Reading.{Part, header-section, trailers, settings, goaway, max-push-id, cancel-push, Use, content, skipped, section, kept}
+use Rattle.rules.specs.Events.{SETTINGS}
 use Rattle.rules.specs.Message.{Message, opening, body, trailed}
 use Rattle.rules.specs.Control.{unset, set}
 use Rattle.rules.specs.OneWay.{encoder, decoder}
@@ -9,18 +9,20 @@ use Rattle.meaning.specs.Machine.{State, in-type, in-length, in-payload, due, b
 use Rattle.meaning.specs.Hom.{map-state}
 use Rattle.meaning.specs.OneWayFeed.{OneState, in-stream-type, in-control, in-qpack, in-skipped}
 use Rattle.varint.specs.ByByte.{partOf}
+use Rattle.streams.specs.Modes.{IN-TYPE, IN-LENGTH, OPENING, BODY, TRAILED, UNSET, SET, paying, waiting, modeNumber}
 use Rattle.streams.specs.declared.Cells.{Cells}
 use Rattle.streams.specs.Both.{Place, of-request, of-control}
+use Rattle.record.specs.Kinds.{FREE, REQUEST, UNTYPED, CONTROL, ENCODER, DECODER, SKIPPED}
 use Rattle.record.specs.declared.Record.{Record}
 
 -- ---- a place between two frames: its phase, whether a length is stated, the length, the sum of DATA
 
 unfoldable pub phaseOf : Place → ℕ
-phaseOf (of-request opening) = 0
-phaseOf (of-request (body stated sum)) = 1
-phaseOf (of-request (trailed stated sum)) = 2
-phaseOf (of-control unset) = 3
-phaseOf (of-control (set s g m)) = 4
+phaseOf (of-request opening) = OPENING
+phaseOf (of-request (body stated sum)) = BODY
+phaseOf (of-request (trailed stated sum)) = TRAILED
+phaseOf (of-control unset) = UNSET
+phaseOf (of-control (set s g m)) = SET
 
 unfoldable pub statedIn : Place → Option ℕ
 statedIn (of-request opening) = none
@@ -44,20 +46,6 @@ sumIn (of-control c) = 0
 
 -- ---- a place in a header or payload: a mode, the integer's value so far or the payload's bytes to come, the integer's bytes to come, the type
 
-unfoldable pub modeOf : Use → ℕ
-modeOf skipped = 2
-modeOf content = 3
-modeOf (section header-section) = 4
-modeOf (section trailers) = 5
-modeOf (kept settings) = 8
-modeOf (kept goaway) = 9
-modeOf (kept max-push-id) = 10
-modeOf (kept cancel-push) = 11
-
-unfoldable pub dueMode : Part → ℕ
-dueMode header-section = 6
-dueMode trailers = 7
-
 pub record Numbers : Type 0 where
   pub mode : ℕ
   pub acc : ℕ
@@ -68,10 +56,10 @@ abbrev pub numbers : (mode acc due ftype : ℕ) → Numbers
 numbers mode acc d ftype = record { mode = mode; acc = acc; due = d; ftype = ftype }
 
 unfoldable pub numbersOf : {P : Type 0} → State P → Numbers
-numbersOf (in-type g p) = numbers 0 (partOf g .acc) (partOf g .due) 0
-numbersOf (in-length t g p) = numbers 1 (partOf g .acc) (partOf g .due) t
-numbersOf (in-payload u k left p) = numbers (modeOf u) (suc left) 0 0
-numbersOf (due t p) = numbers (dueMode t) 0 0 0
+numbersOf (in-type g p) = numbers IN-TYPE (partOf g .acc) (partOf g .due) 0
+numbersOf (in-length t g p) = numbers IN-LENGTH (partOf g .acc) (partOf g .due) t
+numbersOf (in-payload u k left p) = numbers (modeNumber (paying u)) (suc left) 0 0
+numbersOf (due t p) = numbers (modeNumber (waiting t)) 0 0 0
 
 unfoldable pub placeIn : {P : Type 0} → State P → P
 placeIn (in-type g p) = p
@@ -119,18 +107,18 @@ recordOf kind id s = recordAt kind id (cellsFor s)
 
 -- A REQUEST STREAM'S, and A ONE-WAY STREAM'S: one that has no frames, or none yet, leaves the place unused
 abbrev pub requestRecord : (id : ℕ) → State Message → Record
-requestRecord id s = recordOf 1 id (map-state of-request s)
+requestRecord id s = recordOf REQUEST id (map-state of-request s)
 
 unfoldable pub oneWayRecord : (id : ℕ) → OneState → Record
-oneWayRecord id (in-stream-type g) = recordOf 2 id (in-type g (of-request opening))
-oneWayRecord id (in-control s) = recordOf 3 id (map-state of-control s)
-oneWayRecord id (in-qpack encoder) = recordOf 4 id (between (of-request opening))
-oneWayRecord id (in-qpack decoder) = recordOf 5 id (between (of-request opening))
-oneWayRecord id in-skipped = recordOf 6 id (between (of-request opening))
+oneWayRecord id (in-stream-type g) = recordOf UNTYPED id (in-type g (of-request opening))
+oneWayRecord id (in-control s) = recordOf CONTROL id (map-state of-control s)
+oneWayRecord id (in-qpack encoder) = recordOf ENCODER id (between (of-request opening))
+oneWayRecord id (in-qpack decoder) = recordOf DECODER id (between (of-request opening))
+oneWayRecord id in-skipped = recordOf SKIPPED id (between (of-request opening))
 
 abbrev pub no-cells : Cells
-no-cells = record { mode = 0; acc = 0; due = 0; ftype = 0; phase = 0; has = 0; stated = 0; sum = 0 }
+no-cells = record { mode = IN-TYPE; acc = 0; due = 0; ftype = 0; phase = OPENING; has = 0; stated = 0; sum = 0 }
 
 -- A FREE RECORD
 abbrev pub free-record : Record
-free-record = recordAt 0 0 no-cells
+free-record = recordAt FREE 0 no-cells

@@ -4,22 +4,25 @@ use Prim.Native.Nat.{ℕ, zero, suc, _≤_, _<_}
 use native.Mathlib.Omega.{arith}
 use mathlib.Core.List.{List, []}
 use mathlib.Core.Option.{none, some}
+use Rattle.rules.specs.Reading.{Part, Use}
 use Rattle.rules.specs.Message.{opening, body, trailed}
 use Rattle.rules.specs.Control.{unset, set}
 use Rattle.rules.specs.OneWay.{encoder, decoder}
 use Rattle.meaning.specs.Machine.{State, between, in-type, in-length}
 use Rattle.meaning.specs.OneWayFeed.{in-stream-type, in-qpack, in-skipped}
 use Rattle.varint.specs.ByByte.{prog, partOf}
+use Rattle.streams.specs.Modes.{IN-TYPE, IN-LENGTH, IN-SKIPPED, HEADER-SECTION-DUE, TRAILERS-DUE, OPENING, UNSET, typing, sizing, paying, waiting, modeNumber, modeOf, IsMode, is-mode, mode-view, mode-back, paying-late}
 use Rattle.streams.specs.declared.Cells.{Cells}
 use Rattle.streams.specs.Both.{Place, of-request, of-control}
 use Rattle.streams.specs.Uses.{statedOf, placeOf, Stands, a-place, any-set}
 use Rattle.streams.specs.Heads.{headState}
-use Rattle.streams.specs.Answers.{stateAt, stateOf, StandsIn, Sane}
+use Rattle.streams.specs.Answers.{modeState, stateAt, stateOf, StandsIn, Sane}
+use Rattle.record.specs.Kinds.{FREE, REQUEST, UNTYPED, CONTROL, ENCODER, DECODER, SKIPPED}
 use Rattle.record.specs.declared.Record.{Record}
 use Rattle.record.specs.declared.Stream.{Stream}
 use Rattle.record.specs.Row.{phaseOf, statedIn, isStated, lengthOf, sumIn, Numbers, numbersOf, placeIn, recordAt, cellsFor, recordOf, oneWayRecord, free-record}
 use Rattle.record.specs.Sound.{Fit, cellsIn, ownPlace, tidied, Sound, stream, Read, is-free, is-open, is-unsound, Written, is-record, is-none}
-use Rattle.record.specs.Tidy.{ModeView, typing, sizing, waiting, paying, mode-view, in-type-numbers, in-length-numbers, due-numbers, payload-numbers, place-back, one-state, Tidier, tidy-less}
+use Rattle.record.specs.Tidy.{in-type-numbers, in-length-numbers, due-numbers, payload-numbers, place-back, one-state, Tidier, tidy-less}
 
 -- ---- the cells of a state stand for that state
 
@@ -32,37 +35,23 @@ abbrev stateBy : {P : Type 0} → Numbers → P → List ℕ → State P
 stateBy n p k = stateAt (n .mode) (n .acc) (n .due) (n .ftype) p k
 
 module _ {P : Type 0} (a d t : ℕ) (p : P) (k : List ℕ) where
-  due-free : (mode : ℕ) → 6 ≤ mode → mode ≤ 7 → stateAt mode 0 0 0 p k ≡ stateAt mode a d t p k
-  unfolding stateAt
-  due-free zero l u = absurd (omega arith)
-  due-free (suc zero) l u = absurd (omega arith)
-  due-free (suc (suc zero)) l u = absurd (omega arith)
-  due-free (suc (suc (suc zero))) l u = absurd (omega arith)
-  due-free (suc (suc (suc (suc zero)))) l u = absurd (omega arith)
-  due-free (suc (suc (suc (suc (suc zero))))) l u = absurd (omega arith)
-  due-free (suc (suc (suc (suc (suc (suc zero)))))) l u = refl
-  due-free (suc (suc (suc (suc (suc (suc (suc zero))))))) l u = refl
-  due-free (suc (suc (suc (suc (suc (suc (suc (suc m)))))))) l u = absurd (omega arith)
+  due-free : (x : Part) → stateAt (modeNumber (waiting x)) 0 0 0 p k ≡ stateAt (modeNumber (waiting x)) a d t p k
+  unfolding modeState
+  due-free x = let w = mode-back (waiting x) in rw w refl
 
-  payload-free : (mode : ℕ) → 2 ≤ mode → stateAt mode a 0 0 p k ≡ stateAt mode a d t p k
-  unfolding stateAt
-  payload-free zero l = absurd (omega arith)
-  payload-free (suc zero) l = absurd (omega arith)
-  payload-free (suc (suc zero)) l = refl
-  payload-free (suc (suc (suc zero))) l = refl
-  payload-free (suc (suc (suc (suc zero)))) l = refl
-  payload-free (suc (suc (suc (suc (suc zero))))) l = refl
-  payload-free (suc (suc (suc (suc (suc (suc zero)))))) l = refl
-  payload-free (suc (suc (suc (suc (suc (suc (suc zero))))))) l = refl
-  payload-free (suc (suc (suc (suc (suc (suc (suc (suc m)))))))) l = refl
+  payload-free : (u : Use) → stateAt (modeNumber (paying u)) a 0 0 p k ≡ stateAt (modeNumber (paying u)) a d t p k
+  unfolding modeState
+  payload-free u = let w = mode-back (paying u) in rw w refl
 
-  again : (q : Place) {mode : ℕ} → ModeView mode → (2 ≤ mode → (mode ≡ 6 → ⊥) → (mode ≡ 7 → ⊥) → 0 < a)
+  again : (q : Place) {mode : ℕ} → IsMode mode → (IN-SKIPPED ≤ mode → (mode ≡ HEADER-SECTION-DUE → ⊥) → (mode ≡ TRAILERS-DUE → ⊥) → 0 < a)
       → stateBy (numbersOf (stateAt mode a d t q [])) p k ≡ stateAt mode a d t p k
-  unfolding stateAt headState
-  again q typing s = ap (λ n. stateBy n p k) (in-type-numbers a d t q [] 0 refl) ∙ ap (λ g. in-type g p) (value-again d a)
-  again q sizing s = ap (λ n. stateBy n p k) (in-length-numbers a d t q [] 1 refl) ∙ ap (λ g. in-length t g p) (value-again d a)
-  again q (waiting m l u) s = ap (λ n. stateBy n p k) (due-numbers a d t q [] m l u) ∙ due-free m l u
-  again q (paying m l x y u) s = ap (λ n. stateBy n p k) (payload-numbers a d t q [] (s l x y) m l x y u) ∙ payload-free m l
+  unfolding modeState modeOf headState
+  again q (is-mode typing) s = ap (λ n. stateBy n p k) (in-type-numbers a d t q [] IN-TYPE refl) ∙ ap (λ g. in-type g p) (value-again d a)
+  again q (is-mode sizing) s = ap (λ n. stateBy n p k) (in-length-numbers a d t q [] IN-LENGTH refl) ∙ ap (λ g. in-length t g p) (value-again d a)
+  again q (is-mode (waiting x)) s = ap (λ n. stateBy n p k) (due-numbers a d t q [] x (modeNumber (waiting x)) refl) ∙ due-free x
+  again q (is-mode (paying u)) s =
+      let l = paying-late u in
+      ap (λ n. stateBy n p k) (payload-numbers a d t q [] (s (l .0) (l .1) (l .2)) u (modeNumber (paying u)) refl) ∙ payload-free u
 
 stands-back : (p : Place) → Stands (isStated (statedIn p)) (lengthOf (statedIn p)) (sumIn p) (phaseOf p) p
 unfolding isStated statedIn lengthOf sumIn phaseOf placeOf statedOf
@@ -112,9 +101,9 @@ fit-again kind id c f =
         type = omega (arith, l .type-less, s .type);
         some = λ a b d.
             (let e = l .mode-same in
-            let a′ : 2 ≤ c .mode = omega (arith, e, a) in
-            let b′ : (c .mode ≡ 6 → ⊥) = λ x. b (e ∙ x) in
-            let d′ : (c .mode ≡ 7 → ⊥) = λ x. d (e ∙ x) in
+            let a′ : IN-SKIPPED ≤ c .mode = omega (arith, e, a) in
+            let b′ : (c .mode ≡ HEADER-SECTION-DUE → ⊥) = λ x. b (e ∙ x) in
+            let d′ : (c .mode ≡ TRAILERS-DUE → ⊥) = λ x. d (e ∙ x) in
             omega (arith, l .acc-same a′ b′ d′, s .some a′ b′ d′));
         sums = omega (arith, l .sum-less, s .sums);
         stateds = omega (arith, l .stated-less, s .stateds);
@@ -151,7 +140,7 @@ one-written s r q (is-none n e) (is-record f w) = absurd (n f)
 one-written s r q (is-none n e) (is-none m d) = e ∙ sym d
 
 pub free-unsound : (r : Record) → r ≡ free-record → Sound r → ⊥
-free-unsound r e s = let k : r .kind ≡ 0 = ap (λ x. x .kind) e in omega (arith, s .fit .shaped .opened)
+free-unsound r e s = let k : r .kind ≡ FREE = ap (λ x. x .kind) e in omega (arith, s .fit .shaped .opened)
 
 pub one-read : (r : Record) (s t : Stream) → Read r s → Read r t → s ≡ t
 one-read r s t (is-free e p) (is-free f q) = p ∙ sym q
@@ -215,41 +204,41 @@ module _ (s : Stream) (r : Record) (fit : Fit (s .kind) (s .id) (s .cells)) (wri
       let e : t .cells ≡ tidied (s .cells) = ap (λ x. x .cells) (written-read t read) in
       rw e (stands-again (s .cells) p st, state-again (s .cells) (fit .sane) p k)
 
-place-only : {h n s phase : ℕ} {p : Place} → Stands h n s phase p → phase ≤ 3 → p ≡ placeOf phase h n s
+place-only : {h n s phase : ℕ} {p : Place} → Stands h n s phase p → phase ≤ UNSET → p ≡ placeOf phase h n s
 place-only a-place l = refl
 place-only (any-set k i) l = absurd (omega arith)
 
 -- A REQUEST'S NUMBERS STAND FOR ONE PLACE
-pub one-place : (r : Record) → Sound r → r .kind ≡ 1 → (p : Place) → StandsIn (cellsIn r) p → p ≡ ownPlace (cellsIn r)
+pub one-place : (r : Record) → Sound r → r .kind ≡ REQUEST → (p : Place) → StandsIn (cellsIn r) p → p ≡ ownPlace (cellsIn r)
 one-place r s e p st = place-only st (omega (arith, s .fit .shaped .request-phase e))
 
 -- A ONE-WAY STREAM WITHOUT FRAMES
-at-opening : (m a d t ph h n su : ℕ) → m ≡ 0 → ph ≡ 0 → stateAt m a d t (placeOf ph h n su) [] ≡ in-type (prog d a) (of-request opening)
-unfolding stateAt headState placeOf
+at-opening : (m a d t ph h n su : ℕ) → m ≡ 0 → ph ≡ OPENING → stateAt m a d t (placeOf ph h n su) [] ≡ in-type (prog d a) (of-request opening)
+unfolding modeState modeOf headState placeOf
 at-opening m a d t ph h n su e f = rw (e, f) refl
 
 module _ (r : Record) (s : Sound r) where
-  bare-is : 2 ≤ r .kind → (r .kind ≡ 3 → ⊥) → r ≡ recordOf (r .kind) (r .id) (in-type (prog (r .due) (r .acc)) (of-request opening))
+  bare-is : UNTYPED ≤ r .kind → (r .kind ≡ CONTROL → ⊥) → r ≡ recordOf (r .kind) (r .id) (in-type (prog (r .due) (r .acc)) (of-request opening))
   bare-is a b =
       let h = s .fit .shaped in
       s .own ∙ ap (recordOf (r .kind) (r .id)) (at-opening (r .mode) (r .acc) (r .due) (r .ftype) (r .phase) (r .has) (r .stated) (r .sum) (h .bare-mode a b) (h .bare-phase a b))
 
-  pub type-record : r .kind ≡ 2 → r ≡ oneWayRecord (r .id) (in-stream-type (prog (r .due) (r .acc)))
+  pub type-record : r .kind ≡ UNTYPED → r ≡ oneWayRecord (r .id) (in-stream-type (prog (r .due) (r .acc)))
   unfolding oneWayRecord
   type-record e = bare-is (omega arith) (λ x. omega arith) ∙ ap (λ x. recordOf x (r .id) (in-type (prog (r .due) (r .acc)) (of-request opening))) e
 
-  only-id : 4 ≤ r .kind → r ≡ recordOf (r .kind) (r .id) (between (of-request opening))
+  only-id : ENCODER ≤ r .kind → r ≡ recordOf (r .kind) (r .id) (between (of-request opening))
   unfolding prog
   only-id l = bare-is (omega arith) (λ x. omega arith) ∙ ap (λ d. recordOf (r .kind) (r .id) (in-type (prog d (r .acc)) (of-request opening))) (s .fit .shaped .bare l)
 
-  pub encoder-record : r .kind ≡ 4 → r ≡ oneWayRecord (r .id) (in-qpack encoder)
+  pub encoder-record : r .kind ≡ ENCODER → r ≡ oneWayRecord (r .id) (in-qpack encoder)
   unfolding oneWayRecord
   encoder-record e = only-id (omega arith) ∙ ap (λ x. recordOf x (r .id) (between (of-request opening))) e
 
-  pub decoder-record : r .kind ≡ 5 → r ≡ oneWayRecord (r .id) (in-qpack decoder)
+  pub decoder-record : r .kind ≡ DECODER → r ≡ oneWayRecord (r .id) (in-qpack decoder)
   unfolding oneWayRecord
   decoder-record e = only-id (omega arith) ∙ ap (λ x. recordOf x (r .id) (between (of-request opening))) e
 
-  pub skipped-record : r .kind ≡ 6 → r ≡ oneWayRecord (r .id) in-skipped
+  pub skipped-record : r .kind ≡ SKIPPED → r ≡ oneWayRecord (r .id) in-skipped
   unfolding oneWayRecord
   skipped-record e = only-id (omega arith) ∙ ap (λ x. recordOf x (r .id) (between (of-request opening))) e

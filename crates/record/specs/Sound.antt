@@ -3,10 +3,13 @@ use mathlib.Core.Path.{_≡_}
 use Prim.Native.Nat.{ℕ, _%_, _≤_, _<_, _^_}
 use mathlib.Core.List.{List, []}
 use mathlib.Core.Bool.{Bool, true, false}
+use Rattle.rules.specs.Events.{QPACK}
+use Rattle.streams.specs.Modes.{IN-TYPE, IN-CONTENT, TRAILERS-DUE, IN-SETTINGS, OPENING, TRAILED, UNSET, SET}
 use Rattle.streams.specs.declared.Cells.{Cells}
 use Rattle.streams.specs.Both.{Place}
 use Rattle.streams.specs.Uses.{placeOf}
 use Rattle.streams.specs.Answers.{stateOf, StandsIn, Sane}
+use Rattle.record.specs.Kinds.{FREE, REQUEST, UNTYPED, CONTROL, ENCODER, SKIPPED, UNSOUND}
 use Rattle.record.specs.declared.Record.{Record}
 use Rattle.record.specs.declared.Stream.{Stream}
 use Rattle.record.specs.Row.{cellsFor, recordOf, no-cells, free-record}
@@ -18,22 +21,21 @@ pub record Decides (holds : Type 0) (r : Bool) : Type 0 where
 
 -- ---- what numbers an open stream has
 
--- Kind 1: a request. 2: a one-way stream before its type is whole: the type's own integer, in a place that is not used. 3: a control stream.
--- 4, 5: a QPACK encoder or decoder stream, 6: a skipped one: nothing but their ID.
+-- A one-way stream before its type is whole has the type's own integer, in a place that is not used; one of QPACK, or that is skipped, nothing but its ID.
 pub record Shaped (kind id : ℕ) (c : Cells) : Type 0 where
-  pub opened : 1 ≤ kind
-  pub known : kind ≤ 6
+  pub opened : REQUEST ≤ kind
+  pub known : kind ≤ SKIPPED
   pub ids : id < 2 ^ 62
-  pub request-id : kind ≡ 1 → id % 4 ≡ 0
-  pub one-way-id : 2 ≤ kind → id % 4 ≡ 2
-  pub phases : c .phase ≤ 4
-  pub request-phase : kind ≡ 1 → c .phase ≤ 2
-  pub request-mode : kind ≡ 1 → c .mode ≤ 7
-  pub control-phase : kind ≡ 3 → 3 ≤ c .phase
-  pub control-mode : kind ≡ 3 → 3 ≤ c .mode → 8 ≤ c .mode
-  pub bare-phase : 2 ≤ kind → (kind ≡ 3 → ⊥) → c .phase ≡ 0
-  pub bare-mode : 2 ≤ kind → (kind ≡ 3 → ⊥) → c .mode ≡ 0
-  pub bare : 4 ≤ kind → c .due ≡ 0
+  pub request-id : kind ≡ REQUEST → id % 4 ≡ 0
+  pub one-way-id : UNTYPED ≤ kind → id % 4 ≡ 2
+  pub phases : c .phase ≤ SET
+  pub request-phase : kind ≡ REQUEST → c .phase ≤ TRAILED
+  pub request-mode : kind ≡ REQUEST → c .mode ≤ TRAILERS-DUE
+  pub control-phase : kind ≡ CONTROL → UNSET ≤ c .phase
+  pub control-mode : kind ≡ CONTROL → IN-CONTENT ≤ c .mode → IN-SETTINGS ≤ c .mode
+  pub bare-phase : UNTYPED ≤ kind → (kind ≡ CONTROL → ⊥) → c .phase ≡ OPENING
+  pub bare-mode : UNTYPED ≤ kind → (kind ≡ CONTROL → ⊥) → c .mode ≡ IN-TYPE
+  pub bare : ENCODER ≤ kind → c .due ≡ 0
 
 pub record Fit (kind id : ℕ) (c : Cells) : Type 0 where
   pub sane : Sane c
@@ -72,10 +74,10 @@ abbrev pub stream : (kind id : ℕ) → Cells → Stream
 stream kind id c = record { kind = kind; id = id; cells = c }
 
 abbrev pub free-stream : Stream
-free-stream = stream 0 0 no-cells
+free-stream = stream FREE 0 no-cells
 
 abbrev pub unsound-stream : Stream
-unsound-stream = stream 7 0 no-cells
+unsound-stream = stream UNSOUND 0 no-cells
 
 -- WHAT IS READ of any record
 pub data Read (r : Record) (s : Stream) : Type 0 where

@@ -4,8 +4,10 @@ use Prim.Native.Nat.{ℕ, zero, suc, _-_, _*_, _%_, _≤_, _<_, _^_}
 use native.Mathlib.Omega.{arith}
 use mathlib.Core.Bool.{Bool, true, false}
 use Rattle.varint.specs.ByByte.{part, Good}
+use Rattle.streams.specs.Modes.{IN-TYPE, IN-SKIPPED, IN-CONTENT, HEADER-SECTION-DUE, TRAILERS-DUE, IN-SETTINGS, IN-CANCEL-PUSH, OPENING, TRAILED, UNSET, SET}
 use Rattle.streams.specs.declared.Cells.{Cells}
 use Rattle.streams.specs.Answers.{Sane}
+use Rattle.record.specs.Kinds.{FREE, REQUEST, UNTYPED, CONTROL, ENCODER, SKIPPED}
 use Rattle.record.specs.declared.Record.{Record}
 use Rattle.record.specs.Row.{recordAt, no-cells, free-record}
 use Rattle.record.specs.Sound.{Decides, Shaped, cellsIn}
@@ -48,7 +50,7 @@ module _ (r : Record) where
     pub row-is : {t : Bool} → r .owner ≡ 0 → r .room ≡ 0 → Decides (d ≡ c) t → Decides (r ≡ recordAt (r .kind) (r .id) c) t
     row-is o m = as-well (λ q. row-own o m ∙ ap (recordAt (r .kind) (r .id)) (sym e ∙ q)) (λ q. e ∙ ap cellsIn q)
 
-  pub free-is : {c : Cells} {t : Bool} → c ≡ no-cells → r .kind ≡ 0 → r .id ≡ 0 → Decides (r ≡ recordAt (r .kind) (r .id) c) t → Decides (r ≡ free-record) t
+  pub free-is : {c : Cells} {t : Bool} → c ≡ no-cells → r .kind ≡ FREE → r .id ≡ 0 → Decides (r ≡ recordAt (r .kind) (r .id) c) t → Decides (r ≡ free-record) t
   free-is {c} z k i = let e : recordAt (r .kind) (r .id) c ≡ free-record = rw (k, i, z) refl in as-well (λ q. q ∙ e) (λ q. q ∙ sym e)
 
 -- ---- part of an integer
@@ -68,7 +70,7 @@ shifted (suc (suc (suc (suc (suc (suc (suc (suc k)))))))) h = absurd (omega arit
 -- ---- the kinds
 
 module _ (id : ℕ) (c : Cells) (i : id < 2 ^ 62) where
-  pub request-shape : id % 4 ≡ 0 → c .phase ≤ 2 → c .mode ≤ 7 → Shaped 1 id c
+  pub request-shape : id % 4 ≡ 0 → c .phase ≤ TRAILED → c .mode ≤ TRAILERS-DUE → Shaped REQUEST id c
   request-shape a b m = record {
     opened = omega arith;
     known = omega arith;
@@ -85,7 +87,7 @@ module _ (id : ℕ) (c : Cells) (i : id < 2 ^ 62) where
     bare = λ e. omega arith;
   }
 
-  pub control-shape : id % 4 ≡ 2 → 3 ≤ c .phase → c .phase ≤ 4 → (3 ≤ c .mode → 8 ≤ c .mode) → Shaped 3 id c
+  pub control-shape : id % 4 ≡ 2 → UNSET ≤ c .phase → c .phase ≤ SET → (IN-CONTENT ≤ c .mode → IN-SETTINGS ≤ c .mode) → Shaped CONTROL id c
   control-shape a b d m = record {
     opened = omega arith;
     known = omega arith;
@@ -102,7 +104,7 @@ module _ (id : ℕ) (c : Cells) (i : id < 2 ^ 62) where
     bare = λ e. omega arith;
   }
 
-  pub bare-shape : (kind : ℕ) → 2 ≤ kind → kind ≤ 6 → (kind ≡ 3 → ⊥) → id % 4 ≡ 2 → c .phase ≡ 0 → c .mode ≡ 0 → (4 ≤ kind → c .due ≡ 0) → Shaped kind id c
+  pub bare-shape : (kind : ℕ) → UNTYPED ≤ kind → kind ≤ SKIPPED → (kind ≡ CONTROL → ⊥) → id % 4 ≡ 2 → c .phase ≡ OPENING → c .mode ≡ IN-TYPE → (ENCODER ≤ kind → c .due ≡ 0) → Shaped kind id c
   bare-shape kind l h n a b m d = record {
     opened = omega arith;
     known = h;
@@ -127,6 +129,6 @@ good-within acc due h l = record { few = h; small = rw (shifted due h) at l }
 pub good-past : (acc due : ℕ) → due ≤ 7 → (1 * 2 ^ (62 - 8 * due)) % 2 ^ 64 ≤ acc → Good (part acc due) → ⊥
 good-past acc due h n g = omega (arith, shifted due h, g .small)
 
-module _ (c : Cells) (modes : c .mode ≤ 11) (small : c .acc < 2 ^ 62) (type : c .ftype < 2 ^ 62) (sums : c .sum ≤ 2 ^ 62) (stateds : c .stated ≤ 2 ^ 62) where
-  pub sane-with : (c .mode < 2 → Good (part (c .acc) (c .due))) → (2 ≤ c .mode → (c .mode ≡ 6 → ⊥) → (c .mode ≡ 7 → ⊥) → 0 < c .acc) → Sane c
+module _ (c : Cells) (modes : c .mode ≤ IN-CANCEL-PUSH) (small : c .acc < 2 ^ 62) (type : c .ftype < 2 ^ 62) (sums : c .sum ≤ 2 ^ 62) (stateds : c .stated ≤ 2 ^ 62) where
+  pub sane-with : (c .mode < IN-SKIPPED → Good (part (c .acc) (c .due))) → (IN-SKIPPED ≤ c .mode → (c .mode ≡ HEADER-SECTION-DUE → ⊥) → (c .mode ≡ TRAILERS-DUE → ⊥) → 0 < c .acc) → Sane c
   sane-with g s = record { modes = modes; header = g; small = small; type = type; some = s; sums = sums; stateds = stateds }

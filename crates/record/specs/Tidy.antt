@@ -4,14 +4,16 @@ use Prim.Native.Nat.{ℕ, zero, suc, _-_, _≤_, _<_}
 use native.Mathlib.Omega.{arith}
 use mathlib.Core.List.{List, []}
 use mathlib.Core.Option.{Option, none, some}
+use Rattle.rules.specs.Reading.{Part, header-section, trailers, Use}
 use Rattle.rules.specs.Control.{unset, set}
 use Rattle.varint.specs.ByByte.{prog, partOf}
+use Rattle.streams.specs.Modes.{IN-TYPE, IN-LENGTH, IN-SKIPPED, HEADER-SECTION-DUE, TRAILERS-DUE, BODY, TRAILED, SET, Mode, typing, sizing, paying, waiting, modeNumber, modeOf, IsMode, is-mode, mode-view, of-mode, paying-late, at-payload}
 use Rattle.streams.specs.declared.Cells.{Cells}
 use Rattle.streams.specs.Both.{Place, of-request, of-control}
 use Rattle.streams.specs.Uses.{statedOf, placeOf, Stands, a-place, any-set}
 use Rattle.streams.specs.Heads.{headState}
-use Rattle.streams.specs.Answers.{keptAt, stateAt, stateOf, StandsIn, Sane}
-use Rattle.record.specs.Row.{phaseOf, statedIn, isStated, lengthOf, sumIn, modeOf, dueMode, Numbers, numbers, numbersOf, placeIn, cellsBy, cellsFor}
+use Rattle.streams.specs.Answers.{modeState, stateAt, stateOf, StandsIn, Sane}
+use Rattle.record.specs.Row.{phaseOf, statedIn, isStated, lengthOf, sumIn, Numbers, numbers, numbersOf, placeIn, cellsBy, cellsFor}
 use Rattle.record.specs.Sound.{ownPlace, tidied}
 
 -- ---- the cells, one half at a time
@@ -21,6 +23,9 @@ headAs c acc due ftype = record { mode = c .mode; acc = acc; due = due; ftype = 
 
 abbrev pub placeAs : Cells → (has stated sum : ℕ) → Cells
 placeAs c has stated sum = record { mode = c .mode; acc = c .acc; due = c .due; ftype = c .ftype; phase = c .phase; has = has; stated = stated; sum = sum }
+
+abbrev by-numbers : Cells → Numbers → Cells
+by-numbers c n = headAs c (n .acc) (n .due) (n .ftype)
 
 abbrev pub ownNumbers : Cells → Numbers
 ownNumbers c = numbersOf (stateOf c (ownPlace c) [])
@@ -39,71 +44,52 @@ part-due zero a = refl
 part-due (suc d) a = refl
 
 module _ (a d t : ℕ) (p : Place) (k : List ℕ) where
-  pub in-type-numbers : (mode : ℕ) → mode ≡ 0 → numbersOf (stateAt mode a d t p k) ≡ numbers 0 (partOf (prog d a) .acc) d 0
-  unfolding stateAt headState numbersOf
-  in-type-numbers mode e = rw (e, stateAt) (ap (λ x. numbers 0 (partOf (prog d a) .acc) x 0) (part-due d a))
+  pub in-type-numbers : (mode : ℕ) → mode ≡ IN-TYPE → numbersOf (stateAt mode a d t p k) ≡ numbers IN-TYPE (partOf (prog d a) .acc) d 0
+  unfolding modeState headState numbersOf
+  in-type-numbers mode e = let w = of-mode typing e in rw w (ap (λ x. numbers IN-TYPE (partOf (prog d a) .acc) x 0) (part-due d a))
 
-  pub in-length-numbers : (mode : ℕ) → mode ≡ 1 → numbersOf (stateAt mode a d t p k) ≡ numbers 1 (partOf (prog d a) .acc) d t
-  unfolding stateAt headState numbersOf
-  in-length-numbers mode e = rw (e, stateAt) (ap (λ x. numbers 1 (partOf (prog d a) .acc) x t) (part-due d a))
+  pub in-length-numbers : (mode : ℕ) → mode ≡ IN-LENGTH → numbersOf (stateAt mode a d t p k) ≡ numbers IN-LENGTH (partOf (prog d a) .acc) d t
+  unfolding modeState headState numbersOf
+  in-length-numbers mode e = let w = of-mode sizing e in rw w (ap (λ x. numbers IN-LENGTH (partOf (prog d a) .acc) x t) (part-due d a))
 
-  pub due-numbers : (mode : ℕ) → 6 ≤ mode → mode ≤ 7 → numbersOf (stateAt mode a d t p k) ≡ numbers mode 0 0 0
-  unfolding stateAt numbersOf dueMode
-  due-numbers zero l u = absurd (omega arith)
-  due-numbers (suc zero) l u = absurd (omega arith)
-  due-numbers (suc (suc zero)) l u = absurd (omega arith)
-  due-numbers (suc (suc (suc zero))) l u = absurd (omega arith)
-  due-numbers (suc (suc (suc (suc zero)))) l u = absurd (omega arith)
-  due-numbers (suc (suc (suc (suc (suc zero))))) l u = absurd (omega arith)
-  due-numbers (suc (suc (suc (suc (suc (suc zero)))))) l u = refl
-  due-numbers (suc (suc (suc (suc (suc (suc (suc zero))))))) l u = refl
-  due-numbers (suc (suc (suc (suc (suc (suc (suc (suc m)))))))) l u = absurd (omega arith)
+  pub due-numbers : (x : Part) (mode : ℕ) → mode ≡ modeNumber (waiting x) → numbersOf (stateAt mode a d t p k) ≡ numbers (modeNumber (waiting x)) 0 0 0
+  unfolding modeState numbersOf
+  due-numbers x mode e = let w = of-mode (waiting x) e in rw w refl
 
   module _ (some : 0 < a) where
-    left : (mode : ℕ) → numbers mode (suc (a - 1)) 0 0 ≡ numbers mode a 0 0
-    left mode = let e : suc (a - 1) ≡ a = omega arith in ap (λ x. numbers mode x 0 0) e
+    left : (n : ℕ) → numbers n (suc (a - 1)) 0 0 ≡ numbers n a 0 0
+    left n = let e : suc (a - 1) ≡ a = omega arith in ap (λ x. numbers n x 0 0) e
 
-    pub payload-numbers : (mode : ℕ) → 2 ≤ mode → (mode ≡ 6 → ⊥) → (mode ≡ 7 → ⊥) → mode ≤ 11 → numbersOf (stateAt mode a d t p k) ≡ numbers mode a 0 0
-    unfolding stateAt keptAt numbersOf modeOf
-    payload-numbers zero l x y u = absurd (omega arith)
-    payload-numbers (suc zero) l x y u = absurd (omega arith)
-    payload-numbers (suc (suc zero)) l x y u = left 2
-    payload-numbers (suc (suc (suc zero))) l x y u = left 3
-    payload-numbers (suc (suc (suc (suc zero)))) l x y u = left 4
-    payload-numbers (suc (suc (suc (suc (suc zero))))) l x y u = left 5
-    payload-numbers (suc (suc (suc (suc (suc (suc zero)))))) l x y u = absurd (x refl)
-    payload-numbers (suc (suc (suc (suc (suc (suc (suc zero))))))) l x y u = absurd (y refl)
-    payload-numbers (suc (suc (suc (suc (suc (suc (suc (suc zero)))))))) l x y u = left 8
-    payload-numbers (suc (suc (suc (suc (suc (suc (suc (suc (suc zero))))))))) l x y u = left 9
-    payload-numbers (suc (suc (suc (suc (suc (suc (suc (suc (suc (suc zero)))))))))) l x y u = left 10
-    payload-numbers (suc (suc (suc (suc (suc (suc (suc (suc (suc (suc (suc zero))))))))))) l x y u = left 11
-    payload-numbers (suc (suc (suc (suc (suc (suc (suc (suc (suc (suc (suc (suc m)))))))))))) l x y u = absurd (omega arith)
+    pub payload-numbers : (u : Use) (mode : ℕ) → mode ≡ modeNumber (paying u) → numbersOf (stateAt mode a d t p k) ≡ numbers (modeNumber (paying u)) a 0 0
+    unfolding modeState numbersOf
+    payload-numbers u mode e = let w = of-mode (paying u) e in rw w (left (modeNumber (paying u)))
+
+    -- but for the mode, which its number says
+    pub payload-cells : (c : Cells) (mode : ℕ) → IN-SKIPPED ≤ mode → (mode ≡ HEADER-SECTION-DUE → ⊥) → (mode ≡ TRAILERS-DUE → ⊥) → by-numbers c (numbersOf (stateAt mode a d t p k)) ≡ headAs c a 0 0
+    unfolding modeState numbersOf
+    payload-cells c mode = at-payload (λ m. by-numbers c (numbersOf (modeState m a d t p k)) ≡ headAs c a 0 0) (λ u. ap (by-numbers c) (left (modeNumber (paying u)))) mode
 
 -- the place of a state is the one it was made with
+place-in : {P : Type 0} (a d t : ℕ) (p : P) (k : List ℕ) (m : Mode) → placeIn (modeState m a d t p k) ≡ p
+unfolding modeState headState placeIn
+place-in a d t p k typing = refl
+place-in a d t p k sizing = refl
+place-in a d t p k (paying u) = refl
+place-in a d t p k (waiting x) = refl
+
 pub place-back : {P : Type 0} (a d t : ℕ) (p : P) (k : List ℕ) (mode : ℕ) → placeIn (stateAt mode a d t p k) ≡ p
-unfolding stateAt headState placeIn
-place-back a d t p k zero = refl
-place-back a d t p k (suc zero) = refl
-place-back a d t p k (suc (suc zero)) = refl
-place-back a d t p k (suc (suc (suc zero))) = refl
-place-back a d t p k (suc (suc (suc (suc zero)))) = refl
-place-back a d t p k (suc (suc (suc (suc (suc zero))))) = refl
-place-back a d t p k (suc (suc (suc (suc (suc (suc zero)))))) = refl
-place-back a d t p k (suc (suc (suc (suc (suc (suc (suc zero))))))) = refl
-place-back a d t p k (suc (suc (suc (suc (suc (suc (suc (suc m)))))))) = refl
+place-back a d t p k mode = place-in a d t p k (modeOf mode)
 
 -- the numbers look neither at the place nor at what was kept
+numbers-in : (m : Mode) (a d t : ℕ) (p q : Place) (k l : List ℕ) → numbersOf (modeState m a d t p k) ≡ numbersOf (modeState m a d t q l)
+unfolding modeState headState numbersOf
+numbers-in typing a d t p q k l = refl
+numbers-in sizing a d t p q k l = refl
+numbers-in (paying u) a d t p q k l = refl
+numbers-in (waiting x) a d t p q k l = refl
+
 pub numbers-alike : (mode a d t : ℕ) (p q : Place) (k l : List ℕ) → numbersOf (stateAt mode a d t p k) ≡ numbersOf (stateAt mode a d t q l)
-unfolding stateAt headState numbersOf
-numbers-alike zero a d t p q k l = refl
-numbers-alike (suc zero) a d t p q k l = refl
-numbers-alike (suc (suc zero)) a d t p q k l = refl
-numbers-alike (suc (suc (suc zero))) a d t p q k l = refl
-numbers-alike (suc (suc (suc (suc zero)))) a d t p q k l = refl
-numbers-alike (suc (suc (suc (suc (suc zero))))) a d t p q k l = refl
-numbers-alike (suc (suc (suc (suc (suc (suc zero)))))) a d t p q k l = refl
-numbers-alike (suc (suc (suc (suc (suc (suc (suc zero))))))) a d t p q k l = refl
-numbers-alike (suc (suc (suc (suc (suc (suc (suc (suc m)))))))) a d t p q k l = refl
+numbers-alike mode a d t p q k l = numbers-in (modeOf mode) a d t p q k l
 
 -- ---- the numbers of a place
 
@@ -115,7 +101,7 @@ places-alike n (any-set {p = of-request m} k i) = absurd i
 places-alike n (any-set {p = of-control unset} k i) = absurd i
 places-alike n (any-set {p = of-control (set s g m)} k i) = refl
 
-pub phase-back : (phase h st s : ℕ) → phase ≤ 4 → phaseOf (placeOf phase h st s) ≡ phase
+pub phase-back : (phase h st s : ℕ) → phase ≤ SET → phaseOf (placeOf phase h st s) ≡ phase
 unfolding placeOf phaseOf
 phase-back zero h st s l = refl
 phase-back (suc zero) h st s l = refl
@@ -135,30 +121,13 @@ one-state c p k st =
 
 -- ---- how far the numbers of a state go
 
-pub data ModeView : ℕ → Type 0 where
-  typing : ModeView 0
-  sizing : ModeView 1
-  waiting : (m : ℕ) → 6 ≤ m → m ≤ 7 → ModeView m
-  paying : (m : ℕ) → 2 ≤ m → (m ≡ 6 → ⊥) → (m ≡ 7 → ⊥) → m ≤ 11 → ModeView m
-
-pub mode-view : (m : ℕ) → m ≤ 11 → ModeView m
-mode-view zero h = typing
-mode-view (suc zero) h = sizing
-mode-view (suc (suc zero)) h = paying 2 (omega arith) (λ e. omega arith) (λ e. omega arith) h
-mode-view (suc (suc (suc zero))) h = paying 3 (omega arith) (λ e. omega arith) (λ e. omega arith) h
-mode-view (suc (suc (suc (suc zero)))) h = paying 4 (omega arith) (λ e. omega arith) (λ e. omega arith) h
-mode-view (suc (suc (suc (suc (suc zero))))) h = paying 5 (omega arith) (λ e. omega arith) (λ e. omega arith) h
-mode-view (suc (suc (suc (suc (suc (suc zero)))))) h = waiting 6 (omega arith) (omega arith)
-mode-view (suc (suc (suc (suc (suc (suc (suc zero))))))) h = waiting 7 (omega arith) (omega arith)
-mode-view (suc (suc (suc (suc (suc (suc (suc (suc m)))))))) h = paying (suc (suc (suc (suc (suc (suc (suc (suc m)))))))) (omega arith) (λ e. omega arith) (λ e. omega arith) h
-
 pub record Less (mode a d t : ℕ) (n : Numbers) : Type 0 where
   pub mode-same : n .mode ≡ mode
   pub acc-less : n .acc ≤ a
-  pub acc-same : 2 ≤ mode → (mode ≡ 6 → ⊥) → (mode ≡ 7 → ⊥) → n .acc ≡ a
+  pub acc-same : IN-SKIPPED ≤ mode → (mode ≡ HEADER-SECTION-DUE → ⊥) → (mode ≡ TRAILERS-DUE → ⊥) → n .acc ≡ a
   pub due-less : n .due ≤ d
-  pub due-none : 2 ≤ mode → n .due ≡ 0
-  pub due-same : mode < 2 → n .due ≡ d
+  pub due-none : IN-SKIPPED ≤ mode → n .due ≡ 0
+  pub due-same : mode < IN-SKIPPED → n .due ≡ d
   pub type-less : n .ftype ≤ t
 
 part-acc : (d a : ℕ) → partOf (prog d a) .acc ≤ a
@@ -166,15 +135,17 @@ unfolding partOf prog
 part-acc zero a = omega arith
 part-acc (suc d) a = omega arith
 
-less-by : (a d t : ℕ) (p : Place) (k : List ℕ) {mode : ℕ} → ModeView mode → (2 ≤ mode → (mode ≡ 6 → ⊥) → (mode ≡ 7 → ⊥) → 0 < a) → Less mode a d t (numbersOf (stateAt mode a d t p k))
-less-by a d t p k typing s = let e = in-type-numbers a d t p k 0 refl in let h = part-acc d a in
+less-by : (a d t : ℕ) (p : Place) (k : List ℕ) {mode : ℕ} → IsMode mode → (IN-SKIPPED ≤ mode → (mode ≡ HEADER-SECTION-DUE → ⊥) → (mode ≡ TRAILERS-DUE → ⊥) → 0 < a) → Less mode a d t (numbersOf (stateAt mode a d t p k))
+less-by a d t p k (is-mode typing) s = let e = in-type-numbers a d t p k IN-TYPE refl in let h = part-acc d a in
     rw e (record { mode-same = refl; acc-less = h; acc-same = λ x y z. omega arith; due-less = omega arith; due-none = λ x. omega arith; due-same = λ x. refl; type-less = omega arith })
-less-by a d t p k sizing s = let e = in-length-numbers a d t p k 1 refl in let h = part-acc d a in
+less-by a d t p k (is-mode sizing) s = let e = in-length-numbers a d t p k IN-LENGTH refl in let h = part-acc d a in
     rw e (record { mode-same = refl; acc-less = h; acc-same = λ x y z. omega arith; due-less = omega arith; due-none = λ x. omega arith; due-same = λ x. refl; type-less = omega arith })
-less-by a d t p k (waiting m l u) s = let e = due-numbers a d t p k m l u in
-    rw e (record { mode-same = refl; acc-less = omega arith; acc-same = λ x y z. omega arith; due-less = omega arith; due-none = λ x. refl; due-same = λ x. omega arith; type-less = omega arith })
-less-by a d t p k (paying m l x y u) s = let e = payload-numbers a d t p k (s l x y) m l x y u in
-    rw e (record { mode-same = refl; acc-less = omega arith; acc-same = λ x y z. refl; due-less = omega arith; due-none = λ x. refl; due-same = λ x. omega arith; type-less = omega arith })
+less-by a d t p k (is-mode (waiting header-section)) s = let e = due-numbers a d t p k header-section HEADER-SECTION-DUE refl in
+    rw e (record { mode-same = refl; acc-less = omega arith; acc-same = λ x y z. absurd (y refl); due-less = omega arith; due-none = λ x. refl; due-same = λ x. omega arith; type-less = omega arith })
+less-by a d t p k (is-mode (waiting trailers)) s = let e = due-numbers a d t p k trailers TRAILERS-DUE refl in
+    rw e (record { mode-same = refl; acc-less = omega arith; acc-same = λ x y z. absurd (z refl); due-less = omega arith; due-none = λ x. refl; due-same = λ x. omega arith; type-less = omega arith })
+less-by a d t p k (is-mode (paying u)) s = let q = paying-late u in let e = payload-numbers a d t p k (s (q .0) (q .1) (q .2)) u (modeNumber (paying u)) refl in
+    rw e (record { mode-same = refl; acc-less = omega arith; acc-same = λ x y z. refl; due-less = omega arith; due-none = λ x. refl; due-same = λ x. absurd (omega (arith, x, q .0)); type-less = omega arith })
 
 pub less : (c : Cells) → Sane c → Less (c .mode) (c .acc) (c .due) (c .ftype) (ownNumbers c)
 less c s = less-by (c .acc) (c .due) (c .ftype) (ownPlace c) [] (mode-view (c .mode) (s .modes)) (s .some)
@@ -219,28 +190,25 @@ unfolding partOf prog
 value-some zero a e = absurd (e refl)
 value-some (suc d) a e = refl
 
-abbrev by-numbers : Cells → Numbers → Cells
-by-numbers c n = headAs c (n .acc) (n .due) (n .ftype)
-
 module _ (c : Cells) {r : Cells} where
-  pub tidy-type : {v : ℕ} → c .mode ≡ 0 → v ≡ partOf (prog (c .due) (c .acc)) .acc → r ≡ headAs c v (c .due) 0 → r ≡ headTidied c
+  pub tidy-type : {v : ℕ} → c .mode ≡ IN-TYPE → v ≡ partOf (prog (c .due) (c .acc)) .acc → r ≡ headAs c v (c .due) 0 → r ≡ headTidied c
   tidy-type m e q = q ∙ ap (λ x. headAs c x (c .due) 0) e ∙ ap (by-numbers c) (sym (in-type-numbers (c .acc) (c .due) (c .ftype) (ownPlace c) [] (c .mode) m))
 
-  pub tidy-length : {v : ℕ} → c .mode ≡ 1 → v ≡ partOf (prog (c .due) (c .acc)) .acc → r ≡ headAs c v (c .due) (c .ftype) → r ≡ headTidied c
+  pub tidy-length : {v : ℕ} → c .mode ≡ IN-LENGTH → v ≡ partOf (prog (c .due) (c .acc)) .acc → r ≡ headAs c v (c .due) (c .ftype) → r ≡ headTidied c
   tidy-length m e q = q ∙ ap (λ x. headAs c x (c .due) (c .ftype)) e ∙ ap (by-numbers c) (sym (in-length-numbers (c .acc) (c .due) (c .ftype) (ownPlace c) [] (c .mode) m))
 
-  pub tidy-due : 6 ≤ c .mode → c .mode ≤ 7 → r ≡ headAs c 0 0 0 → r ≡ headTidied c
-  tidy-due l u q = q ∙ ap (by-numbers c) (sym (due-numbers (c .acc) (c .due) (c .ftype) (ownPlace c) [] (c .mode) l u))
+  pub tidy-due : (x : Part) → c .mode ≡ modeNumber (waiting x) → r ≡ headAs c 0 0 0 → r ≡ headTidied c
+  tidy-due x e q = q ∙ ap (by-numbers c) (sym (due-numbers (c .acc) (c .due) (c .ftype) (ownPlace c) [] x (c .mode) e))
 
-  pub tidy-payload : Sane c → 2 ≤ c .mode → (c .mode ≡ 6 → ⊥) → (c .mode ≡ 7 → ⊥) → r ≡ headAs c (c .acc) 0 0 → r ≡ headTidied c
-  tidy-payload s l x y q = q ∙ ap (by-numbers c) (sym (payload-numbers (c .acc) (c .due) (c .ftype) (ownPlace c) [] (s .some l x y) (c .mode) l x y (s .modes)))
+  pub tidy-payload : Sane c → IN-SKIPPED ≤ c .mode → (c .mode ≡ HEADER-SECTION-DUE → ⊥) → (c .mode ≡ TRAILERS-DUE → ⊥) → r ≡ headAs c (c .acc) 0 0 → r ≡ headTidied c
+  tidy-payload s l x y q = q ∙ sym (payload-cells (c .acc) (c .due) (c .ftype) (ownPlace c) [] (s .some l x y) c (c .mode) l x y)
 
 -- ---- laws of the code: between two frames
 
 abbrev three : Place → ℕ × ℕ × ℕ
 three p = (isStated (statedIn p), lengthOf (statedIn p), sumIn p)
 
-no-three : (phase h n s : ℕ) → (phase ≡ 1 → ⊥) → (phase ≡ 2 → ⊥) → three (placeOf phase h n s) ≡ (0, 0, 0)
+no-three : (phase h n s : ℕ) → (phase ≡ BODY → ⊥) → (phase ≡ TRAILED → ⊥) → three (placeOf phase h n s) ≡ (0, 0, 0)
 unfolding placeOf statedIn isStated lengthOf sumIn
 no-three zero h n s x y = refl
 no-three (suc zero) h n s x y = absurd (x refl)
@@ -248,7 +216,7 @@ no-three (suc (suc zero)) h n s x y = absurd (y refl)
 no-three (suc (suc (suc zero))) h n s x y = refl
 no-three (suc (suc (suc (suc k)))) h n s x y = refl
 
-behind-three : (phase h n s : ℕ) → 1 ≤ phase → phase ≤ 2 → three (placeOf phase h n s) ≡ (isStated (statedOf h n), lengthOf (statedOf h n), s)
+behind-three : (phase h n s : ℕ) → BODY ≤ phase → phase ≤ TRAILED → three (placeOf phase h n s) ≡ (isStated (statedOf h n), lengthOf (statedOf h n), s)
 unfolding placeOf statedIn sumIn
 behind-three zero h n s l u = absurd (omega arith)
 behind-three (suc zero) h n s l u = refl
@@ -269,10 +237,10 @@ abbrev by-three : Cells → ℕ × ℕ × ℕ → Cells
 by-three c x = placeAs c (x .0) (x .1) (x .2)
 
 module _ (c : Cells) {r : Cells} where
-  pub tidy-nowhere : (c .phase ≡ 1 → ⊥) → (c .phase ≡ 2 → ⊥) → r ≡ placeAs c 0 0 0 → r ≡ placeTidied c
+  pub tidy-nowhere : (c .phase ≡ BODY → ⊥) → (c .phase ≡ TRAILED → ⊥) → r ≡ placeAs c 0 0 0 → r ≡ placeTidied c
   tidy-nowhere x y q = q ∙ ap (by-three c) (sym (no-three (c .phase) (c .has) (c .stated) (c .sum) x y))
 
-  module _ (l : 1 ≤ c .phase) (u : c .phase ≤ 2) where
+  module _ (l : BODY ≤ c .phase) (u : c .phase ≤ TRAILED) where
     pub tidy-unstated : c .has ≡ 0 → r ≡ placeAs c 0 0 (c .sum) → r ≡ placeTidied c
     tidy-unstated e q = q ∙ ap (by-three c) (sym (behind-three (c .phase) (c .has) (c .stated) (c .sum) l u ∙ none-two (c .has) (c .stated) (c .sum) e))
 
@@ -284,9 +252,9 @@ module _ (c : Cells) {r : Cells} where
 pub record Tidier (c t : Cells) : Type 0 where
   pub mode-same : t .mode ≡ c .mode
   pub acc-less : t .acc ≤ c .acc
-  pub acc-same : 2 ≤ c .mode → (c .mode ≡ 6 → ⊥) → (c .mode ≡ 7 → ⊥) → t .acc ≡ c .acc
+  pub acc-same : IN-SKIPPED ≤ c .mode → (c .mode ≡ HEADER-SECTION-DUE → ⊥) → (c .mode ≡ TRAILERS-DUE → ⊥) → t .acc ≡ c .acc
   pub due-less : t .due ≤ c .due
-  pub due-same : c .mode < 2 → t .due ≡ c .due
+  pub due-same : c .mode < IN-SKIPPED → t .due ≡ c .due
   pub due-few : t .due ≤ 7
   pub type-less : t .ftype ≤ c .ftype
   pub phase-same : t .phase ≡ c .phase
@@ -294,13 +262,14 @@ pub record Tidier (c t : Cells) : Type 0 where
   pub stated-less : t .stated ≤ c .stated
   pub sum-less : t .sum ≤ c .sum
 
-due-few : {mode a d t : ℕ} {n : Numbers} → ModeView mode → Less mode a d t n → (mode < 2 → d ≤ 7) → n .due ≤ 7
-due-few typing l h = omega (arith, l .due-less, h (omega arith))
-due-few sizing l h = omega (arith, l .due-less, h (omega arith))
-due-few (waiting m x y) l h = omega (arith, l .due-none (omega arith))
-due-few (paying m x y z u) l h = omega (arith, l .due-none x)
+due-few : {mode a d t : ℕ} {n : Numbers} → IsMode mode → Less mode a d t n → (mode < IN-SKIPPED → d ≤ 7) → n .due ≤ 7
+due-few (is-mode typing) l h = omega (arith, l .due-less, h (omega arith))
+due-few (is-mode sizing) l h = omega (arith, l .due-less, h (omega arith))
+due-few (is-mode (waiting header-section)) l h = omega (arith, l .due-none (omega arith))
+due-few (is-mode (waiting trailers)) l h = omega (arith, l .due-none (omega arith))
+due-few (is-mode (paying u)) l h = omega (arith, l .due-none (paying-late u .0))
 
-module _ (c : Cells) (sane : Sane c) (ph : c .phase ≤ 4) where
+module _ (c : Cells) (sane : Sane c) (ph : c .phase ≤ SET) where
   own-phase : phaseOf (ownPlace c) ≡ c .phase
   own-phase = phase-back (c .phase) (c .has) (c .stated) (c .sum) ph
 

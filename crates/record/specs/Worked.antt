@@ -1,4 +1,4 @@
--- Records worked by hand, and numbers that no state has. Assumes nothing.
+-- Records worked by hand, in the numbers that a host sees, and numbers that no state has. Assumes nothing.
 use mathlib.Core.Path.{_≡_, refl, ap}
 use Prim.Native.Nat.{ℕ}
 use native.Mathlib.Omega.{arith}
@@ -12,11 +12,12 @@ use Rattle.meaning.specs.Machine.{fresh, need, in-type, in-length, in-payload, 
 use Rattle.meaning.specs.Hom.{map-state}
 use Rattle.meaning.specs.OneWayFeed.{in-stream-type, in-control, in-qpack}
 use Rattle.varint.specs.ByByte.{partOf, prog}
+use Rattle.streams.specs.Modes.{modeOf}
 use Rattle.streams.specs.Uses.{statedOf, placeOf}
 use Rattle.streams.specs.Heads.{headState}
-use Rattle.streams.specs.Answers.{stateAt}
+use Rattle.streams.specs.Answers.{modeState}
 use Rattle.record.specs.declared.Record.{Record}
-use Rattle.record.specs.Row.{phaseOf, statedIn, isStated, lengthOf, sumIn, modeOf, dueMode, numbersOf, placeIn, requestRecord, oneWayRecord}
+use Rattle.record.specs.Row.{phaseOf, statedIn, isStated, lengthOf, sumIn, numbersOf, placeIn, requestRecord, oneWayRecord}
 use Rattle.record.specs.Sound.{Sound}
 
 abbrev of : (id acc ftype stated sum kind mode due phase has : ℕ) → Record
@@ -58,24 +59,24 @@ rows =
     ∷ []
 
 pub worked : map (λ (r : Row). r .asked) rows ≡ map (λ (r : Row). r .says) rows
-unfolding rows phaseOf statedIn isStated lengthOf sumIn modeOf dueMode numbersOf placeIn oneWayRecord map-state partOf
+unfolding rows phaseOf statedIn isStated lengthOf sumIn numbersOf placeIn oneWayRecord map-state partOf
 worked = refl
 
 -- NOT SOUND: a type outside a length, a value of which no byte was read, a length that is not stated, a sum before the header section
 pub stray-type : Sound (of 4 0 7 0 0 1 0 0 0 0) → ⊥
-unfolding stateAt headState numbersOf
+unfolding modeState modeOf headState numbersOf
 stray-type s = let e = ap (λ x. x .ftype) (s .own) in omega arith
 
 pub stray-value : Sound (of 4 7 0 0 0 1 0 0 0 0) → ⊥
-unfolding stateAt headState numbersOf prog partOf
+unfolding modeState modeOf headState numbersOf prog partOf
 stray-value s = let e = ap (λ x. x .acc) (s .own) in omega arith
 
 pub stray-length : Sound (of 4 0 0 7 0 1 0 0 1 0) → ⊥
-unfolding stateAt headState placeOf placeIn statedOf statedIn lengthOf
+unfolding modeState modeOf headState placeOf placeIn statedOf statedIn lengthOf
 stray-length s = let e = ap (λ x. x .stated) (s .own) in omega arith
 
 pub stray-sum : Sound (of 4 0 0 0 7 1 0 0 0 0) → ⊥
-unfolding stateAt headState placeOf placeIn sumIn
+unfolding modeState modeOf headState placeOf placeIn sumIn
 stray-sum s = let e = ap (λ x. x .sum) (s .own) in omega arith
 
 -- nor a request with a one-way stream's ID, nor one in a kept payload

@@ -5,13 +5,47 @@ ghost use mathlib.Core.Bool.{true};
 ghost use Prim.Native.Nat.{_<_, _≤_, _^_};
 ghost use Rattle.varint.specs.ByByte.{part, prog, partOf, Good};
 ghost use Rattle.streams.specs.Answers.{Sane};
+ghost use Rattle.streams.specs.Modes.{IN-CONTENT, SET};
+ghost use Rattle.record.specs.Kinds.{REQUEST, UNTYPED, CONTROL, SKIPPED};
 ghost use Rattle.record.specs.Row.{recordAt, no-cells, free-record};
 ghost use Rattle.record.specs.Sound.{Decides, Shaped, Fit, cellsIn, tidied, Sound, Read, Written};
 ghost use Rattle.record.specs.Body.{Body, contentIn};
 ghost use Rattle.record.specs.Tidy.{headAs, headTidied, placeAs, placeTidied};
 
-// kind 0: free, 1: a request, 2: a one-way stream before its type is whole, 3: control, 4: QPACK encoder, 5: QPACK decoder, 6: skipped.
-// The rest as in streams::Cells. owner and room are 0.
+// Kinds. A one-way stream is untyped before its type is whole.
+pub const FREE: u64 = 0;
+
+pub const REQUEST: u64 = 1;
+
+pub const UNTYPED: u64 = 2;
+
+pub const CONTROL: u64 = 3;
+
+pub const ENCODER: u64 = 4;
+
+pub const DECODER: u64 = 5;
+
+pub const SKIPPED: u64 = 6;
+
+// What a record is read as that is of no stream.
+pub const UNSOUND: u64 = 7;
+
+// Bytes of a record.
+pub const FREE_KIND: u8 = 0;
+
+pub const REQUEST_KIND: u8 = 1;
+
+pub const TYPE_MODE: u8 = 0;
+
+pub const CONTENT_MODE: u8 = 3;
+
+pub const HEADER_DUE_MODE: u8 = 6;
+
+pub const TRAILERS_DUE_MODE: u8 = 7;
+
+pub const BODY_PHASE: u8 = 1;
+
+// mode, due, phase and has are as in streams::Cells. owner and room are 0.
 #[repr(C)]
 pub struct Record {
     pub id: u64,
@@ -28,7 +62,7 @@ pub struct Record {
     pub room: u16,
 }
 
-// What a record says; kind 7: it is unsound.
+// What a record says.
 pub struct Stream {
     pub kind: u64,
     pub id: u64,
@@ -90,11 +124,11 @@ fn none() -> Cells
     ensures { λ r. ⌜ r ≡ no-cells ⌝ }
 {
     Cells {
-        mode: 0,
+        mode: streams::IN_TYPE,
         acc: 0,
         due: 0,
         ftype: 0,
-        phase: 0,
+        phase: streams::OPENING,
         has: 0,
         stated: 0,
         sum: 0,
@@ -104,7 +138,7 @@ fn none() -> Cells
 pub fn free() -> Record
     ensures { λ r. ⌜ r ≡ free-record ⌝ }
 {
-    record_at(0, 0, none())
+    record_at(FREE, 0, none())
 }
 
 // ---- tests
@@ -152,7 +186,7 @@ fn is_row(r: Record, c: Cells) -> bool
 pub fn is_free(r: Record) -> bool
     ensures { λ b. ⌜ Decides (r ≡ free-record) b ⌝ }
 {
-    if r.kind != 0 {
+    if r.kind != FREE_KIND {
         return false;
     }
     if r.id != 0 {
@@ -178,7 +212,7 @@ fn good(acc: u64, due: u64) -> bool
 fn sane(c: Cells) -> bool
     ensures { λ r. ⌜ Decides (Sane c) r ⌝ }
 {
-    if 11 < c.mode {
+    if streams::IN_CANCEL_PUSH < c.mode {
         return false;
     }
     if 4611686018427387904 <= c.acc {
@@ -193,13 +227,13 @@ fn sane(c: Cells) -> bool
     if 4611686018427387904 < c.stated {
         return false;
     }
-    if c.mode < 2 {
+    if c.mode < streams::IN_SKIPPED {
         return good(c.acc, c.due);
     }
-    if c.mode == 6 {
+    if c.mode == streams::HEADER_SECTION_DUE {
         return true;
     }
-    if c.mode == 7 {
+    if c.mode == streams::TRAILERS_DUE {
         return true;
     }
     if c.acc == 0 { false } else { true }
@@ -207,51 +241,59 @@ fn sane(c: Cells) -> bool
 
 fn request_shaped(id: u64, c: Cells) -> bool
     requires { ⌜ id < 2 ^ 62 ⌝ }
-    ensures { λ r. ⌜ Decides (Shaped 1 id c) r ⌝ }
+    ensures { λ r. ⌜ Decides (Shaped REQUEST id c) r ⌝ }
 {
     if id % 4 != 0 {
         return false;
     }
-    if 2 < c.phase {
+    if streams::TRAILED < c.phase {
         return false;
     }
-    if 7 < c.mode { false } else { true }
+    if streams::TRAILERS_DUE < c.mode {
+        false
+    } else {
+        true
+    }
 }
 
 fn control_shaped(id: u64, c: Cells) -> bool
     requires { ⌜ id < 2 ^ 62 ⌝ }
-    ensures { λ r. ⌜ Decides (Shaped 3 id c) r ⌝ }
+    ensures { λ r. ⌜ Decides (Shaped CONTROL id c) r ⌝ }
 {
     if id % 4 != 2 {
         return false;
     }
-    if c.phase < 3 {
+    if c.phase < streams::UNSET {
         return false;
     }
-    if 4 < c.phase {
+    if streams::SET < c.phase {
         return false;
     }
-    if c.mode < 3 {
+    if c.mode < streams::IN_CONTENT {
         return true;
     }
-    if c.mode < 8 { false } else { true }
+    if c.mode < streams::IN_SETTINGS {
+        false
+    } else {
+        true
+    }
 }
 
 // A one-way stream that is no control stream, or not yet.
 fn bare_shaped(kind: u64, id: u64, c: Cells) -> bool
-    requires { ⌜ (id < 2 ^ 62) × (2 ≤ kind) × (kind ≤ 6) × (kind ≡ 3 → ⊥) ⌝ }
+    requires { ⌜ (id < 2 ^ 62) × (UNTYPED ≤ kind) × (kind ≤ SKIPPED) × (kind ≡ CONTROL → ⊥) ⌝ }
     ensures { λ r. ⌜ Decides (Shaped kind id c) r ⌝ }
 {
     if id % 4 != 2 {
         return false;
     }
-    if c.phase != 0 {
+    if c.phase != streams::OPENING {
         return false;
     }
-    if c.mode != 0 {
+    if c.mode != streams::IN_TYPE {
         return false;
     }
-    if kind == 2 {
+    if kind == UNTYPED {
         return true;
     }
     if c.due == 0 { true } else { false }
@@ -263,16 +305,16 @@ fn shaped(kind: u64, id: u64, c: Cells) -> bool
     if 4611686018427387904 <= id {
         return false;
     }
-    if kind == 0 {
+    if kind == FREE {
         return false;
     }
-    if 6 < kind {
+    if SKIPPED < kind {
         return false;
     }
-    if kind == 1 {
+    if kind == REQUEST {
         return request_shaped(id, c);
     }
-    if kind == 3 {
+    if kind == CONTROL {
         return control_shaped(id, c);
     }
     bare_shaped(kind, id, c)
@@ -328,16 +370,16 @@ fn tidy_head(c: Cells) -> Cells
     requires { ⌜ Sane c ⌝ }
     ensures { λ r. ⌜ r ≡ headTidied c ⌝ }
 {
-    if c.mode == 0 {
+    if c.mode == streams::IN_TYPE {
         return headed(c, value_so_far(c.acc, c.due), c.due, 0);
     }
-    if c.mode == 1 {
+    if c.mode == streams::IN_LENGTH {
         return headed(c, value_so_far(c.acc, c.due), c.due, c.ftype);
     }
-    if c.mode == 6 {
+    if c.mode == streams::HEADER_SECTION_DUE {
         return headed(c, 0, 0, 0);
     }
-    if c.mode == 7 {
+    if c.mode == streams::TRAILERS_DUE {
         return headed(c, 0, 0, 0);
     }
     headed(c, c.acc, 0, 0)
@@ -345,13 +387,13 @@ fn tidy_head(c: Cells) -> Cells
 
 // Between two frames.
 fn tidy_place(c: Cells) -> Cells
-    requires { ⌜ c .phase ≤ 4 ⌝ }
+    requires { ⌜ c .phase ≤ SET ⌝ }
     ensures { λ r. ⌜ r ≡ placeTidied c ⌝ }
 {
-    if c.phase == 0 {
+    if c.phase == streams::OPENING {
         return placed(c, 0, 0, 0);
     }
-    if 2 < c.phase {
+    if streams::TRAILED < c.phase {
         return placed(c, 0, 0, 0);
     }
     if c.has == 0 {
@@ -361,7 +403,7 @@ fn tidy_place(c: Cells) -> Cells
 }
 
 fn tidy(c: Cells) -> Cells
-    requires { ⌜ Sane c × (c .phase ≤ 4) ⌝ }
+    requires { ⌜ Sane c × (c .phase ≤ SET) ⌝ }
     ensures { λ r. ⌜ r ≡ tidied c ⌝ }
 {
     tidy_place(tidy_head(c))
@@ -375,7 +417,7 @@ pub fn read(r: Record) -> Stream
 {
     if is_free(r) {
         return Stream {
-            kind: 0,
+            kind: FREE,
             id: 0,
             cells: none(),
         };
@@ -391,14 +433,14 @@ pub fn read(r: Record) -> Stream
             }
         } else {
             Stream {
-                kind: 7,
+                kind: UNSOUND,
                 id: 0,
                 cells: none(),
             }
         }
     } else {
         Stream {
-            kind: 7,
+            kind: UNSOUND,
             id: 0,
             cells: none(),
         }
@@ -409,10 +451,10 @@ pub fn read(r: Record) -> Stream
 fn behind(r: Record) -> bool
     ensures { λ b. ⌜ (b ≡ true → Body r) ⌝ }
 {
-    if r.kind != 1 {
+    if r.kind != REQUEST_KIND {
         return false;
     }
-    if r.phase != 1 {
+    if r.phase != BODY_PHASE {
         return false;
     }
     if r.due != 0 {
@@ -450,10 +492,10 @@ fn behind(r: Record) -> bool
 
 // Whether it is an open request in content, or between two frames behind its header section. Another may be open too.
 pub fn in_body(r: Record) -> bool
-    ensures { λ b. ⌜ (b ≡ true → Sound r × Body r × (r .mode ≤ 3)) ⌝ }
+    ensures { λ b. ⌜ (b ≡ true → Sound r × Body r × (r .mode ≤ IN-CONTENT)) ⌝ }
 {
     if behind(r) {
-        if r.mode == 3 {
+        if r.mode == CONTENT_MODE {
             if r.acc == 0 {
                 return false;
             }
@@ -462,7 +504,7 @@ pub fn in_body(r: Record) -> bool
             }
             return false;
         }
-        if r.mode == 0 {
+        if r.mode == TYPE_MODE {
             if r.acc == 0 {
                 return true;
             }

@@ -137,7 +137,7 @@ fn event(room: &mut [u8; 2048], to: usize, kept: Kept, r: Report) -> usize
     if r.event == rules::CONTENT {
         return part(room, to, b"content", r.start, r.len);
     }
-    if r.event == rules::SECTION_BYTES {
+    if r.event == rules::SECTION {
         let a = part(room, to, b"section", r.start, r.len);
         return listing::put(room, a, b" 0");
     }
@@ -145,7 +145,7 @@ fn event(room: &mut [u8; 2048], to: usize, kept: Kept, r: Report) -> usize
         let a = part(room, to, b"section", r.start, r.len);
         return listing::put(room, a, b" 1");
     }
-    if r.event == rules::QPACK_BYTES {
+    if r.event == rules::QPACK {
         let a = part(room, to, b"qpack", r.value, r.start);
         return spaced(room, a, r.len);
     }
@@ -153,7 +153,7 @@ fn event(room: &mut [u8; 2048], to: usize, kept: Kept, r: Report) -> usize
         let a = listing::put(room, to, b"settings");
         return settings(room, a, kept);
     }
-    if r.event == rules::CLIENT_GOAWAY {
+    if r.event == rules::GOAWAY {
         let a = listing::put(room, to, b"goaway");
         return spaced(room, a, r.value);
     }
@@ -214,36 +214,36 @@ fn kind(room: &mut [u8; 2048], to: usize, k: u64) -> usize
     requires { ⌜ to + 7 ≤ 2048 ⌝ }
     ensures { λ r. ⌜ Puts (now (room .entry)) to (kindText k) 7 (now (room .exit)) r ⌝ }
 {
-    if k == 1 {
+    if k == record::REQUEST {
         return listing::put(room, to, b"request");
     }
-    if k == 2 {
+    if k == record::UNTYPED {
         return listing::put(room, to, b"untyped");
     }
-    if k == 3 {
+    if k == record::CONTROL {
         return listing::put(room, to, b"control");
     }
-    if k == 4 {
+    if k == record::ENCODER {
         return listing::put(room, to, b"encoder");
     }
-    if k == 5 {
+    if k == record::DECODER {
         return listing::put(room, to, b"decoder");
     }
     listing::put(room, to, b"skipped")
 }
 
-// A section is due of a request in mode 6 or 7.
+// Whether a section is due of a request.
 fn due(room: &mut [u8; 2048], to: usize, r: Record) -> usize
     requires { ⌜ to + 1 ≤ 2048 ⌝ }
     ensures { λ q. ⌜ Puts (now (room .entry)) to (dueText r) 1 (now (room .exit)) q ⌝ }
 {
-    if r.kind != 1 {
+    if r.kind != record::REQUEST_KIND {
         return to;
     }
-    if r.mode == 6 {
+    if r.mode == record::HEADER_DUE_MODE {
         return listing::put(room, to, b"+");
     }
-    if r.mode == 7 {
+    if r.mode == record::TRAILERS_DUE_MODE {
         return listing::put(room, to, b"+");
     }
     to
@@ -253,7 +253,7 @@ fn shown(room: &mut [u8; 2048], to: usize, index: u64, r: Record) -> usize
     requires { ⌜ (to + 51 ≤ 2048) ⌝ }
     ensures { λ q. ⌜ Puts (now (room .entry)) to (recordText index r) 51 (now (room .exit)) q ⌝ }
 {
-    if r.kind == 0 {
+    if r.kind == record::FREE_KIND {
         return to;
     }
     let a = spaced(room, to, index);

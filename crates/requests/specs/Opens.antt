@@ -11,13 +11,15 @@ use Rattle.meaning.specs.Machine.{Prog, fresh, need, State, in-type, in-length,
 use Rattle.meaning.specs.Feed.{feed}
 use Rattle.meaning.specs.Hom.{map-state}
 use Rattle.varint.specs.ByByte.{prog, partOf, fresh-good}
+use Rattle.streams.specs.Modes.{modeOf}
 use Rattle.streams.specs.Both.{of-request}
 use Rattle.streams.specs.Uses.{statedOf, placeOf}
 use Rattle.streams.specs.Heads.{headState}
-use Rattle.streams.specs.Answers.{stateAt, stateOf}
+use Rattle.streams.specs.Answers.{modeState, stateAt, stateOf}
 use Rattle.streams.specs.Apart.{message, state-carried}
+use Rattle.record.specs.Kinds.{REQUEST}
 use Rattle.record.specs.declared.Record.{Record}
-use Rattle.record.specs.Row.{phaseOf, statedIn, isStated, lengthOf, sumIn, modeOf, dueMode, numbersOf, placeIn, recordOf, requestRecord}
+use Rattle.record.specs.Row.{phaseOf, statedIn, isStated, lengthOf, sumIn, numbersOf, placeIn, recordOf, requestRecord}
 use Rattle.record.specs.Sound.{cellsIn, ownPlace}
 use Rattle.record.specs.Tests.{request-shape, sane-with}
 use Rattle.record.specs.Same.{sound-is}
@@ -33,7 +35,7 @@ open-is r o =
     let c = cellsIn r in
     let m = message (ownPlace c) in
     sound-is r (o .sound) (of-request m) [] (own-stands c (phase-low r o)) ∙ ap (λ k. recordOf k (r .id) (stateOf c (of-request m) [])) (o .kind)
-    ∙ ap (recordOf 1 (r .id)) (sym (state-carried of-request (c .mode) (c .acc) (c .due) (c .ftype) m []))
+    ∙ ap (recordOf REQUEST (r .id)) (sym (state-carried of-request (c .mode) (c .acc) (c .due) (c .ftype) m []))
 
 -- TWO OPEN REQUESTS OF ONE ID AND STATE ARE ONE RECORD
 pub one-open : (r q : Record) → Open r → Open q → r .id ≡ q .id → stateIn r ≡ stateIn q → r ≡ q
@@ -41,7 +43,7 @@ one-open r q o p i e = open-is r o ∙ ap (λ x. requestRecord x (stateIn r)) i 
 
 -- A REQUEST BEGINS OPEN, with nothing read
 pub begins-open : (id : ℕ) → id < 2 ^ 62 → id % 4 ≡ 0 → Open (requestRecord id (between opening))
-unfolding map-state numbersOf placeIn partOf phaseOf statedIn isStated lengthOf sumIn stateAt headState prog placeOf
+unfolding map-state numbersOf placeIn partOf phaseOf statedIn isStated lengthOf sumIn modeState modeOf headState prog placeOf
 begins-open id l e = record {
   sound = record {
     fit = record {
@@ -54,7 +56,7 @@ begins-open id l e = record {
 }
 
 pub begins-fresh : (id : ℕ) → stateIn (requestRecord id (between opening)) ≡ between opening
-unfolding map-state numbersOf placeIn partOf phaseOf statedIn isStated lengthOf sumIn stateAt headState prog placeOf message
+unfolding map-state numbersOf placeIn partOf phaseOf statedIn isStated lengthOf sumIn modeState modeOf headState prog placeOf message
 begins-fresh id = refl
 
 -- ---- a record's state is the state that was written
@@ -83,7 +85,7 @@ one-less : (n : ℕ) → suc n - 1 ≡ n
 one-less n = omega arith
 
 numbers-back : {P : Type 0} (s : State P) → Plain s → let h = numbersOf s in stateAt (h .mode) (h .acc) (h .due) (h .ftype) (placeIn s) [] ≡ s
-unfolding numbersOf placeIn stateAt headState modeOf dueMode
+unfolding numbersOf placeIn modeState modeOf headState
 numbers-back (in-type g p) h = ap (λ x. in-type x p) (prog-back g)
 numbers-back (in-length t g p) h = ap (λ x. in-length t x p) (prog-back g)
 numbers-back (in-payload content k left p) h = let n = one-less left in rw (n, h) refl

@@ -4,15 +4,17 @@ use Prim.Native.Nat.{ℕ, _-_}
 use mathlib.Core.List.{List, []}
 use mathlib.Core.Bool.{Bool, true, false}
 use mathlib.Core.Option.{Option, none, some}
+use Rattle.rules.specs.Events.{NOTHING, CONTENT, SECTION, SECTION-END, WHOLE, FREED}
 use Rattle.rules.specs.Block.{Lines, unreadable, readable, lines}
 use Rattle.rules.specs.Reading.{Verdict, whole, fault, waits}
 use Rattle.rules.specs.Message.{Message}
 use Rattle.rules.specs.Request.{document, request}
-use Rattle.rules.specs.Numbers.{codeNumber, named, Leaves, nothing-altered, id-unspent, untouched, record-freed, code-kept, leaves}
+use Rattle.rules.specs.Numbers.{NOT-OPEN, SECTION-DUE, NO-SECTION, UNREADABLE, ACCEPTED, codeNumber, named, Leaves, nothing-altered, id-unspent, untouched, record-freed, code-kept, leaves}
 use Rattle.meaning.specs.Machine.{State, in-type, in-length, in-payload, due, Outcome, lives, dies, given, finish}
 use Rattle.meaning.specs.Feed.{Event, quiet, section-bytes, content-bytes, taken, Feeding, feed}
 use Rattle.streams.specs.Answers.{stateOf}
 use Rattle.streams.specs.Apart.{message}
+use Rattle.record.specs.Kinds.{REQUEST}
 use Rattle.record.specs.declared.Record.{Record}
 use Rattle.record.specs.Row.{requestRecord, free-record}
 use Rattle.record.specs.Sound.{cellsIn, ownPlace, Sound}
@@ -23,7 +25,7 @@ use Rattle.requests.specs.declared.Reply.{Reply}
 -- a record that is sound and a request's
 pub record Open (r : Record) : Type 0 where
   pub sound : Sound r
-  pub kind : r .kind ≡ 1
+  pub kind : r .kind ≡ REQUEST
 
 -- THE STATE that its numbers say
 abbrev pub stateIn : Record → State Message
@@ -35,7 +37,7 @@ abbrev pub reply : (number event start len used heads : ℕ) → Record → Repl
 reply number event start len used heads r = record { number = number; event = event; start = start; len = len; used = used; heads = heads; row = r }
 
 abbrev pub refused : (number : ℕ) → Record → Reply
-refused number r = reply number 0 0 0 0 0 r
+refused number r = reply number NOTHING 0 0 0 0 r
 
 -- document 01's last table says which numbers free the record
 unfoldable pub frees : Option Leaves → Bool
@@ -55,14 +57,14 @@ leftBy number r = freedIf (frees (leaves (named number))) r
 
 -- ---- the calls
 
--- A FEED: no event beside a fault; event 0 none, 1 content, 2 section bytes, 3 the last of them (on a request no payload is kept)
+-- A FEED: no event beside a fault (on a request no payload is kept)
 unfoldable pub saidBy : Record → (used heads : ℕ) → Event → Outcome Message → Reply
-saidBy r u h e (dies code) = reply (codeNumber code) 0 0 0 u h (leftBy (codeNumber code) r)
-saidBy r u h quiet (lives s) = reply 0 0 0 0 u h (requestRecord (r .id) s)
-saidBy r u h (content-bytes len) (lives s) = reply 0 1 (u - len) len u h (requestRecord (r .id) s)
-saidBy r u h (section-bytes len false) (lives s) = reply 0 2 (u - len) len u h (requestRecord (r .id) s)
-saidBy r u h (section-bytes len true) (lives s) = reply 0 3 (u - len) len u h (requestRecord (r .id) s)
-saidBy r u h (taken k payload) (lives s) = reply 0 0 0 0 u h (requestRecord (r .id) s)
+saidBy r u h e (dies code) = reply (codeNumber code) NOTHING 0 0 u h (leftBy (codeNumber code) r)
+saidBy r u h quiet (lives s) = reply ACCEPTED NOTHING 0 0 u h (requestRecord (r .id) s)
+saidBy r u h (content-bytes len) (lives s) = reply ACCEPTED CONTENT (u - len) len u h (requestRecord (r .id) s)
+saidBy r u h (section-bytes len false) (lives s) = reply ACCEPTED SECTION (u - len) len u h (requestRecord (r .id) s)
+saidBy r u h (section-bytes len true) (lives s) = reply ACCEPTED SECTION-END (u - len) len u h (requestRecord (r .id) s)
+saidBy r u h (taken k payload) (lives s) = reply ACCEPTED NOTHING 0 0 u h (requestRecord (r .id) s)
 
 abbrev pub said : Record → Feeding Message → Reply
 said r f = saidBy r (f .used) (f .heads) (f .event) (f .after)
@@ -74,41 +76,41 @@ unlessDue (in-payload u k left m) x y = y
 unlessDue (due t m) x y = x
 
 abbrev pub fedAs : Record → (allow : ℕ) → (piece : List ℕ) → State Message → Reply
-fedAs r allow piece s = unlessDue s (refused 4 r) (said r (feed (request document) allow s piece))
+fedAs r allow piece s = unlessDue s (refused SECTION-DUE r) (said r (feed (request document) allow s piece))
 
 -- A SECTION GIVEN
 unfoldable pub takenAs : Record → Outcome Message → Reply
 takenAs r (dies code) = refused (codeNumber code) (leftBy (codeNumber code) r)
-takenAs r (lives s) = refused 0 (requestRecord (r .id) s)
+takenAs r (lives s) = refused ACCEPTED (requestRecord (r .id) s)
 
 unfoldable pub readAs : Record → State Message → Lines → Reply
-readAs r s (unreadable f) = refused 6 r
+readAs r s (unreadable f) = refused UNREADABLE r
 readAs r s (readable block) = takenAs r (given (request document) block s)
 
 abbrev pub givenAs : Record → (block : List ℕ) → State Message → Reply
-givenAs r block s = unlessDue s (readAs r s (lines block)) (refused 5 r)
+givenAs r block s = unlessDue s (readAs r s (lines block)) (refused NO-SECTION r)
 
--- THE END: event 11, the request is whole
+-- THE END
 unfoldable pub endedBy : Record → Verdict → Reply
-endedBy r whole = reply 0 11 0 0 0 0 free-record
+endedBy r whole = reply ACCEPTED WHOLE 0 0 0 0 free-record
 endedBy r (fault code place) = refused (codeNumber code) (leftBy (codeNumber code) r)
-endedBy r (waits place) = refused 4 r
+endedBy r (waits place) = refused SECTION-DUE r
 
 abbrev pub endedAs : Record → State Message → Reply
 endedAs r s = endedBy r (finish (request document) 0 s)
 
--- A RESET: event 12, freed, whatever the state
+-- A RESET: freed, whatever the state
 abbrev pub resetAs : Record → State Message → Reply
-resetAs r s = reply 0 12 0 0 0 0 free-record
+resetAs r s = reply ACCEPTED FREED 0 0 0 0 free-record
 
 -- ---- an answer to any record
 
--- THE ANSWER: 1, nothing altered, unless the record is an open request; then what the call answers from its state
+-- THE ANSWER: not open, nothing altered, unless the record is an open request; then what the call answers from its state
 pub data Answered (r : Record) (want : State Message → Reply) (a : Reply) : Type 0 where
-  shut : (Open r → ⊥) → a ≡ refused 1 r → Answered r want a
+  shut : (Open r → ⊥) → a ≡ refused NOT-OPEN r → Answered r want a
   opened : Open r → a ≡ want (stateIn r) → Answered r want a
 
 -- and what is accepted leaves an open request
 pub record Keeps (r : Record) (want : State Message → Reply) (a : Reply) : Type 0 where
   pub answers : Answered r want a
-  pub stays : a .number ≡ 0 → Open (a .row)
+  pub stays : a .number ≡ ACCEPTED → Open (a .row)

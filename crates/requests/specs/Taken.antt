@@ -7,7 +7,7 @@ use mathlib.Core.Bool.{Bool, true, false}
 use mathlib.Core.Option.{Option, none, some}
 use lib.Dec.{eqb, ltb}
 use borrow.Author.Tests.{lt-ltb, le-ltb, eq-eqb, ne-eqb}
-use Rattle.rules.specs.Numbers.{FRAME-UNEXPECTED, codeNumber}
+use Rattle.rules.specs.Numbers.{ACCEPTED, NO-SECTION, UNREADABLE, FRAME-UNEXPECTED, codeNumber}
 use Rattle.rules.specs.Block.{Section, Lines, unreadable, readable, lines}
 use Rattle.rules.specs.Reading.{header-section, trailers, Next, stop, go}
 use Rattle.rules.specs.Message.{Message, opening, body, trailed, heads, trails}
@@ -25,11 +25,12 @@ use Rattle.section.specs.declared.TrailerAnswer.the-variants as trailer
 use Rattle.section.specs.Checks.{reasonOf}
 use Rattle.section.specs.Answer.{tellHeader, tellTrailers, readHeader, readTrailers, readStated}
 use Rattle.section.specs.Request.{stated-within, asHeader, asTrailer, header-is, header-unreadable, trailer-is, trailer-unreadable}
+use Rattle.streams.specs.Modes.{IN-TYPE, HEADER-SECTION-DUE, TRAILERS-DUE, OPENING, BODY, TRAILED, modeOf}
 use Rattle.streams.specs.declared.Cells.{Cells}
 use Rattle.streams.specs.Both.{Place, of-request, of-control}
 use Rattle.streams.specs.Uses.{statedOf, placeOf, Stands, a-place, any-set}
 use Rattle.streams.specs.Heads.{headState}
-use Rattle.streams.specs.Answers.{stateAt, stateOf, StandsIn, Sane}
+use Rattle.streams.specs.Answers.{modeState, stateOf, StandsIn, Sane}
 use Rattle.requests.specs.declared.given.Given.{Given}
 
 abbrev pub answer : (number : ℕ) → Cells → Given
@@ -38,31 +39,31 @@ answer n c = record { number = n; cells = c }
 -- ---- where a stream goes on
 
 abbrev pub cellsAt : (phase has stated sum : ℕ) → Cells
-cellsAt phase has stated sum = record { mode = 0; acc = 0; due = 0; ftype = 0; phase = phase; has = has; stated = stated; sum = sum }
+cellsAt phase has stated sum = record { mode = IN-TYPE; acc = 0; due = 0; ftype = 0; phase = phase; has = has; stated = stated; sum = sum }
 
 unfoldable pub bodyCells : Option ℕ → Cells
-bodyCells none = cellsAt 1 0 0 0
-bodyCells (some n) = cellsAt 1 1 n 0
+bodyCells none = cellsAt BODY 0 0 0
+bodyCells (some n) = cellsAt BODY 1 n 0
 
 abbrev pub trailedCells : Cells → Cells
-trailedCells c = cellsAt 2 (c .has) (c .stated) (c .sum)
+trailedCells c = cellsAt TRAILED (c .has) (c .stated) (c .sum)
 
 -- ---- the answer
 
--- a section is taken in its place alone: the header section at phase 0, trailers at phase 1
+-- a section is taken in its place alone: the header section at the opening, trailers behind the body
 unfoldable pub inPlace : (here : Bool) → Cells → Cells → Given
-inPlace true c next = answer 0 next
+inPlace true c next = answer ACCEPTED next
 inPlace false c next = answer FRAME-UNEXPECTED c
 
 unfoldable pub headedAs : Cells → Option Header → Given
-headedAs c none = answer 6 c
+headedAs c none = answer UNREADABLE c
 headedAs c (some (request.Header.bad code)) = answer (codeNumber code) c
-headedAs c (some (request.Header.good stated)) = inPlace (eqb (c .phase) 0) c (bodyCells stated)
+headedAs c (some (request.Header.good stated)) = inPlace (eqb (c .phase) OPENING) c (bodyCells stated)
 
 unfoldable pub trailedAs : Cells → Option Trailer → Given
-trailedAs c none = answer 6 c
+trailedAs c none = answer UNREADABLE c
 trailedAs c (some (request.Trailer.bad code)) = answer (codeNumber code) c
-trailedAs c (some request.Trailer.good) = inPlace (eqb (c .phase) 1) c (trailedCells c)
+trailedAs c (some request.Trailer.good) = inPlace (eqb (c .phase) BODY) c (trailedCells c)
 
 unfoldable pub headerOf : Lines → Option Header
 headerOf (unreadable f) = none
@@ -72,30 +73,30 @@ unfoldable pub trailerOf : Lines → Option Trailer
 trailerOf (unreadable f) = none
 trailerOf (readable s) = some (document .trailer s)
 
--- none is due on a control stream, nor in any other mode than 6 and 7
+-- none is due on a control stream, nor in any mode but two
 unfoldable pub givenOf : Cells → List ℕ → Given
-givenOf c block = elim (ltb 2 (c .phase)) [ true ↦ answer 5 c | false ↦ elim (eqb (c .mode) 6) [ true ↦ headedAs c (headerOf (lines block)) | false ↦ elim (eqb (c .mode) 7) [ true ↦ trailedAs c (trailerOf (lines block)) | false ↦ answer 5 c ] ] ]
+givenOf c block = elim (ltb TRAILED (c .phase)) [ true ↦ answer NO-SECTION c | false ↦ elim (eqb (c .mode) HEADER-SECTION-DUE) [ true ↦ headedAs c (headerOf (lines block)) | false ↦ elim (eqb (c .mode) TRAILERS-DUE) [ true ↦ trailedAs c (trailerOf (lines block)) | false ↦ answer NO-SECTION c ] ] ]
 
 -- ---- laws: the answer
 
 module _ (c : Cells) (block : List ℕ) where
-  pub given-control : 2 < c .phase → answer 5 c ≡ givenOf c block
+  pub given-control : TRAILED < c .phase → answer NO-SECTION c ≡ givenOf c block
   unfolding givenOf
-  given-control h = let x = lt-ltb 2 (c .phase) h in rw (x, givenOf) refl
+  given-control h = let x = lt-ltb TRAILED (c .phase) h in rw (x, givenOf) refl
 
-  module _ (h : c .phase ≤ 2) where
-    pub given-header : c .mode ≡ 6 → {r : Given} → r ≡ headedAs c (headerOf (lines block)) → r ≡ givenOf c block
+  module _ (h : c .phase ≤ TRAILED) where
+    pub given-header : c .mode ≡ HEADER-SECTION-DUE → {r : Given} → r ≡ headedAs c (headerOf (lines block)) → r ≡ givenOf c block
     unfolding givenOf
-    given-header e q = let x = le-ltb 2 (c .phase) h in let y = eq-eqb (c .mode) 6 e in rw (x, y, givenOf) q
+    given-header e q = let x = le-ltb TRAILED (c .phase) h in let y = eq-eqb (c .mode) HEADER-SECTION-DUE e in rw (x, y, givenOf) q
 
-    pub given-trailers : c .mode ≡ 7 → {r : Given} → r ≡ trailedAs c (trailerOf (lines block)) → r ≡ givenOf c block
+    pub given-trailers : c .mode ≡ TRAILERS-DUE → {r : Given} → r ≡ trailedAs c (trailerOf (lines block)) → r ≡ givenOf c block
     unfolding givenOf
     given-trailers e q =
-        let x = le-ltb 2 (c .phase) h in let y = ne-eqb (c .mode) 6 (λ f. omega (arith, e, f)) in let z = eq-eqb (c .mode) 7 e in rw (x, y, z, givenOf) q
+        let x = le-ltb TRAILED (c .phase) h in let y = ne-eqb (c .mode) HEADER-SECTION-DUE (λ f. omega (arith, e, f)) in let z = eq-eqb (c .mode) TRAILERS-DUE e in rw (x, y, z, givenOf) q
 
-    pub given-undue : (c .mode ≡ 6 → ⊥) → (c .mode ≡ 7 → ⊥) → answer 5 c ≡ givenOf c block
+    pub given-undue : (c .mode ≡ HEADER-SECTION-DUE → ⊥) → (c .mode ≡ TRAILERS-DUE → ⊥) → answer NO-SECTION c ≡ givenOf c block
     unfolding givenOf
-    given-undue e f = let x = le-ltb 2 (c .phase) h in let y = ne-eqb (c .mode) 6 e in let z = ne-eqb (c .mode) 7 f in rw (x, y, z, givenOf) refl
+    given-undue e f = let x = le-ltb TRAILED (c .phase) h in let y = ne-eqb (c .mode) HEADER-SECTION-DUE e in let z = ne-eqb (c .mode) TRAILERS-DUE f in rw (x, y, z, givenOf) refl
 
   header-lines : (a : HeaderAnswer) → readHeader block a ≡ tellHeader (lines block) → (l : Lines) → lines block ≡ l → asHeader a ≡ headerOf l
   unfolding headerOf
@@ -113,7 +114,7 @@ module _ (c : Cells) (block : List ℕ) where
   pub trailer-met : (a : TrailerAnswer) → readTrailers a ≡ tellTrailers (lines block) → trailedAs c (asTrailer a) ≡ trailedAs c (trailerOf (lines block))
   trailer-met a met = ap (trailedAs c) (trailer-lines a met (lines block) refl)
 
-in-place : (c next : Cells) (here : Bool) → here ≡ true → answer 0 next ≡ inPlace here c next
+in-place : (c next : Cells) (here : Bool) → here ≡ true → answer ACCEPTED next ≡ inPlace here c next
 unfolding inPlace
 in-place c next true e = refl
 in-place c next false e = let z : _≡_ {A = ℕ} 0 1 = cc in absurd (omega arith)
@@ -130,7 +131,7 @@ module _ (c : Cells) (block : List ℕ) (a : HeaderAnswer) (met : readHeader blo
   header-as : {b : HeaderAnswer} → a ≡ b → headedAs c (asHeader b) ≡ headedAs c (headerOf (lines block))
   header-as e = ap (λ x. headedAs c (asHeader x)) (sym e) ∙ header-met c block a met
 
-  pub header-unread : a ≡ header.Unreadable → Headed (answer 6 c)
+  pub header-unread : a ≡ header.Unreadable → Headed (answer UNREADABLE c)
   unfolding headedAs asHeader
   header-unread e = header-as e
 
@@ -139,13 +140,13 @@ module _ (c : Cells) (block : List ℕ) (a : HeaderAnswer) (met : readHeader blo
   header-refused e f = ap (λ n. answer n c) f ∙ header-as e
 
   module _ {method end : ℕ} {s : Stated} (e : a ≡ header.Sound method end s) where
-    pub header-taken : {next : Cells} → c .phase ≡ 0 → next ≡ bodyCells (readStated s) → Headed (answer 0 next)
+    pub header-taken : {next : Cells} → c .phase ≡ OPENING → next ≡ bodyCells (readStated s) → Headed (answer ACCEPTED next)
     unfolding headedAs asHeader
-    header-taken f g = ap (answer 0) g ∙ in-place c (bodyCells (readStated s)) (eqb (c .phase) 0) (eq-eqb (c .phase) 0 f) ∙ header-as e
+    header-taken f g = ap (answer ACCEPTED) g ∙ in-place c (bodyCells (readStated s)) (eqb (c .phase) OPENING) (eq-eqb (c .phase) OPENING f) ∙ header-as e
 
-    pub header-late : (c .phase ≡ 0 → ⊥) → Headed (answer FRAME-UNEXPECTED c)
+    pub header-late : (c .phase ≡ OPENING → ⊥) → Headed (answer FRAME-UNEXPECTED c)
     unfolding headedAs asHeader
-    header-late f = out-of-place c (bodyCells (readStated s)) (eqb (c .phase) 0) (ne-eqb (c .phase) 0 f) ∙ header-as e
+    header-late f = out-of-place c (bodyCells (readStated s)) (eqb (c .phase) OPENING) (ne-eqb (c .phase) OPENING f) ∙ header-as e
 
 module _ (c : Cells) (block : List ℕ) (a : TrailerAnswer) (met : readTrailers a ≡ tellTrailers (lines block)) where
   abbrev Trailed : Given → Type 0
@@ -154,7 +155,7 @@ module _ (c : Cells) (block : List ℕ) (a : TrailerAnswer) (met : readTrailers 
   trailer-as : {b : TrailerAnswer} → a ≡ b → trailedAs c (asTrailer b) ≡ trailedAs c (trailerOf (lines block))
   trailer-as e = ap (λ x. trailedAs c (asTrailer x)) (sym e) ∙ trailer-met c block a met
 
-  pub trailer-unread : a ≡ trailer.Unreadable → Trailed (answer 6 c)
+  pub trailer-unread : a ≡ trailer.Unreadable → Trailed (answer UNREADABLE c)
   unfolding trailedAs asTrailer
   trailer-unread e = trailer-as e
 
@@ -163,32 +164,32 @@ module _ (c : Cells) (block : List ℕ) (a : TrailerAnswer) (met : readTrailers 
   trailer-refused e f = ap (λ n. answer n c) f ∙ trailer-as e
 
   module _ (e : a ≡ trailer.Sound) where
-    pub trailer-taken : {next : Cells} → c .phase ≡ 1 → next ≡ trailedCells c → Trailed (answer 0 next)
+    pub trailer-taken : {next : Cells} → c .phase ≡ BODY → next ≡ trailedCells c → Trailed (answer ACCEPTED next)
     unfolding trailedAs asTrailer
-    trailer-taken f g = ap (answer 0) g ∙ in-place c (trailedCells c) (eqb (c .phase) 1) (eq-eqb (c .phase) 1 f) ∙ trailer-as e
+    trailer-taken f g = ap (answer ACCEPTED) g ∙ in-place c (trailedCells c) (eqb (c .phase) BODY) (eq-eqb (c .phase) BODY f) ∙ trailer-as e
 
-    pub trailer-late : (c .phase ≡ 1 → ⊥) → Trailed (answer FRAME-UNEXPECTED c)
+    pub trailer-late : (c .phase ≡ BODY → ⊥) → Trailed (answer FRAME-UNEXPECTED c)
     unfolding trailedAs asTrailer
-    trailer-late f = out-of-place c (trailedCells c) (eqb (c .phase) 1) (ne-eqb (c .phase) 1 f) ∙ trailer-as e
+    trailer-late f = out-of-place c (trailedCells c) (eqb (c .phase) BODY) (ne-eqb (c .phase) BODY f) ∙ trailer-as e
 
 -- ---- it is the rules' own
 
--- an answer says this of the rules' next message: the code, the stream as it was; or 0, and the stream stands between two frames at that message
+-- an answer says this of the rules' next message: the code, the stream as it was; or it is accepted, and the stream stands between two frames at that message
 unfoldable pub Says : Cells → Given → Next Message → Type 0
 Says c r (stop code) = r ≡ answer (codeNumber code) c
-Says c r (go m) = (r .number ≡ 0) × StandsIn (r .cells) (of-request m) × ((p : Place) (k : List ℕ) → stateOf (r .cells) p k ≡ between p) × Sane (r .cells)
+Says c r (go m) = (r .number ≡ ACCEPTED) × StandsIn (r .cells) (of-request m) × ((p : Place) (k : List ℕ) → stateOf (r .cells) p k ≡ between p) × Sane (r .cells)
 
 -- the messages that numbers stand for
 data Message-at (h n s : ℕ) : (phase : ℕ) → Message → Type 0 where
-  at-opening : Message-at h n s 0 opening
-  at-body : Message-at h n s 1 (body (statedOf h n) s)
-  at-trailers : Message-at h n s 2 (trailed (statedOf h n) s)
+  at-opening : Message-at h n s OPENING opening
+  at-body : Message-at h n s BODY (body (statedOf h n) s)
+  at-trailers : Message-at h n s TRAILED (trailed (statedOf h n) s)
 
 of-place : (h n s phase : ℕ) (m : Message) → placeOf phase h n s ≡ of-request m → Message-at h n s phase m
 unfolding placeOf
-of-place h n s zero m e = let f : opening ≡ m = cc in subst (Message-at h n s 0) f at-opening
-of-place h n s (suc zero) m e = let f : body (statedOf h n) s ≡ m = cc in subst (Message-at h n s 1) f at-body
-of-place h n s (suc (suc zero)) m e = let f : trailed (statedOf h n) s ≡ m = cc in subst (Message-at h n s 2) f at-trailers
+of-place h n s zero m e = let f : opening ≡ m = cc in subst (Message-at h n s OPENING) f at-opening
+of-place h n s (suc zero) m e = let f : body (statedOf h n) s ≡ m = cc in subst (Message-at h n s BODY) f at-body
+of-place h n s (suc (suc zero)) m e = let f : trailed (statedOf h n) s ≡ m = cc in subst (Message-at h n s TRAILED) f at-trailers
 of-place h n s (suc (suc (suc zero))) m e = let z : _≡_ {A = ℕ} 0 1 = cc in absurd (omega arith)
 of-place h n s (suc (suc (suc (suc k)))) m e = let z : _≡_ {A = ℕ} 0 1 = cc in absurd (omega arith)
 
@@ -198,7 +199,7 @@ stands-at h n s m (any-set {p = of-request m′} k i) e = absurd i
 stands-at h n s m (any-set {p = of-control c} k i) e = let z : _≡_ {A = ℕ} 0 1 = cc in absurd (omega arith)
 
 fresh-between : (phase h n s : ℕ) (p : Place) (k : List ℕ) → stateOf (cellsAt phase h n s) p k ≡ between p
-unfolding stateAt headState prog
+unfolding modeState modeOf headState prog
 fresh-between phase h n s p k = refl
 
 sane-at : (phase h n s : ℕ) → n ≤ 2 ^ 62 → s ≤ 2 ^ 62 → Sane (cellsAt phase h n s)
@@ -213,18 +214,18 @@ sane-at phase h n s a b = record {
 }
 
 header-good : (c : Cells) (stated : Option ℕ) → ((n : ℕ) → stated ≡ some n → n ≤ 2 ^ 62) → {h n s phase : ℕ} {m : Message} → Message-at h n s phase m
-    → Says c (inPlace (eqb phase 0) c (bodyCells stated)) (next-of (heads stated m))
+    → Says c (inPlace (eqb phase OPENING) c (bodyCells stated)) (next-of (heads stated m))
 unfolding Says inPlace bodyCells next-of heads codeOf placeOf statedOf
-header-good c none w at-opening = (refl, a-place, fresh-between 1 0 0 0, sane-at 1 0 0 0 (omega arith) (omega arith))
-header-good c (some n) w at-opening = (refl, a-place, fresh-between 1 1 n 0, sane-at 1 1 n 0 (w n refl) (omega arith))
+header-good c none w at-opening = (refl, a-place, fresh-between BODY 0 0 0, sane-at BODY 0 0 0 (omega arith) (omega arith))
+header-good c (some n) w at-opening = (refl, a-place, fresh-between BODY 1 n 0, sane-at BODY 1 n 0 (w n refl) (omega arith))
 header-good c stated w at-body = refl
 header-good c stated w at-trailers = refl
 
 trailer-good : (c : Cells) {h n s phase : ℕ} {m : Message} → n ≤ 2 ^ 62 → s ≤ 2 ^ 62 → Message-at h n s phase m
-    → Says c (inPlace (eqb phase 1) c (cellsAt 2 h n s)) (next-of (trails m))
+    → Says c (inPlace (eqb phase BODY) c (cellsAt TRAILED h n s)) (next-of (trails m))
 unfolding Says inPlace next-of trails codeOf placeOf
 trailer-good c a b at-opening = refl
-trailer-good c {h} {n} {s} a b at-body = (refl, a-place, fresh-between 2 h n s, sane-at 2 h n s a b)
+trailer-good c {h} {n} {s} a b at-body = (refl, a-place, fresh-between TRAILED h n s, sane-at TRAILED h n s a b)
 trailer-good c a b at-trailers = refl
 
 module _ (c : Cells) (m : Message) (st : StandsIn c (of-request m)) where

@@ -8,6 +8,7 @@ use Rattle.rules.specs.Message.{Message, Reason, out-of-place, past-stated, pas
 use Rattle.rules.specs.Request.{document, request, codeOf, end-of}
 use Rattle.meaning.specs.NumberLaws.{code-high}
 use Rattle.meaning.specs.Machine.{fresh, need, State, in-type, in-length, in-payload, due, finish}
+use Rattle.streams.specs.Modes.{TRAILED}
 use Rattle.streams.specs.declared.Cells.{Cells}
 use Rattle.streams.specs.Both.{of-request}
 use Rattle.streams.specs.Apart.{message, state-carried}
@@ -34,7 +35,7 @@ module _ (r : Record) (n : ℕ) where
   by-code (waits place) e z = ap (λ x. refused x (leftBy x r)) e ∙ ap (refused 4) (sym (left-alone r 4 ((λ x. omega arith), (λ x. omega arith), (λ x. omega arith), (λ x. omega arith))))
 
 module _ (r : Record) (o : Open r) where
-  pub phase-low : cellsIn r .phase ≤ 2
+  pub phase-low : cellsIn r .phase ≤ TRAILED
   phase-low = o .sound .fit .shaped .request-phase (o .kind)
 
   end-number : {n : ℕ} {d : Cells} → d ≡ cellsIn r → Ends d n → n ≡ verdictNumber (finish (request document) 0 (stateIn r))

@@ -1,4 +1,4 @@
-// A section given to a stream (document 01, "Requests"), by value: 5 none is due, 6 the block is unreadable, the code that refuses it, else 0.
+// A section given to a stream (document 01, "Requests"), by value: none is due, the block is unreadable, the code that refuses it, or it is accepted.
 use section::HeaderAnswer;
 use section::Stated;
 use section::TrailerAnswer;
@@ -20,7 +20,7 @@ fn cells_at(phase: u64, has: u64, stated: u64, sum: u64) -> Cells
     ensures { λ r. ⌜ r ≡ cellsAt phase has stated sum ⌝ }
 {
     Cells {
-        mode: 0,
+        mode: streams::IN_TYPE,
         acc: 0,
         due: 0,
         ftype: 0,
@@ -35,8 +35,8 @@ fn body_cells(stated: Stated) -> Cells
     ensures { λ r. ⌜ r ≡ bodyCells (readStated stated) ⌝ }
 {
     match stated {
-        Stated::Nothing => cells_at(1, 0, 0, 0),
-        Stated::Length(n) => cells_at(1, 1, n, 0),
+        Stated::Nothing => cells_at(streams::BODY, 0, 0, 0),
+        Stated::Length(n) => cells_at(streams::BODY, 1, n, 0),
     }
 }
 
@@ -45,7 +45,7 @@ fn give_header(c: Cells, block: &[u8]) -> Given
 {
     match section::header_section(block) {
         HeaderAnswer::Unreadable => Given {
-            number: 6,
+            number: rules::UNREADABLE,
             cells: c,
         },
         HeaderAnswer::Refused(reason) => Given {
@@ -57,9 +57,9 @@ fn give_header(c: Cells, block: &[u8]) -> Given
             end: _,
             stated,
         } => {
-            if c.phase == 0 {
+            if c.phase == streams::OPENING {
                 Given {
-                    number: 0,
+                    number: rules::ACCEPTED,
                     cells: body_cells(stated),
                 }
             } else {
@@ -77,7 +77,7 @@ fn give_trailers(c: Cells, block: &[u8]) -> Given
 {
     match section::trailers(block) {
         TrailerAnswer::Unreadable => Given {
-            number: 6,
+            number: rules::UNREADABLE,
             cells: c,
         },
         TrailerAnswer::Refused(reason) => Given {
@@ -85,10 +85,10 @@ fn give_trailers(c: Cells, block: &[u8]) -> Given
             cells: c,
         },
         TrailerAnswer::Sound => {
-            if c.phase == 1 {
+            if c.phase == streams::BODY {
                 Given {
-                    number: 0,
-                    cells: cells_at(2, c.has, c.stated, c.sum),
+                    number: rules::ACCEPTED,
+                    cells: cells_at(streams::TRAILED, c.has, c.stated, c.sum),
                 }
             } else {
                 Given {
@@ -103,19 +103,19 @@ fn give_trailers(c: Cells, block: &[u8]) -> Given
 pub fn give(c: Cells, block: &[u8]) -> Given
     ensures { λ r. ⌜ r ≡ givenOf c (now (block .entry)) ⌝ }
 {
-    if 2 < c.phase {
+    if streams::TRAILED < c.phase {
         return Given {
-            number: 5,
+            number: rules::NO_SECTION,
             cells: c,
         };
     }
-    if c.mode == 6 {
+    if c.mode == streams::HEADER_SECTION_DUE {
         give_header(c, block)
-    } else if c.mode == 7 {
+    } else if c.mode == streams::TRAILERS_DUE {
         give_trailers(c, block)
     } else {
         Given {
-            number: 5,
+            number: rules::NO_SECTION,
             cells: c,
         }
     }

@@ -5,6 +5,8 @@ use record::Record;
 use record::Stream;
 use streams::Cells;
 ghost use mathlib.Core.Path.{_≡_};
+ghost use Rattle.rules.specs.Numbers.{ACCEPTED};
+ghost use Rattle.record.specs.Kinds.{REQUEST};
 ghost use Rattle.record.specs.Sound.{Fit, cellsIn, stream, Written};
 ghost use Rattle.record.specs.Body.{contentIn};
 ghost use Rattle.requests.specs.Reply.{reply, leftBy, fedAs, givenAs, endedAs, resetAs, Answered, Keeps};
@@ -56,10 +58,14 @@ fn told(number: u64, event: u64, r: Record) -> Reply
 
 // The record of a request's state.
 fn kept(id: u64, cells: Cells) -> Record
-    requires { ⌜ Fit 1 id cells ⌝ }
-    ensures { λ r. ⌜ Written (stream 1 id cells) r ⌝ }
+    requires { ⌜ Fit REQUEST id cells ⌝ }
+    ensures { λ r. ⌜ Written (stream REQUEST id cells) r ⌝ }
 {
-    record::row(Stream { kind: 1, id, cells })
+    record::row(Stream {
+        kind: record::REQUEST,
+        id,
+        cells,
+    })
 }
 
 // The peer resets the stream.
@@ -67,7 +73,7 @@ pub fn reset(r: Record) -> Reply
     ensures { λ a. ⌜ Answered r (resetAs r) a ⌝ }
 {
     let s = record::read(r);
-    if s.kind == 1 {
+    if s.kind == record::REQUEST {
         told(rules::ACCEPTED, rules::FREED, record::free())
     } else {
         told(rules::NOT_OPEN, rules::NOTHING, r)
@@ -79,10 +85,10 @@ pub fn end(r: Record) -> Reply
     ensures { λ a. ⌜ Answered r (endedAs r) a ⌝ }
 {
     let s = record::read(r);
-    if s.kind == 1 {
+    if s.kind == record::REQUEST {
         let c = s.cells;
         let n = streams::end(c);
-        if n == 0 {
+        if n == rules::ACCEPTED {
             told(rules::ACCEPTED, rules::WHOLE, record::free())
         } else {
             told(n, rules::NOTHING, left(n, r))
@@ -97,12 +103,12 @@ pub fn feed(r: Record, piece: &[u8], allow: u64) -> Reply
     ensures { λ a. ⌜ Keeps r (fedAs r allow (now (piece .entry))) a ⌝ }
 {
     let s = record::read(r);
-    if s.kind == 1 {
+    if s.kind == record::REQUEST {
         let c = s.cells;
-        if c.mode == 6 {
+        if c.mode == streams::HEADER_SECTION_DUE {
             return told(rules::SECTION_DUE, rules::NOTHING, r);
         }
-        if c.mode == 7 {
+        if c.mode == streams::TRAILERS_DUE {
             return told(rules::SECTION_DUE, rules::NOTHING, r);
         }
         let a = streams::feed(piece, c, allow);
@@ -121,7 +127,7 @@ pub fn feed(r: Record, piece: &[u8], allow: u64) -> Reply
         let q = kept(r.id, d);
         if a.event == rules::NOTHING {
             return Reply {
-                number: 0,
+                number: rules::ACCEPTED,
                 event: rules::NOTHING,
                 start: 0,
                 len: 0,
@@ -133,7 +139,7 @@ pub fn feed(r: Record, piece: &[u8], allow: u64) -> Reply
         // No payload of a request is kept, so no event above 4 comes.
         if rules::FAULT < a.event {
             return Reply {
-                number: 0,
+                number: rules::ACCEPTED,
                 event: rules::NOTHING,
                 start: 0,
                 len: 0,
@@ -143,7 +149,7 @@ pub fn feed(r: Record, piece: &[u8], allow: u64) -> Reply
             };
         }
         Reply {
-            number: 0,
+            number: rules::ACCEPTED,
             event: a.event,
             start: a.start,
             len: a.len,
@@ -156,9 +162,9 @@ pub fn feed(r: Record, piece: &[u8], allow: u64) -> Reply
     }
 }
 
-// The same, if it is content: number 0. Any other number says nothing.
+// The same, if it is content: accepted. Any other number says nothing.
 pub fn brisk(r: Record, piece: &[u8], allow: u64) -> Reply
-    ensures { λ a. ⌜ (a .number ≡ 0 → Keeps r (fedAs r allow (now (piece .entry))) a × (a .row ≡ contentIn r (cellsIn (a .row)))) ⌝ }
+    ensures { λ a. ⌜ (a .number ≡ ACCEPTED → Keeps r (fedAs r allow (now (piece .entry))) a × (a .row ≡ contentIn r (cellsIn (a .row)))) ⌝ }
 {
     if record::in_body(r) {
         let c = record::cells_in(r);
@@ -166,7 +172,7 @@ pub fn brisk(r: Record, piece: &[u8], allow: u64) -> Reply
         if b.event == rules::CONTENT {
             let d = b.cells;
             return Reply {
-                number: 0,
+                number: rules::ACCEPTED,
                 event: b.event,
                 start: b.start,
                 len: b.len,
@@ -184,10 +190,10 @@ pub fn give(r: Record, block: &[u8]) -> Reply
     ensures { λ a. ⌜ Keeps r (givenAs r (now (block .entry))) a ⌝ }
 {
     let s = record::read(r);
-    if s.kind == 1 {
+    if s.kind == record::REQUEST {
         let c = s.cells;
         let g = given::give(c, block);
-        if g.number == 0 {
+        if g.number == rules::ACCEPTED {
             let d = g.cells;
             told(rules::ACCEPTED, rules::NOTHING, kept(r.id, d))
         } else {

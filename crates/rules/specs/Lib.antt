@@ -10,6 +10,7 @@ pub mod Request
 pub mod Control
 pub mod OneWay
 pub mod Numbers
+pub mod Events
 pub mod Writer
 pub mod Legal
 pub mod LegalEdges

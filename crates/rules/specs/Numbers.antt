@@ -14,11 +14,11 @@ pub data House : Type 0 where
   not-next : House  -- ID is not next, or above 2^62-1
   no-record : House  -- no free record
   section-due : House  -- feed or end while a section is due
-  none-due : House  -- section when none is due
+  no-section : House  -- section when none is due
   unreadable : House  -- block unreadable
-  short-room : House  -- write buffer too short
+  room-short : House  -- write buffer too short
   bad-value : House  -- write value above 2^62-1, bad GOAWAY ID
-  not-24 : House  -- row lent with other than 24 records
+  other-row : House  -- row lent with other than 24 records
 
 -- RFC 9114's names, less H3_
 pub data StreamFault : Type 0 where
@@ -57,20 +57,20 @@ NO-RECORD = 3
 abbrev pub SECTION-DUE : ℕ
 SECTION-DUE = 4
 
-abbrev pub NONE-DUE : ℕ
-NONE-DUE = 5
+abbrev pub NO-SECTION : ℕ
+NO-SECTION = 5
 
 abbrev pub UNREADABLE : ℕ
 UNREADABLE = 6
 
-abbrev pub SHORT-ROOM : ℕ
-SHORT-ROOM = 7
+abbrev pub ROOM-SHORT : ℕ
+ROOM-SHORT = 7
 
 abbrev pub BAD-VALUE : ℕ
 BAD-VALUE = 8
 
-abbrev pub NOT-24 : ℕ
-NOT-24 = 9
+abbrev pub OTHER-ROW : ℕ
+OTHER-ROW = 9
 
 abbrev pub STREAM-CREATION-ERROR : ℕ
 STREAM-CREATION-ERROR = 0x0103
@@ -113,11 +113,11 @@ houseNumber not-open = NOT-OPEN
 houseNumber not-next = NOT-NEXT
 houseNumber no-record = NO-RECORD
 houseNumber section-due = SECTION-DUE
-houseNumber none-due = NONE-DUE
+houseNumber no-section = NO-SECTION
 houseNumber unreadable = UNREADABLE
-houseNumber short-room = SHORT-ROOM
+houseNumber room-short = ROOM-SHORT
 houseNumber bad-value = BAD-VALUE
-houseNumber not-24 = NOT-24
+houseNumber other-row = OTHER-ROW
 
 abbrev pub codeNumber : Code → ℕ
 codeNumber (of-stream request-rejected) = REQUEST-REJECTED
@@ -146,11 +146,11 @@ rows =
     ∷ refusal not-next
     ∷ refusal no-record
     ∷ refusal section-due
-    ∷ refusal none-due
+    ∷ refusal no-section
     ∷ refusal unreadable
-    ∷ refusal short-room
+    ∷ refusal room-short
     ∷ refusal bad-value
-    ∷ refusal not-24
+    ∷ refusal other-row
     ∷ fault (of-stream request-rejected)
     ∷ fault (of-stream request-cancelled)
     ∷ fault (of-stream request-incomplete)
@@ -209,11 +209,11 @@ houseLeaves not-open = nothing-altered
 houseLeaves not-next = nothing-altered
 houseLeaves no-record = id-unspent
 houseLeaves section-due = nothing-altered
-houseLeaves none-due = nothing-altered
+houseLeaves no-section = nothing-altered
 houseLeaves unreadable = nothing-altered
-houseLeaves short-room = untouched
+houseLeaves room-short = untouched
 houseLeaves bad-value = nothing-altered
-houseLeaves not-24 = nothing-altered
+houseLeaves other-row = nothing-altered
 
 -- of an answer that is no refusal of the table, nothing
 unfoldable pub leaves : Answer → Option Leaves

@@ -253,31 +253,42 @@ trailer-checks =
     ∷ repeated-host-check
     ∷ []
 
+-- what a reason makes of a request: it is malformed, or one that we do not serve
+pub data Fate : Type 0 where
+  malformed unserved : Fate
+
+unfoldable pub fateOf : Reason → Fate
+fateOf too-large = malformed
+fateOf bad-bytes = malformed
+fateOf unknown-pseudo = malformed
+fateOf repeated-pseudo = malformed
+fateOf late-pseudo = malformed
+fateOf pseudo-in-trailers = malformed
+fateOf connection-field = malformed
+fateOf other-te = malformed
+fateOf bad-method = malformed
+fateOf no-method = malformed
+fateOf repeated-length = malformed
+fateOf length-in-trailers = malformed
+fateOf no-digits = malformed
+fateOf length-above = malformed
+fateOf repeated-host = malformed
+fateOf connect = unserved
+fateOf no-scheme-or-path = malformed
+fateOf other-scheme = unserved
+fateOf bad-path = malformed
+fateOf no-authority = malformed
+fateOf empty-authority = malformed
+fateOf authorities-differ = malformed
+fateOf at-in-authority = malformed
+fateOf length-past-limit = unserved
+
+abbrev pub fateCode : Fate → Code
+fateCode malformed = of-stream message-error
+fateCode unserved = of-stream request-rejected
+
 unfoldable pub codeOf : Reason → Code
-codeOf too-large = of-stream message-error
-codeOf bad-bytes = of-stream message-error
-codeOf unknown-pseudo = of-stream message-error
-codeOf repeated-pseudo = of-stream message-error
-codeOf late-pseudo = of-stream message-error
-codeOf pseudo-in-trailers = of-stream message-error
-codeOf connection-field = of-stream message-error
-codeOf other-te = of-stream message-error
-codeOf bad-method = of-stream message-error
-codeOf no-method = of-stream message-error
-codeOf repeated-length = of-stream message-error
-codeOf length-in-trailers = of-stream message-error
-codeOf no-digits = of-stream message-error
-codeOf length-above = of-stream message-error
-codeOf repeated-host = of-stream message-error
-codeOf connect = of-stream request-rejected
-codeOf no-scheme-or-path = of-stream message-error
-codeOf other-scheme = of-stream request-rejected
-codeOf bad-path = of-stream message-error
-codeOf no-authority = of-stream message-error
-codeOf empty-authority = of-stream message-error
-codeOf authorities-differ = of-stream message-error
-codeOf at-in-authority = of-stream message-error
-codeOf length-past-limit = of-stream request-rejected
+codeOf r = fateCode (fateOf r)
 
 -- ---- the judgement
 

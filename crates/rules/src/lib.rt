@@ -9,15 +9,15 @@ pub const NO_RECORD: u64 = 3;
 
 pub const SECTION_DUE: u64 = 4;
 
-pub const NONE_DUE: u64 = 5;
+pub const NO_SECTION: u64 = 5;
 
 pub const UNREADABLE: u64 = 6;
 
-pub const SHORT_ROOM: u64 = 7;
+pub const ROOM_SHORT: u64 = 7;
 
 pub const BAD_VALUE: u64 = 8;
 
-pub const NOT_24: u64 = 9;
+pub const OTHER_ROW: u64 = 9;
 
 pub const STREAM_CREATION_ERROR: u64 = 0x0103;
 
@@ -59,7 +59,7 @@ pub const NOTHING: u64 = 0;
 
 pub const CONTENT: u64 = 1;
 
-pub const SECTION_BYTES: u64 = 2;
+pub const SECTION: u64 = 2;
 
 pub const SECTION_END: u64 = 3;
 
@@ -69,11 +69,11 @@ pub const KEPT: u64 = 5;
 
 pub const KEPT_PART: u64 = 6;
 
-pub const QPACK_BYTES: u64 = 7;
+pub const QPACK: u64 = 7;
 
 pub const SETTINGS: u64 = 8;
 
-pub const CLIENT_GOAWAY: u64 = 9;
+pub const GOAWAY: u64 = 9;
 
 pub const MAX_PUSH_ID: u64 = 10;
 

@@ -3,13 +3,13 @@ use Prim.Native.Nat.{ℕ}
 use mathlib.Core.Path.{_≡_, refl, sym, ap, _∙_}
 use mathlib.Core.List.{List}
 use mathlib.Core.Option.{Option, none, some}
-use Rattle.rules.specs.Numbers.{codeNumber, of-stream, request-rejected, message-error}
+use Rattle.rules.specs.Numbers.{ACCEPTED, UNREADABLE, codeNumber, of-stream, request-rejected, message-error}
 use mathlib.Core.Logic.{_⊎_, inl, inr}
 use Rattle.rules.specs.Text.{ascii}
 use Rattle.rules.specs.Block.{Line, Section, Lines, readable}
 use Rattle.rules.specs.Block as block
 use Rattle.rules.specs.Section as rules
-use Rattle.rules.specs.Section.{Judgement, refused, sound, Head, named, valueOf, methodOf, statedIn, header-section, codeOf, size-check, bytes-check, unknown-check, repeated-check, late-check, in-trailers-check, connection-check, te-check, method-check, no-method-check, repeated-length-check, length-in-trailers-check, digits-check, length-above-check, repeated-host-check, connect-check, present-check, scheme-check, path-check, authority-check, empty-check, differ-check, at-check, length-check}
+use Rattle.rules.specs.Section.{Judgement, refused, sound, Head, named, valueOf, methodOf, statedIn, header-section, Fate, malformed, unserved, fateOf, fateCode, codeOf, size-check, bytes-check, unknown-check, repeated-check, late-check, in-trailers-check, connection-check, te-check, method-check, no-method-check, repeated-length-check, length-in-trailers-check, digits-check, length-above-check, repeated-host-check, connect-check, present-check, scheme-check, path-check, authority-check, empty-check, differ-check, at-check, length-check}
 use Rattle.fields.specs.Walk.{part}
 use Rattle.section.specs.declared.Reason.{Reason}
 use Rattle.section.specs.declared.Reason.the-variants.{TooLarge, BadBytes, UnknownPseudo, RepeatedPseudo, LatePseudo, PseudoInTrailers, ConnectionField, OtherTe, BadMethod, NoMethod, RepeatedLength, LengthInTrailers, NoDigits, LengthAbove, RepeatedHost, Connect, NoSchemeOrPath, OtherScheme, BadPath, NoAuthority, EmptyAuthority, AuthoritiesDiffer, AtInAuthority, LengthPastLimit}
@@ -87,19 +87,19 @@ readTrailers trailer.Sound = judged (sound tt)
 -- ---- document 01's numbers
 
 unfoldable pub toldNumber : {A : Type 0} → Told A → ℕ
-toldNumber unreadable = 6
+toldNumber unreadable = UNREADABLE
 toldNumber (judged (refused r)) = codeNumber (codeOf r)
-toldNumber (judged (sound a)) = 0
+toldNumber (judged (sound a)) = ACCEPTED
 
 unfoldable pub headerNumber : HeaderAnswer → ℕ
-headerNumber header.Unreadable = 6
+headerNumber header.Unreadable = UNREADABLE
 headerNumber (header.Refused r) = codeNumber (codeOf (reasonOf r))
-headerNumber (header.Sound method end s) = 0
+headerNumber (header.Sound method end s) = ACCEPTED
 
 unfoldable pub trailerNumber : TrailerAnswer → ℕ
-trailerNumber trailer.Unreadable = 6
+trailerNumber trailer.Unreadable = UNREADABLE
 trailerNumber (trailer.Refused r) = codeNumber (codeOf (reasonOf r))
-trailerNumber trailer.Sound = 0
+trailerNumber trailer.Sound = ACCEPTED
 
 pub header-number : (block : List ℕ) (a : HeaderAnswer) → headerNumber a ≡ toldNumber (readHeader block a)
 unfolding toldNumber headerNumber readHeader
@@ -117,30 +117,11 @@ trailer-number trailer.Sound = refl
 
 pub two-codes : (r : rules.Reason) → (codeOf r ≡ of-stream message-error) ⊎ (codeOf r ≡ of-stream request-rejected)
 unfolding codeOf
-two-codes rules.too-large = inl refl
-two-codes rules.bad-bytes = inl refl
-two-codes rules.unknown-pseudo = inl refl
-two-codes rules.repeated-pseudo = inl refl
-two-codes rules.late-pseudo = inl refl
-two-codes rules.pseudo-in-trailers = inl refl
-two-codes rules.connection-field = inl refl
-two-codes rules.other-te = inl refl
-two-codes rules.bad-method = inl refl
-two-codes rules.no-method = inl refl
-two-codes rules.repeated-length = inl refl
-two-codes rules.length-in-trailers = inl refl
-two-codes rules.no-digits = inl refl
-two-codes rules.length-above = inl refl
-two-codes rules.repeated-host = inl refl
-two-codes rules.connect = inr refl
-two-codes rules.no-scheme-or-path = inl refl
-two-codes rules.other-scheme = inr refl
-two-codes rules.bad-path = inl refl
-two-codes rules.no-authority = inl refl
-two-codes rules.empty-authority = inl refl
-two-codes rules.authorities-differ = inl refl
-two-codes rules.at-in-authority = inl refl
-two-codes rules.length-past-limit = inr refl
+two-codes r = by (fateOf r)
+  where
+    by : (f : Fate) → (fateCode f ≡ of-stream message-error) ⊎ (fateCode f ≡ of-stream request-rejected)
+    by malformed = inl refl
+    by unserved = inr refl
 
 -- ---- a reading leaves one answer
 

@@ -6,12 +6,14 @@ use mathlib.Core.List.{List, [], _++_}
 use mathlib.Core.Bool.{true, false}
 use mathlib.Core.Logic.{_⊎_}
 use lib.ListN.{length, take, drop}
+use Rattle.rules.specs.Events.{CONTENT, SECTION, SECTION-END, FAULT, KEPT, KEPT-PART}
 use Rattle.rules.specs.Numbers.{codeNumber, coded}
-use Rattle.rules.specs.Reading.{header-section, trailers, Kept, settings, goaway, max-push-id, cancel-push, content, skipped, section, kept}
+use Rattle.rules.specs.Reading.{Kept, cancel-push, Use, content, skipped, section, kept}
 use Rattle.meaning.specs.Machine.{State, in-type, in-length, in-payload, due, lives, dies, over}
 use Rattle.meaning.specs.Feed.{quiet, section-bytes, content-bytes, Feeding, halt, over-event, feed}
 use Rattle.meaning.specs.FeedLaws.{past}
 use Rattle.varint.specs.ByByte.{part, Good}
+use Rattle.streams.specs.Modes.{IN-TYPE, IN-LENGTH, IN-SKIPPED, IN-CONTENT, IN-HEADER-SECTION, IN-TRAILERS, HEADER-SECTION-DUE, TRAILERS-DUE, IN-SETTINGS, IN-CANCEL-PUSH, OPENING, BODY, TRAILED, UNSET, Mode, typing, sizing, paying, waiting, modeOf, at-kept}
 use Rattle.streams.specs.declared.Cells.{Cells}
 use Rattle.streams.specs.declared.Answer.{Answer}
 use Rattle.streams.specs.declared.Telling.{Telling}
@@ -22,41 +24,44 @@ use Rattle.streams.specs.Parts.{judgedAs}
 
 -- ---- a state
 
-unfoldable pub keptAt : (mode : ℕ) → Kept
-keptAt (suc (suc (suc (suc (suc (suc (suc (suc zero)))))))) = settings
-keptAt (suc (suc (suc (suc (suc (suc (suc (suc (suc zero))))))))) = goaway
-keptAt (suc (suc (suc (suc (suc (suc (suc (suc (suc (suc zero)))))))))) = max-push-id
-keptAt (suc (suc (suc (suc (suc (suc (suc (suc (suc (suc (suc k))))))))))) = cancel-push
-keptAt zero = cancel-push
-keptAt (suc zero) = cancel-push
-keptAt (suc (suc zero)) = cancel-push
-keptAt (suc (suc (suc zero))) = cancel-push
-keptAt (suc (suc (suc (suc zero)))) = cancel-push
-keptAt (suc (suc (suc (suc (suc zero))))) = cancel-push
-keptAt (suc (suc (suc (suc (suc (suc zero)))))) = cancel-push
-keptAt (suc (suc (suc (suc (suc (suc (suc zero))))))) = cancel-push
+-- the state of a mode: a place is p; what was kept of a kept payload is sofar
+abbrev pub keptOf : Use → (sofar : List ℕ) → List ℕ
+keptOf content k = []
+keptOf skipped k = []
+keptOf (section t) k = []
+keptOf (kept f) k = k
 
--- a place is p; what was kept of a kept payload is sofar
-unfoldable pub stateAt : {P : Type 0} → (mode acc due ftype : ℕ) → P → (sofar : List ℕ) → State P
-stateAt zero a d t p k = headState 0 a d t p
-stateAt (suc zero) a d t p k = headState 1 a d t p
-stateAt (suc (suc zero)) a d t p k = in-payload skipped [] (a - 1) p
-stateAt (suc (suc (suc zero))) a d t p k = in-payload content [] (a - 1) p
-stateAt (suc (suc (suc (suc zero)))) a d t p k = in-payload (section header-section) [] (a - 1) p
-stateAt (suc (suc (suc (suc (suc zero))))) a d t p k = in-payload (section trailers) [] (a - 1) p
-stateAt (suc (suc (suc (suc (suc (suc zero)))))) a d t p k = due header-section p
-stateAt (suc (suc (suc (suc (suc (suc (suc zero))))))) a d t p k = due trailers p
-stateAt (suc (suc (suc (suc (suc (suc (suc (suc m)))))))) a d t p k = in-payload (kept (keptAt (suc (suc (suc (suc (suc (suc (suc (suc m)))))))))) k (a - 1) p
+unfoldable pub modeState : {P : Type 0} → Mode → (acc due ftype : ℕ) → P → (sofar : List ℕ) → State P
+modeState typing a d t p k = headState IN-TYPE a d t p
+modeState sizing a d t p k = headState IN-LENGTH a d t p
+modeState (paying u) a d t p k = in-payload u (keptOf u k) (a - 1) p
+modeState (waiting x) a d t p k = due x p
+
+abbrev pub stateAt : {P : Type 0} → (mode acc due ftype : ℕ) → P → (sofar : List ℕ) → State P
+stateAt mode a d t p k = modeState (modeOf mode) a d t p k
+
+-- which payload is kept in a mode; of one that keeps none, any
+unfoldable pub modeKept : Mode → Kept
+modeKept (paying (kept f)) = f
+modeKept (paying content) = cancel-push
+modeKept (paying skipped) = cancel-push
+modeKept (paying (section t)) = cancel-push
+modeKept typing = cancel-push
+modeKept sizing = cancel-push
+modeKept (waiting t) = cancel-push
+
+abbrev pub keptAt : (mode : ℕ) → Kept
+keptAt mode = modeKept (modeOf mode)
 
 abbrev pub stateOf : {P : Type 0} → Cells → P → (sofar : List ℕ) → State P
 stateOf c p k = stateAt (c .mode) (c .acc) (c .due) (c .ftype) p k
 
 -- the place of a request by its numbers; a control stream's is kept elsewhere
 unfoldable pub placeAt : (phase has stated sum : ℕ) → Place → Place
-placeAt zero h n m p = placeOf 0 h n m
-placeAt (suc zero) h n m p = placeOf 1 h n m
-placeAt (suc (suc zero)) h n m p = placeOf 2 h n m
-placeAt (suc (suc (suc zero))) h n m p = placeOf 3 h n m
+placeAt zero h n m p = placeOf OPENING h n m
+placeAt (suc zero) h n m p = placeOf BODY h n m
+placeAt (suc (suc zero)) h n m p = placeOf TRAILED h n m
+placeAt (suc (suc (suc zero))) h n m p = placeOf UNSET h n m
 placeAt (suc (suc (suc (suc k)))) h n m p = p
 
 abbrev pub placeIn : Cells → Place → Place
@@ -67,7 +72,7 @@ StandsIn c p = Stands (c .has) (c .stated) (c .sum) (c .phase) p
 
 -- ---- an answer
 
--- event 0 none, 1 content, 2 section bytes, 3 the last of them, 4 a fault with its code in len, 5 a kept payload complete, 6 a part of one
+-- THE VIEW of an event, up to a part of a kept payload; of a fault the code is in len
 unfoldable pub answerAt : (event start len used heads : ℕ) → Cells → Place → (sofar s : List ℕ) → Feeding Place
 answerAt zero start len used heads c p k s = record { used = used; heads = heads; event = quiet; after = lives (stateOf c p k) }
 answerAt (suc zero) start len used heads c p k s = record { used = used; heads = heads; event = content-bytes len; after = lives (stateOf c p k) }
@@ -84,11 +89,11 @@ answerOf r p k s = answerAt (r .event) (r .start) (r .len) (r .used) (r .heads) 
 -- ---- numbers that the code can go on with
 
 pub record Sane (c : Cells) : Type 0 where
-  pub modes : c .mode ≤ 11
-  pub header : c .mode < 2 → Good (part (c .acc) (c .due))
+  pub modes : c .mode ≤ IN-CANCEL-PUSH
+  pub header : c .mode < IN-SKIPPED → Good (part (c .acc) (c .due))
   pub small : c .acc < 2 ^ 62
   pub type : c .ftype < 2 ^ 62
-  pub some : 2 ≤ c .mode → (c .mode ≡ 6 → ⊥) → (c .mode ≡ 7 → ⊥) → 0 < c .acc
+  pub some : IN-SKIPPED ≤ c .mode → (c .mode ≡ HEADER-SECTION-DUE → ⊥) → (c .mode ≡ TRAILERS-DUE → ⊥) → 0 < c .acc
   pub sums : c .sum ≤ 2 ^ 62
   pub stateds : c .stated ≤ 2 ^ 62
 
@@ -105,27 +110,27 @@ Held (suc n) k = k ≡ []
 pub record Answers (c : Cells) (s : List ℕ) (fresh : ℕ) (want : (rest : ℕ) → Place → (sofar : List ℕ) → Feeding Place) (r : Answer) : Type 0 where
   pub is : (n : ℕ) (p : Place) (k : List ℕ) → Held fresh k → StandsIn c p → want n p k ≡ answerOf r p k s
   pub within : r .used ≤ length s
-  pub part : r .start + r .len ≡ r .used ⊎ r .event ≡ 4
-  pub sane : (r .event ≡ 5 → ⊥) → Sane (r .cells)
+  pub part : r .start + r .len ≡ r .used ⊎ r .event ≡ FAULT
+  pub sane : (r .event ≡ KEPT → ⊥) → Sane (r .cells)
   pub phase : r .cells .phase ≡ c .phase
-  pub known : r .event ≤ 6
-  pub held : r .event ≡ 6 → 8 ≤ r .cells .mode  -- a part is kept of a kept payload alone
-  pub listed : r .event ≡ 4 → codeNumber (coded (r .len)) ≡ r .len  -- a fault's number is a code's
+  pub known : r .event ≤ KEPT-PART
+  pub held : r .event ≡ KEPT-PART → IN-SETTINGS ≤ r .cells .mode  -- a part is kept of a kept payload alone
+  pub listed : r .event ≡ FAULT → codeNumber (coded (r .len)) ≡ r .len  -- a fault's number is a code's
 
 -- ---- a payload that is handed on or kept, by its mode
 
 abbrev pub HandedMode : (mode : ℕ) → Type 0
-HandedMode mode = (3 ≤ mode) × (mode ≤ 11) × (mode ≡ 6 → ⊥) × (mode ≡ 7 → ⊥)
+HandedMode mode = (IN-CONTENT ≤ mode) × (mode ≤ IN-CANCEL-PUSH) × (mode ≡ HEADER-SECTION-DUE → ⊥) × (mode ≡ TRAILERS-DUE → ⊥)
 
 abbrev pub tell : (last part behind : ℕ) → Telling
 tell last part behind = record { last = last; part = part; behind = behind }
 
 -- how its parts are told
 pub data Tells : (mode : ℕ) → Telling → Type 0 where
-  tells-content : Tells 3 (tell 1 1 0)
-  tells-header : Tells 4 (tell 3 2 6)
-  tells-trailers : Tells 5 (tell 3 2 7)
-  tells-kept : (m : ℕ) → m ≤ 3 → Tells (suc (suc (suc (suc (suc (suc (suc (suc m)))))))) (tell 5 6 (suc (suc (suc (suc (suc (suc (suc (suc m)))))))))
+  tells-content : Tells IN-CONTENT (tell CONTENT CONTENT IN-TYPE)
+  tells-header : Tells IN-HEADER-SECTION (tell SECTION-END SECTION HEADER-SECTION-DUE)
+  tells-trailers : Tells IN-TRAILERS (tell SECTION-END SECTION TRAILERS-DUE)
+  tells-kept : (mode : ℕ) → IN-SETTINGS ≤ mode → Tells mode (tell KEPT KEPT-PART mode)
 
 -- one of no bytes is over
 unfoldable pub emptied : State Place → Feeding Place
@@ -143,6 +148,11 @@ abbrev pub fromPayload : (c : Cells) (s : List ℕ) (at heads mode left : ℕ) �
 fromPayload c s at heads mode left n p k = past at heads (coming left (stateAt mode left 0 0 (placeIn c p) k) (λ st. feed both n st (drop at s)))
 
 -- ---- laws
+
+-- in a kept payload
+pub kept-state : {P : Type 0} (mode a d t : ℕ) (p : P) (k : List ℕ) → IN-SETTINGS ≤ mode → stateAt mode a d t p k ≡ in-payload (kept (keptAt mode)) k (a - 1) p
+unfolding modeState modeKept
+kept-state mode a d t p k = at-kept (λ m. modeState m a d t p k ≡ in-payload (kept (modeKept m)) k (a - 1) p) (λ f. refl) mode
 
 pub some-coming : (left : ℕ) → 0 < left → (st : State Place) (f : State Place → Feeding Place) → coming left st f ≡ f st
 unfolding coming
@@ -177,12 +187,12 @@ abbrev pub contentAt : Cells → (mode acc sum : ℕ) → Cells
 contentAt c mode acc sum = record { mode = mode; acc = acc; due = 0; ftype = 0; phase = c .phase; has = c .has; stated = c .stated; sum = sum }
 
 pub data Content (c : Cells) : Cells → Type 0 where
-  goes-on : (acc sum : ℕ) → Content c (contentAt c 3 acc sum)
-  is-over : (sum : ℕ) → Content c (contentAt c 0 0 sum)
+  goes-on : (acc sum : ℕ) → Content c (contentAt c IN-CONTENT acc sum)
+  is-over : (sum : ℕ) → Content c (contentAt c IN-TYPE 0 sum)
 
 -- a payload handed on, from its beginning or from where it was cut
 abbrev pub Hands : Cells → (s : List ℕ) → (at heads mode left : ℕ) → Answer → Type 0
-Hands c s at heads mode left r = Answers c s 0 (fromPayload c s at heads mode left) r × (mode ≡ 3 → Content c (r .cells))
+Hands c s at heads mode left r = Answers c s 0 (fromPayload c s at heads mode left) r × (mode ≡ IN-CONTENT → Content c (r .cells))
 
 abbrev pub answer : (event start len used heads : ℕ) → Cells → Answer
 answer event start len used heads c = record { event = event; start = start; len = len; used = used; heads = heads; cells = c }

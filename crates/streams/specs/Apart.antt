@@ -8,11 +8,12 @@ use Rattle.rules.specs.Control.{Control, unset, control}
 use Rattle.meaning.specs.Machine.{State}
 use Rattle.meaning.specs.Feed.{Feeding, feed}
 use Rattle.meaning.specs.Hom.{map-state, map-feeding, feeding-back}
+use Rattle.streams.specs.Modes.{IN-SETTINGS, Mode, typing, sizing, paying, waiting, modeOf}
 use Rattle.streams.specs.declared.Cells.{Cells}
 use Rattle.streams.specs.declared.Answer.{Answer}
 use Rattle.streams.specs.Both.{Place, of-request, of-control, both, request-feed, control-feed}
 use Rattle.streams.specs.Heads.{headState}
-use Rattle.streams.specs.Answers.{stateAt, stateOf, StandsIn, answerOf, Held}
+use Rattle.streams.specs.Answers.{modeState, stateAt, stateOf, StandsIn, answerOf, Held}
 use Rattle.streams.specs.Fed.{Fed}
 
 -- ---- a place of one kind
@@ -34,21 +35,19 @@ unfolding controls
 controls-back c = refl
 
 -- numbers stand for a state whatever its place is
+state-moved : {P Q : Type 0} (f : P → Q) (m : Mode) (a d t : ℕ) (p : P) (k : List ℕ) → map-state f (modeState m a d t p k) ≡ modeState m a d t (f p) k
+unfolding map-state modeState headState
+state-moved f typing a d t p k = refl
+state-moved f sizing a d t p k = refl
+state-moved f (paying u) a d t p k = refl
+state-moved f (waiting x) a d t p k = refl
+
 pub state-carried : {P Q : Type 0} (f : P → Q) (mode a d t : ℕ) (p : P) (k : List ℕ) → map-state f (stateAt mode a d t p k) ≡ stateAt mode a d t (f p) k
-unfolding map-state stateAt headState
-state-carried f zero a d t p k = refl
-state-carried f (suc zero) a d t p k = refl
-state-carried f (suc (suc zero)) a d t p k = refl
-state-carried f (suc (suc (suc zero))) a d t p k = refl
-state-carried f (suc (suc (suc (suc zero)))) a d t p k = refl
-state-carried f (suc (suc (suc (suc (suc zero))))) a d t p k = refl
-state-carried f (suc (suc (suc (suc (suc (suc zero)))))) a d t p k = refl
-state-carried f (suc (suc (suc (suc (suc (suc (suc zero))))))) a d t p k = refl
-state-carried f (suc (suc (suc (suc (suc (suc (suc (suc m)))))))) a d t p k = refl
+state-carried f mode a d t p k = state-moved f (modeOf mode) a d t p k
 
 -- ---- a feed of one kind
 
-module _ (c : Cells) (s : List ℕ) (allow : ℕ) (r : Answer) (fed : Fed c s allow r) (k : List ℕ) (held : Held (8 - c .mode) k) where
+module _ (c : Cells) (s : List ℕ) (allow : ℕ) (r : Answer) (fed : Fed c s allow r) (k : List ℕ) (held : Held (IN-SETTINGS - c .mode) k) where
   -- A REQUEST STREAM'S FEED is what the answer says
   pub request-fed : (R : Rules) (m : Message) → StandsIn c (of-request m) → feed (request R) allow (stateOf c m k) s ≡ map-feeding message (answerOf r (of-request m) k s)
   request-fed R m st =

@@ -4,30 +4,31 @@ use Prim.Native.Nat.{ℕ, zero, suc, _≤_, _<_}
 use native.Mathlib.Omega.{arith}
 use mathlib.Core.List.{List}
 use borrow.Author.Tests.{eq-eqb, ne-eqb}
-use Rattle.rules.specs.Numbers.{CLOSED-CRITICAL-STREAM, FRAME-ERROR, REQUEST-INCOMPLETE, MESSAGE-ERROR, of-connection, closed-critical-stream, codeNumber}
-use Rattle.rules.specs.Reading.{End, complete, lacking, Verdict, whole, fault, waits, ended}
+use Rattle.rules.specs.Numbers.{CLOSED-CRITICAL-STREAM, FRAME-ERROR, REQUEST-INCOMPLETE, MESSAGE-ERROR, ACCEPTED, SECTION-DUE, of-connection, closed-critical-stream, codeNumber}
+use Rattle.rules.specs.Reading.{Part, End, complete, lacking, Verdict, whole, fault, waits, ended}
 use Rattle.rules.specs.Message.{Message, unequal, all-come, lacks, ends, tally}
 use Rattle.rules.specs.Request.{Rules, request, end-of, codeOf}
 use Rattle.rules.specs.Control.{Control, control}
 use Rattle.meaning.specs.Machine.{fresh, need, State, in-type, in-length, in-payload, due, finish}
 use Rattle.meaning.specs.Hom.{map-state}
 use Rattle.varint.specs.ByByte.{prog}
+use Rattle.streams.specs.Modes.{IN-TYPE, HEADER-SECTION-DUE, TRAILERS-DUE, OPENING, TRAILED, waiting, modeNumber, modeOf, of-mode, at-payload}
 use Rattle.streams.specs.declared.Cells.{Cells}
 use Rattle.streams.specs.Both.{Place, of-request, of-control}
 use Rattle.streams.specs.Uses.{statedOf, placeOf, Stands, a-place, any-set}
 use Rattle.streams.specs.Heads.{headState}
-use Rattle.streams.specs.Answers.{stateAt, stateOf, StandsIn}
+use Rattle.streams.specs.Answers.{modeState, stateAt, stateOf, StandsIn}
 
 -- ---- what an end says
 
--- 0 whole, 4 a section is due, else the code
+-- accepted if it is whole, a section is due, or the code
 unfoldable pub verdictNumber : Verdict → ℕ
-verdictNumber whole = 0
+verdictNumber whole = ACCEPTED
 verdictNumber (fault code place) = codeNumber code
-verdictNumber (waits place) = 4
+verdictNumber (waits place) = SECTION-DUE
 
 unfoldable pub endNumber : End → ℕ
-endNumber complete = 0
+endNumber complete = ACCEPTED
 endNumber (lacking code) = codeNumber code
 
 -- between two frames, and inside one
@@ -44,7 +45,7 @@ endOf (in-type fresh p) = endNumber (endAt p)
 endOf (in-type (need k v) p) = cutAt p
 endOf (in-length t g p) = cutAt p
 endOf (in-payload u k left p) = cutAt p
-endOf (due t p) = 4
+endOf (due t p) = SECTION-DUE
 
 -- THE END of these cells
 abbrev pub Ends : Cells → ℕ → Type 0
@@ -80,7 +81,7 @@ abbrev pub tallyOf : (phase has stated sum : ℕ) → ℕ
 tallyOf phase has stated sum = endNumber (endAt (placeOf phase has stated sum))
 
 module _ (h n m : ℕ) where
-  pub tally-control : (phase : ℕ) → 2 < phase → CLOSED-CRITICAL-STREAM ≡ tallyOf phase h n m
+  pub tally-control : (phase : ℕ) → TRAILED < phase → CLOSED-CRITICAL-STREAM ≡ tallyOf phase h n m
   unfolding endNumber endAt placeOf
   tally-control zero l = absurd (omega arith)
   tally-control (suc zero) l = absurd (omega arith)
@@ -88,12 +89,12 @@ module _ (h n m : ℕ) where
   tally-control (suc (suc (suc zero))) l = refl
   tally-control (suc (suc (suc (suc k)))) l = refl
 
-  pub tally-opening : (phase : ℕ) → phase ≡ 0 → REQUEST-INCOMPLETE ≡ tallyOf phase h n m
+  pub tally-opening : (phase : ℕ) → phase ≡ OPENING → REQUEST-INCOMPLETE ≡ tallyOf phase h n m
   unfolding endNumber endAt placeOf end-of ends codeOf
   tally-opening phase e = rw e refl
 
   -- behind a header section it is the tally's
-  tally-behind : (phase : ℕ) → (2 < phase → ⊥) → (phase ≡ 0 → ⊥) → endNumber (end-of (tally (statedOf h n) m)) ≡ tallyOf phase h n m
+  tally-behind : (phase : ℕ) → (TRAILED < phase → ⊥) → (phase ≡ OPENING → ⊥) → endNumber (end-of (tally (statedOf h n) m)) ≡ tallyOf phase h n m
   unfolding endAt placeOf ends
   tally-behind zero l z = absurd (z refl)
   tally-behind (suc zero) l z = refl
@@ -101,13 +102,13 @@ module _ (h n m : ℕ) where
   tally-behind (suc (suc (suc k))) l z = absurd (l (omega arith))
 
   abbrev Behind : ℕ → Type 0
-  Behind phase = (2 < phase → ⊥) × (phase ≡ 0 → ⊥)
+  Behind phase = (TRAILED < phase → ⊥) × (phase ≡ OPENING → ⊥)
 
-  free : h ≡ 0 → 0 ≡ endNumber (end-of (tally (statedOf h n) m))
+  free : h ≡ 0 → ACCEPTED ≡ endNumber (end-of (tally (statedOf h n) m))
   unfolding endNumber end-of tally statedOf
   free e = rw e refl
 
-  pub tally-free : (phase : ℕ) → Behind phase → h ≡ 0 → 0 ≡ tallyOf phase h n m
+  pub tally-free : (phase : ℕ) → Behind phase → h ≡ 0 → ACCEPTED ≡ tallyOf phase h n m
   tally-free phase b e = free e ∙ tally-behind phase (b .0) (b .1)
 
 stated-some : (h n m : ℕ) → (h ≡ 0 → ⊥) → endNumber (end-of (tally (statedOf (suc 0) n) m)) ≡ endNumber (end-of (tally (statedOf h n) m))
@@ -123,7 +124,7 @@ unequal-lacks : (n m : ℕ) → (m ≡ n → ⊥) → tally (statedOf 1 n) m ≡
 unfolding tally statedOf
 unequal-lacks n m e = let x = ne-eqb m n e in rw (x, tally) refl
 
-equal-tally : (n m : ℕ) → m ≡ n → 0 ≡ endNumber (end-of (tally (statedOf 1 n) m))
+equal-tally : (n m : ℕ) → m ≡ n → ACCEPTED ≡ endNumber (end-of (tally (statedOf 1 n) m))
 unfolding endNumber end-of
 equal-tally n m e = sym (ap (λ t. endNumber (end-of t)) (equal-all n m e))
 
@@ -132,7 +133,7 @@ unfolding endNumber end-of codeOf
 unequal-tally n m e = sym (ap (λ t. endNumber (end-of t)) (unequal-lacks n m e))
 
 module _ (h n m : ℕ) (z : h ≡ 0 → ⊥) (phase : ℕ) (b : Behind h n m phase) where
-  pub tally-equal : m ≡ n → 0 ≡ tallyOf phase h n m
+  pub tally-equal : m ≡ n → ACCEPTED ≡ tallyOf phase h n m
   tally-equal e = equal-tally n m e ∙ stated-some h n m z ∙ tally-behind h n m phase (b .0) (b .1)
 
   pub tally-unequal : (m ≡ n → ⊥) → MESSAGE-ERROR ≡ tallyOf phase h n m
@@ -164,43 +165,29 @@ cuts-alike {h} {n} {m} {phase} a-place = same-cut h n m phase
 cuts-alike {p = of-control c} (any-set k s) = refl
 cuts-alike {p = of-request m} (any-set k s) = absurd s
 
-due-end : (mode a d t : ℕ) (p : Place) (k : List ℕ) → 6 ≤ mode → mode ≤ 7 → 4 ≡ endOf (stateAt mode a d t p k)
-unfolding stateAt endOf
-due-end zero a d t p k l u = absurd (omega arith)
-due-end (suc zero) a d t p k l u = absurd (omega arith)
-due-end (suc (suc zero)) a d t p k l u = absurd (omega arith)
-due-end (suc (suc (suc zero))) a d t p k l u = absurd (omega arith)
-due-end (suc (suc (suc (suc zero)))) a d t p k l u = absurd (omega arith)
-due-end (suc (suc (suc (suc (suc zero))))) a d t p k l u = absurd (omega arith)
-due-end (suc (suc (suc (suc (suc (suc zero)))))) a d t p k l u = refl
-due-end (suc (suc (suc (suc (suc (suc (suc zero))))))) a d t p k l u = refl
-due-end (suc (suc (suc (suc (suc (suc (suc (suc m)))))))) a d t p k l u = absurd (omega arith)
+due-end : (x : Part) (mode a d t : ℕ) (p : Place) (k : List ℕ) → mode ≡ modeNumber (waiting x) → SECTION-DUE ≡ endOf (stateAt mode a d t p k)
+unfolding modeState endOf
+due-end x mode a d t p k e = let w = of-mode (waiting x) e in rw w refl
 
-pub end-due : (c : Cells) → 6 ≤ c .mode → c .mode ≤ 7 → Ends c 4
-end-due c l u p k st = due-end (c .mode) (c .acc) (c .due) (c .ftype) p k l u
+pub end-due : (c : Cells) (x : Part) → c .mode ≡ modeNumber (waiting x) → Ends c SECTION-DUE
+end-due c x e p k st = due-end x (c .mode) (c .acc) (c .due) (c .ftype) p k e
 
-fresh-end : (mode a d t : ℕ) (p : Place) (k : List ℕ) → mode ≡ 0 → d ≡ 0 → endNumber (endAt p) ≡ endOf (stateAt mode a d t p k)
-unfolding stateAt headState prog endOf
+fresh-end : (mode a d t : ℕ) (p : Place) (k : List ℕ) → mode ≡ IN-TYPE → d ≡ 0 → endNumber (endAt p) ≡ endOf (stateAt mode a d t p k)
+unfolding modeState modeOf headState prog endOf
 fresh-end mode a d t p k e f = rw (e, f) refl
 
-pub end-between : (c : Cells) {r : ℕ} → c .mode ≡ 0 → c .due ≡ 0 → r ≡ tallyOf (c .phase) (c .has) (c .stated) (c .sum) → Ends c r
+pub end-between : (c : Cells) {r : ℕ} → c .mode ≡ IN-TYPE → c .due ≡ 0 → r ≡ tallyOf (c .phase) (c .has) (c .stated) (c .sum) → Ends c r
 end-between c e f g p k st = g ∙ ends-alike st ∙ fresh-end (c .mode) (c .acc) (c .due) (c .ftype) p k e f
 
 -- inside a frame
-cut-end : (mode a d t : ℕ) (p : Place) (k : List ℕ) → (mode ≡ 0 → d ≡ 0 → ⊥) → (mode ≡ 6 → ⊥) → (mode ≡ 7 → ⊥) → cutAt p ≡ endOf (stateAt mode a d t p k)
-unfolding stateAt headState prog endOf
+cut-end : (mode a d t : ℕ) (p : Place) (k : List ℕ) → (mode ≡ IN-TYPE → d ≡ 0 → ⊥) → (mode ≡ HEADER-SECTION-DUE → ⊥) → (mode ≡ TRAILERS-DUE → ⊥) → cutAt p ≡ endOf (stateAt mode a d t p k)
+unfolding modeState modeOf headState prog endOf
 cut-end zero a zero t p k z s v = absurd (z refl refl)
 cut-end zero a (suc d) t p k z s v = refl
 cut-end (suc zero) a d t p k z s v = refl
-cut-end (suc (suc zero)) a d t p k z s v = refl
-cut-end (suc (suc (suc zero))) a d t p k z s v = refl
-cut-end (suc (suc (suc (suc zero)))) a d t p k z s v = refl
-cut-end (suc (suc (suc (suc (suc zero))))) a d t p k z s v = refl
-cut-end (suc (suc (suc (suc (suc (suc zero)))))) a d t p k z s v = absurd (s refl)
-cut-end (suc (suc (suc (suc (suc (suc (suc zero))))))) a d t p k z s v = absurd (v refl)
-cut-end (suc (suc (suc (suc (suc (suc (suc (suc m)))))))) a d t p k z s v = refl
+cut-end (suc (suc m)) a d t p k z s v = at-payload (λ x. cutAt p ≡ endOf (modeState x a d t p k)) (λ u. refl) (suc (suc m)) (omega arith) s v
 
-pub cut-control : (phase : ℕ) → 2 < phase → CLOSED-CRITICAL-STREAM ≡ cutOf phase
+pub cut-control : (phase : ℕ) → TRAILED < phase → CLOSED-CRITICAL-STREAM ≡ cutOf phase
 unfolding cutAt placeOf
 cut-control zero l = absurd (omega arith)
 cut-control (suc zero) l = absurd (omega arith)
@@ -208,12 +195,12 @@ cut-control (suc (suc zero)) l = absurd (omega arith)
 cut-control (suc (suc (suc zero))) l = refl
 cut-control (suc (suc (suc (suc k)))) l = refl
 
-pub cut-request : (phase : ℕ) → (2 < phase → ⊥) → FRAME-ERROR ≡ cutOf phase
+pub cut-request : (phase : ℕ) → (TRAILED < phase → ⊥) → FRAME-ERROR ≡ cutOf phase
 unfolding cutAt placeOf
 cut-request zero l = refl
 cut-request (suc zero) l = refl
 cut-request (suc (suc zero)) l = refl
 cut-request (suc (suc (suc k))) l = absurd (l (omega arith))
 
-pub end-inside : (c : Cells) {r : ℕ} → (c .mode ≡ 0 → c .due ≡ 0 → ⊥) → (c .mode ≡ 6 → ⊥) → (c .mode ≡ 7 → ⊥) → r ≡ cutOf (c .phase) → Ends c r
+pub end-inside : (c : Cells) {r : ℕ} → (c .mode ≡ IN-TYPE → c .due ≡ 0 → ⊥) → (c .mode ≡ HEADER-SECTION-DUE → ⊥) → (c .mode ≡ TRAILERS-DUE → ⊥) → r ≡ cutOf (c .phase) → Ends c r
 end-inside c z six seven e p k st = e ∙ cuts-alike st ∙ cut-end (c .mode) (c .acc) (c .due) (c .ftype) p k z six seven

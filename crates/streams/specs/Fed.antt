@@ -6,19 +6,20 @@ use native.Mathlib.Omega.{arith}
 use mathlib.Core.List.{List}
 use lib.ListN.{length}
 use mathlib.Core.Logic.{inl}
-use Rattle.rules.specs.Reading.{header-section, trailers}
-use Rattle.meaning.specs.Machine.{lives, due}
+use Rattle.meaning.specs.Machine.{lives}
 use Rattle.meaning.specs.Feed.{quiet, Feeding, halt, feed}
 use Rattle.meaning.specs.FeedLaws.{past, past-none, past-past, feed-due}
+use Rattle.rules.specs.Events.{NOTHING, CONTENT}
+use Rattle.streams.specs.Modes.{IN-TYPE, IN-SKIPPED, IN-CONTENT, HEADER-SECTION-DUE, TRAILERS-DUE, IN-SETTINGS, USE-SKIPPED, USE-CONTENT, NO-USE, BODY, at-waiting, at-payload}
 use Rattle.streams.specs.declared.Cells.{Cells}
 use Rattle.streams.specs.declared.Answer.{Answer}
 use Rattle.streams.specs.declared.Start.{Start}
 use Rattle.varint.specs.Whole.{Ended, Valued}
 use Rattle.streams.specs.Both.{Place, rule, both}
-use Rattle.streams.specs.Uses.{placeOf, numberOf, not-nine, passes-skip, passes-data, data-lawful}
+use Rattle.streams.specs.Uses.{placeOf, numberOf, not-none, passes-skip, passes-data, data-lawful}
 use borrow.Author.Tests.{ne-eqb, le-leb}
 use Rattle.streams.specs.Stops.{stopOf, Stop, stop-here, header-stop, pass-stop, found, ruling-lawful}
-use Rattle.streams.specs.Answers.{stateAt, stateOf, answerAt, Sane, Held, Answers, fromPayload, some-coming, place-same, Content, goes-on, is-over, Hands, answer}
+use Rattle.streams.specs.Answers.{modeState, stateAt, stateOf, answerAt, Sane, Held, Answers, fromPayload, some-coming, place-same, Content, goes-on, is-over, Hands, answer}
 use Rattle.streams.specs.Stopped.{moreSum, fromStop, stop-content}
 use Rattle.streams.specs.Begun.{Started, begin-fresh}
 
@@ -26,22 +27,14 @@ use Rattle.streams.specs.Begun.{Started, begin-fresh}
 abbrev pub fedBy : (c : Cells) (s : List ℕ) (allow : ℕ) → (n : ℕ) → Place → (sofar : List ℕ) → Feeding Place
 fedBy c s allow n p k = feed both allow (stateOf c p k) s
 
--- WHAT A FEED ANSWERS: nothing may be kept so far but of a kept payload (mode 8 and on)
+-- WHAT A FEED ANSWERS: nothing may be kept so far but of a kept payload
 abbrev pub Fed : (c : Cells) (s : List ℕ) (allow : ℕ) → Answer → Type 0
-Fed c s allow r = Answers c s (8 - c .mode) (fedBy c s allow) r
+Fed c s allow r = Answers c s (IN-SETTINGS - c .mode) (fedBy c s allow) r
 
 -- the rest of the cells says nothing of a payload's state
-state-free : (mode a d t : ℕ) (p : Place) (k : List ℕ) → 2 ≤ mode → stateAt mode a d t p k ≡ stateAt mode a 0 0 p k
-unfolding stateAt
-state-free zero a d t p k h = absurd (omega arith)
-state-free (suc zero) a d t p k h = absurd (omega arith)
-state-free (suc (suc zero)) a d t p k h = refl
-state-free (suc (suc (suc zero))) a d t p k h = refl
-state-free (suc (suc (suc (suc zero)))) a d t p k h = refl
-state-free (suc (suc (suc (suc (suc zero))))) a d t p k h = refl
-state-free (suc (suc (suc (suc (suc (suc zero)))))) a d t p k h = refl
-state-free (suc (suc (suc (suc (suc (suc (suc zero))))))) a d t p k h = refl
-state-free (suc (suc (suc (suc (suc (suc (suc (suc m)))))))) a d t p k h = refl
+state-free : (mode a d t : ℕ) (p : Place) (k : List ℕ) → IN-SKIPPED ≤ mode → (mode ≡ HEADER-SECTION-DUE → ⊥) → (mode ≡ TRAILERS-DUE → ⊥) → stateAt mode a d t p k ≡ stateAt mode a 0 0 p k
+unfolding modeState
+state-free mode a d t p k = at-payload (λ m. modeState m a d t p k ≡ modeState m a 0 0 p k) (λ u. refl) mode
 
 -- content of a frame that began here
 content-more : (c : Cells) (len : ℕ) {d : Cells} → Content (moreSum c len) d → Content c d
@@ -50,10 +43,10 @@ content-more c len (is-over sum) = is-over sum
 
 module _ (c : Cells) (s : List ℕ) (allow : ℕ) where
   -- a payload that goes on
-  pub fed-payload : {r : Answer} → Sane c → 2 ≤ c .mode → (c .mode ≡ 6 → ⊥) → (c .mode ≡ 7 → ⊥) → Answers c s 0 (fromPayload c s 0 0 (c .mode) (c .acc)) r → Fed c s allow r
+  pub fed-payload : {r : Answer} → Sane c → IN-SKIPPED ≤ c .mode → (c .mode ≡ HEADER-SECTION-DUE → ⊥) → (c .mode ≡ TRAILERS-DUE → ⊥) → Answers c s 0 (fromPayload c s 0 0 (c .mode) (c .acc)) r → Fed c s allow r
   fed-payload sane m n6 n7 a = record {
     is = λ n p k hk st. (
-        ap (λ x. feed both allow x s) (state-free (c .mode) (c .acc) (c .due) (c .ftype) p k m)
+        ap (λ x. feed both allow x s) (state-free (c .mode) (c .acc) (c .due) (c .ftype) p k m n6 n7)
         ∙ ap (λ q. feed both allow (stateAt (c .mode) (c .acc) 0 0 q k) s) (sym (place-same c p st)) ∙ sym (some-coming (c .acc) (sane .some m n6 n7) _ (λ x. feed both allow x s))
         ∙ sym (past-none _) ∙ a .is allow p k tt st);
     within = a .within;
@@ -65,20 +58,12 @@ module _ (c : Cells) (s : List ℕ) (allow : ℕ) where
     listed = a .listed;
   }
 
-  due-state : (mode a d t : ℕ) (p : Place) (k : List ℕ) → 6 ≤ mode → mode < 8 → feed both allow (stateAt mode a d t p k) s ≡ halt quiet (lives (stateAt mode a d t p k))
-  unfolding stateAt
-  due-state zero a d t p k h l = absurd (omega arith)
-  due-state (suc zero) a d t p k h l = absurd (omega arith)
-  due-state (suc (suc zero)) a d t p k h l = absurd (omega arith)
-  due-state (suc (suc (suc zero))) a d t p k h l = absurd (omega arith)
-  due-state (suc (suc (suc (suc zero)))) a d t p k h l = absurd (omega arith)
-  due-state (suc (suc (suc (suc (suc zero))))) a d t p k h l = absurd (omega arith)
-  due-state (suc (suc (suc (suc (suc (suc zero)))))) a d t p k h l = feed-due both allow header-section p s
-  due-state (suc (suc (suc (suc (suc (suc (suc zero))))))) a d t p k h l = feed-due both allow trailers p s
-  due-state (suc (suc (suc (suc (suc (suc (suc (suc m)))))))) a d t p k h l = absurd (omega arith)
+  due-state : (mode a d t : ℕ) (p : Place) (k : List ℕ) → HEADER-SECTION-DUE ≤ mode → mode < IN-SETTINGS → feed both allow (stateAt mode a d t p k) s ≡ halt quiet (lives (stateAt mode a d t p k))
+  unfolding modeState
+  due-state mode a d t p k = at-waiting (λ m. feed both allow (modeState m a d t p k) s ≡ halt quiet (lives (modeState m a d t p k))) (λ x. feed-due both allow x p s) mode
 
   -- a section is due
-  pub fed-due : Sane c → 6 ≤ c .mode → c .mode < 8 → Fed c s allow (answer 0 0 0 0 0 c)
+  pub fed-due : Sane c → HEADER-SECTION-DUE ≤ c .mode → c .mode < IN-SETTINGS → Fed c s allow (answer NOTHING 0 0 0 0 c)
   unfolding answerAt halt
   fed-due sane h l = record {
     is = λ n p k hk st. (let x = place-same c p st in rw x (due-state (c .mode) (c .acc) (c .due) (c .ftype) p k h l));
@@ -92,7 +77,7 @@ module _ (c : Cells) (s : List ℕ) (allow : ℕ) where
   }
 
   -- nowhere
-  pub fed-stays : (r : Start) → Started c s allow r → r .number ≡ 9 → Fed c s allow (answer 0 (r .at) 0 (r .at) 0 (r .cells))
+  pub fed-stays : (r : Start) → Started c s allow r → r .number ≡ NO-USE → Fed c s allow (answer NOTHING (r .at) 0 (r .at) 0 (r .cells))
   unfolding answerAt
   fed-stays r q e = record {
     is = λ n p k hk st. (let x = q .place p ∙ place-same c p st in q .stays e p k st ∙ rw x refl);
@@ -105,14 +90,14 @@ module _ (c : Cells) (s : List ℕ) (allow : ℕ) where
     listed = λ e. absurd (omega arith);
   }
 
-  fresh-held : (mode : ℕ) (k : List ℕ) → mode < 3 → Held (8 - mode) k → Held 1 k
+  fresh-held : (mode : ℕ) (k : List ℕ) → mode < IN-CONTENT → Held (IN-SETTINGS - mode) k → Held 1 k
   fresh-held zero k h e = e
   fresh-held (suc zero) k h e = e
   fresh-held (suc (suc zero)) k h e = e
   fresh-held (suc (suc (suc m))) k h e = absurd (omega arith)
 
   -- by the readers
-  pub fed-read : (b : Start) {to len rest number : ℕ} {r : Answer} → c .mode < 3 → Started c s allow b → (b .number ≡ 9 → ⊥)
+  pub fed-read : (b : Start) {to len rest number : ℕ} {r : Answer} → c .mode < IN-CONTENT → Started c s allow b → (b .number ≡ NO-USE → ⊥)
       → Stop s (c .phase) (c .has) (c .stated) (c .sum) (b .at) (allow - b .heads) (stopOf s (b .number) (b .left) (allow - b .heads) (b .at)) to len rest number
       → Answers c s 1 (fromStop s to (allow - rest) number len rest) r → Fed c s allow r
   fed-read b {to} {len} {rest} {number} m q n9 st a = record {
@@ -132,35 +117,35 @@ module _ (c : Cells) (s : List ℕ) (allow : ℕ) where
   }
 
   -- content that goes on
-  pub fed-content : {r : Answer} → Sane c → c .mode ≡ 3 → Hands c s 0 0 3 (c .acc) r → Fed c s allow r × Content c (r .cells)
+  pub fed-content : {r : Answer} → Sane c → c .mode ≡ IN-CONTENT → Hands c s 0 0 IN-CONTENT (c .acc) r → Fed c s allow r × Content c (r .cells)
   fed-content {r} sane e a = (fed-payload sane (omega arith) (λ x. omega arith) (λ x. omega arith) (subst (λ x. Answers c s 0 (fromPayload c s 0 0 x (c .acc)) r) (sym e) (a .0)), a .1 refl)
 
   -- what is not told as content says nothing
-  pub unsaid : {says : Type 0} {r : Answer} {at heads : ℕ} {d : Cells} → r ≡ answer 0 at 0 at heads d → r .event ≡ 1 → says
+  pub unsaid : {says : Type 0} {r : Answer} {at heads : ℕ} {d : Cells} → r ≡ answer NOTHING at 0 at heads d → r .event ≡ CONTENT → says
   unsaid q e = let z = ap (λ (x : Answer). x .event) q in absurd (omega arith)
 
   -- a DATA frame that begins the piece, and has content: its header is whole
-  module _ (sane : Sane c) (m0 : c .mode ≡ 0) (d0 : c .due ≡ 0) (some : allow ≡ 0 → ⊥) {n m l t k : ℕ} (h : Ended s 0 n) (n0 : n ≡ 0 → ⊥) (g : Ended s n m) (m1 : m ≡ 0 → ⊥) (v : Valued s n l) (u : Valued s 0 t)
-      (known : k ≡ numberOf (rule (placeOf (c .phase) (c .has) (c .stated) (c .sum)) t l)) (one : k ≡ 1) where
-    pub data-law : (c .phase ≡ 1) × (c .sum + l ≤ 2 ^ 62)
+  module _ (sane : Sane c) (m0 : c .mode ≡ IN-TYPE) (d0 : c .due ≡ 0) (some : allow ≡ 0 → ⊥) {n m l t k : ℕ} (h : Ended s 0 n) (n0 : n ≡ 0 → ⊥) (g : Ended s n m) (m1 : m ≡ 0 → ⊥) (v : Valued s n l) (u : Valued s 0 t)
+      (known : k ≡ numberOf (rule (placeOf (c .phase) (c .has) (c .stated) (c .sum)) t l)) (one : k ≡ USE-CONTENT) where
+    pub data-law : (c .phase ≡ BODY) × (c .sum + l ≤ 2 ^ 62)
     data-law = data-lawful (c .phase) (c .has) (c .stated) (c .sum) t l (sane .stateds) (sym known ∙ one)
 
-    nine : k ≡ 9 → ⊥
-    nine e = not-nine (placeOf (c .phase) (c .has) (c .stated) (c .sum)) t l (sym known ∙ e)
+    none : k ≡ NO-USE → ⊥
+    none e = not-none (placeOf (c .phase) (c .has) (c .stated) (c .sum)) t l (sym known ∙ e)
 
     module _ (l0 : l ≡ 0 → ⊥) where
-      data-stop : Stop s (c .phase) (c .has) (c .stated) (c .sum) 0 allow (stopOf s 0 0 allow 0) m l (allow - 1) k
+      data-stop : Stop s (c .phase) (c .has) (c .stated) (c .sum) 0 allow (stopOf s USE-SKIPPED 0 allow 0) m l (allow - 1) k
       data-stop =
           let p = c .phase in
-          let here = stop-here s p (c .has) (c .stated) (c .sum) m l (allow - 1) k (g .within) (sym (passes-data l k (length s - m) one) ∙ ne-eqb l 0 l0) nine (v .small) (ruling-lawful k p (c .has) (c .stated) (c .sum) t l (sane .stateds) known) in
-          pass-stop s p (c .has) (c .stated) (c .sum) 0 0 0 allow (sym (passes-skip 0 0 (length s - 0) refl) ∙ le-leb 0 (length s - 0) zero-le)
-          (header-stop s p (c .has) (c .stated) (c .sum) 0 allow t n l m k (found s 0 n t h n0 u) (found s n m l g m1 v) some known nine zero-le here)
+          let here = stop-here s p (c .has) (c .stated) (c .sum) m l (allow - 1) k (g .within) (sym (passes-data l k (length s - m) one) ∙ ne-eqb l 0 l0) none (v .small) (ruling-lawful k p (c .has) (c .stated) (c .sum) t l (sane .stateds) known) in
+          pass-stop s p (c .has) (c .stated) (c .sum) 0 0 USE-SKIPPED allow (sym (passes-skip 0 USE-SKIPPED (length s - 0) refl) ∙ le-leb 0 (length s - 0) zero-le)
+          (header-stop s p (c .has) (c .stated) (c .sum) 0 allow t n l m k (found s 0 n t h n0 u) (found s n m l g m1 v) some known none zero-le here)
 
-      pub fed-data : {d : Cells} {r : Answer} → d ≡ moreSum c l → Hands d s m 1 3 l r → Fed c s allow r × Content c (r .cells)
+      pub fed-data : {d : Cells} {r : Answer} → d ≡ moreSum c l → Hands d s m 1 IN-CONTENT l r → Fed c s allow r × Content c (r .cells)
       fed-data {d} {r} q a =
           let z : allow - 0 ≡ allow = sub-zero allow in
           let e : 1 ≡ allow - (allow - 1) = omega arith in
-          let st : Stop s (c .phase) (c .has) (c .stated) (c .sum) 0 (allow - 0) (stopOf s 0 0 (allow - 0) 0) m l (allow - 1) k = rw z data-stop in
+          let st : Stop s (c .phase) (c .has) (c .stated) (c .sum) 0 (allow - 0) (stopOf s USE-SKIPPED 0 (allow - 0) 0) m l (allow - 1) k = rw z data-stop in
           let x = stop-content c s m 1 l (allow - 1) (g .within) (sane .sums, sane .stateds) sane k d one (omega arith) (data-law .0) q (a .0) in
           let h : Content (moreSum c l) (r .cells) = rw q at (a .1 refl) in
-          (fed-read (record { at = 0; left = 0; number = 0; heads = 0; cells = c }) (omega arith) (begin-fresh c s allow sane m0 d0) (λ y. omega arith) st (subst (λ y. Answers c s 1 (fromStop s m y k l (allow - 1)) r) e x), content-more c l h)
+          (fed-read (record { at = 0; left = 0; number = USE-SKIPPED; heads = 0; cells = c }) (omega arith) (begin-fresh c s allow sane m0 d0) (λ y. omega arith) st (subst (λ y. Answers c s 1 (fromStop s m y k l (allow - 1)) r) e x), content-more c l h)

@@ -9,20 +9,22 @@ use mathlib.Core.Logic.{inl}
 use lib.Dec.{eqb, eqb·suc-zero}
 use lib.Seq.{take-all}
 use lib.ListN.{length, take, drop, length-drop, drop-of-length-le}
+use Rattle.rules.specs.Events.{NOTHING, CONTENT, SECTION, SECTION-END, FAULT, KEPT, KEPT-PART}
 use Rattle.rules.specs.Reading.{Part, header-section, trailers, Kept, Use, content, section, kept}
 use Rattle.meaning.specs.Machine.{in-payload, due, Outcome, lives, between, over}
 use Rattle.meaning.specs.Feed.{Event, quiet, section-bytes, content-bytes, halt, over-event, named, feed}
 use Rattle.meaning.specs.FeedLaws.{past, past-past, feed-nothing, kept-short}
 use Rattle.varint.specs.ByByte.{part, prog, fresh-good}
+use Rattle.streams.specs.Modes.{IN-TYPE, IN-SKIPPED, IN-CONTENT, IN-HEADER-SECTION, IN-TRAILERS, HEADER-SECTION-DUE, TRAILERS-DUE, IN-SETTINGS, IN-CANCEL-PUSH, modeOf}
 use Rattle.streams.specs.declared.Cells.{Cells}
 use Rattle.streams.specs.declared.Telling.{Telling}
 use Rattle.streams.specs.Both.{Place, both}
 use Rattle.streams.specs.Heads.{headState}
 use Rattle.streams.specs.Parts.{Shown, content-shown, section-shown, judgedAs, kept-judged, part-whole, part-short}
-use Rattle.streams.specs.Answers.{keptAt, stateAt, placeIn, answerAt, Sane, Numbers, HandedMode, tell, Tells, tells-content, tells-header, tells-trailers, tells-kept, emptied, coming, Answers, fromPayload, some-coming, inMode, Content, goes-on, is-over, answer}
+use Rattle.streams.specs.Answers.{keptAt, modeState, stateAt, kept-state, placeIn, answerAt, Sane, Numbers, HandedMode, tell, Tells, tells-content, tells-header, tells-trailers, tells-kept, emptied, coming, Answers, fromPayload, some-coming, inMode, Content, goes-on, is-over, answer}
 
 -- cells that go on
-pub sane-in : (c : Cells) (mode acc : ℕ) → Numbers c → mode ≤ 11 → acc < 2 ^ 62 → (mode < 2 → acc ≡ 0) → (2 ≤ mode → (mode ≡ 6 → ⊥) → (mode ≡ 7 → ⊥) → 0 < acc) → Sane (inMode c mode acc)
+pub sane-in : (c : Cells) (mode acc : ℕ) → Numbers c → mode ≤ IN-CANCEL-PUSH → acc < 2 ^ 62 → (mode < IN-SKIPPED → acc ≡ 0) → (IN-SKIPPED ≤ mode → (mode ≡ HEADER-SECTION-DUE → ⊥) → (mode ≡ TRAILERS-DUE → ⊥) → 0 < acc) → Sane (inMode c mode acc)
 sane-in c mode acc g m a z f = record {
   modes = m;
   header = λ l. (let e = z l in rw e fresh-good);
@@ -39,49 +41,49 @@ unfolding past
 behind at heads used e o = let z = add-zero heads in rw z refl
 
 -- the events of a payload that is all there, and of one that is not
-last-known : {mode : ℕ} {t : Telling} → Tells mode t → t .last ≤ 6
+last-known : {mode : ℕ} {t : Telling} → Tells mode t → t .last ≤ KEPT-PART
 last-known tells-content = omega arith
 last-known tells-header = omega arith
 last-known tells-trailers = omega arith
-last-known (tells-kept m h) = omega arith
+last-known (tells-kept mode h) = omega arith
 
-last-whole : {mode : ℕ} {t : Telling} → Tells mode t → t .last ≡ 6 → ⊥
+last-whole : {mode : ℕ} {t : Telling} → Tells mode t → t .last ≡ KEPT-PART → ⊥
 last-whole tells-content e = omega arith
 last-whole tells-header e = omega arith
 last-whole tells-trailers e = omega arith
-last-whole (tells-kept m h) e = omega arith
+last-whole (tells-kept mode h) e = omega arith
 
-part-known : {mode : ℕ} {t : Telling} → Tells mode t → t .part ≤ 6
+part-known : {mode : ℕ} {t : Telling} → Tells mode t → t .part ≤ KEPT-PART
 part-known tells-content = omega arith
 part-known tells-header = omega arith
 part-known tells-trailers = omega arith
-part-known (tells-kept m h) = omega arith
+part-known (tells-kept mode h) = omega arith
 
-part-held : {mode : ℕ} {t : Telling} → Tells mode t → t .part ≡ 6 → 8 ≤ mode
+part-held : {mode : ℕ} {t : Telling} → Tells mode t → t .part ≡ KEPT-PART → IN-SETTINGS ≤ mode
 part-held tells-content e = absurd (omega arith)
 part-held tells-header e = absurd (omega arith)
 part-held tells-trailers e = absurd (omega arith)
-part-held (tells-kept m h) e = omega arith
+part-held (tells-kept mode h) e = omega arith
 
 -- the cells of content that goes on, and of content that is all there
-pub content-on : (c : Cells) {mode acc : ℕ} {d : Cells} → d ≡ inMode c mode acc → mode ≡ 3 → Content c d
+pub content-on : (c : Cells) {mode acc : ℕ} {d : Cells} → d ≡ inMode c mode acc → mode ≡ IN-CONTENT → Content c d
 content-on c {mode} {acc} q e = rw (q, e) (goes-on acc (c .sum))
 
-pub content-past : (c : Cells) {mode : ℕ} {t : Telling} {d : Cells} → Tells mode t → d ≡ inMode c (t .behind) 0 → mode ≡ 3 → Content c d
+pub content-past : (c : Cells) {mode : ℕ} {t : Telling} {d : Cells} → Tells mode t → d ≡ inMode c (t .behind) 0 → mode ≡ IN-CONTENT → Content c d
 content-past c tells-content q e = rw q (is-over (c .sum))
 content-past c tells-header q e = absurd (omega arith)
 content-past c tells-trailers q e = absurd (omega arith)
-content-past c (tells-kept m h) q e = absurd (omega arith)
+content-past c (tells-kept mode h) q e = absurd (omega arith)
 
-no-fault : {mode : ℕ} {t : Telling} → Tells mode t → (t .last ≡ 4 → ⊥) × (t .part ≡ 4 → ⊥)
+no-fault : {mode : ℕ} {t : Telling} → Tells mode t → (t .last ≡ FAULT → ⊥) × (t .part ≡ FAULT → ⊥)
 no-fault tells-content = ((λ e. omega arith), (λ e. omega arith))
 no-fault tells-header = ((λ e. omega arith), (λ e. omega arith))
 no-fault tells-trailers = ((λ e. omega arith), (λ e. omega arith))
-no-fault (tells-kept m h) = ((λ e. omega arith), (λ e. omega arith))
+no-fault (tells-kept mode h) = ((λ e. omega arith), (λ e. omega arith))
 
 module _ (c : Cells) (s : List ℕ) (at heads : ℕ) (w : at ≤ length s) (g : Numbers c) (fresh : ℕ) where
   -- the piece ends where the payload begins or goes on
-  pub none-here : (left mode : ℕ) {r : Cells} → 0 < left → left < 2 ^ 62 → HandedMode mode → length s - at ≡ 0 → r ≡ inMode c mode left → Answers c s fresh (fromPayload c s at heads mode left) (answer 0 at 0 at heads r)
+  pub none-here : (left mode : ℕ) {r : Cells} → 0 < left → left < 2 ^ 62 → HandedMode mode → length s - at ≡ 0 → r ≡ inMode c mode left → Answers c s fresh (fromPayload c s at heads mode left) (answer NOTHING at 0 at heads r)
   unfolding answerAt halt past
   none-here left mode lo hi m e q =
       let d : drop at s ≡ [] = drop-of-length-le s {i = at} (omega arith) in
@@ -130,21 +132,21 @@ module _ (c : Cells) (s : List ℕ) (at heads : ℕ) (w : at ≤ length s) (g : 
       let y = add-zero heads in
       rw z (ap (past at heads) (kept-judged both n p f l k (drop at s) (omega arith)) ∙ past-past at heads (suc l) 0 _ ∙ rw y refl)
 
-  over-is : {mode : ℕ} {t : Telling} → Tells mode t → (left : ℕ) → (mode ≡ 3 → 0 < left) → left ≤ length s - at → (n : ℕ) (p : Place) (k : List ℕ)
+  over-is : {mode : ℕ} {t : Telling} → Tells mode t → (left : ℕ) → (mode ≡ IN-CONTENT → 0 < left) → left ≤ length s - at → (n : ℕ) (p : Place) (k : List ℕ)
       → fromPayload c s at heads mode left n p k ≡ answerAt (t .last) at left (at + left) heads (inMode c (t .behind) 0) (placeIn c p) k s
-  unfolding answerAt stateAt headState prog
+  unfolding answerAt modeState modeOf headState prog
   over-is tells-content left lo h n p k = content-over left (lo refl) h n (placeIn c p)
   over-is tells-header left lo h n p k = section-over header-section left h n (placeIn c p)
   over-is tells-trailers left lo h n p k = section-over trailers left h n (placeIn c p)
-  over-is (tells-kept m h3) left lo h n p k = kept-over (keptAt (suc (suc (suc (suc (suc (suc (suc (suc m))))))))) left h n (placeIn c p) k
+  over-is (tells-kept mode l) left lo h n p k = let e = kept-state mode left 0 0 (placeIn c p) k l in rw e (kept-over (keptAt mode) left h n (placeIn c p) k)
 
-  over-sane : {mode : ℕ} {t : Telling} → Tells mode t → (t .last ≡ 5 → ⊥) → Sane (inMode c (t .behind) 0)
-  over-sane tells-content x = sane-in c 0 0 g (omega arith) (omega arith) (λ l. refl) (λ a b f. absurd (omega arith))
-  over-sane tells-header x = sane-in c 6 0 g (omega arith) (omega arith) (λ l. refl) (λ a b f. absurd (b refl))
-  over-sane tells-trailers x = sane-in c 7 0 g (omega arith) (omega arith) (λ l. refl) (λ a b f. absurd (f refl))
-  over-sane (tells-kept m h) x = absurd (x refl)
+  over-sane : {mode : ℕ} {t : Telling} → Tells mode t → (t .last ≡ KEPT → ⊥) → Sane (inMode c (t .behind) 0)
+  over-sane tells-content x = sane-in c IN-TYPE 0 g (omega arith) (omega arith) (λ l. refl) (λ a b f. absurd (omega arith))
+  over-sane tells-header x = sane-in c HEADER-SECTION-DUE 0 g (omega arith) (omega arith) (λ l. refl) (λ a b f. absurd (b refl))
+  over-sane tells-trailers x = sane-in c TRAILERS-DUE 0 g (omega arith) (omega arith) (λ l. refl) (λ a b f. absurd (f refl))
+  over-sane (tells-kept mode h) x = absurd (x refl)
 
-  pub handed-over : (left mode : ℕ) (t : Telling) {r : Cells} → Tells mode t → (mode ≡ 3 → 0 < left) → left ≤ length s - at → r ≡ inMode c (t .behind) 0
+  pub handed-over : (left mode : ℕ) (t : Telling) {r : Cells} → Tells mode t → (mode ≡ IN-CONTENT → 0 < left) → left ≤ length s - at → r ≡ inMode c (t .behind) 0
       → Answers c s fresh (fromPayload c s at heads mode left) (answer (t .last) at left (at + left) heads r)
   handed-over left mode t h lo l q = rw q (record {
     is = λ n p k hk st. over-is h left lo l n p k;
@@ -182,11 +184,14 @@ module _ (c : Cells) (s : List ℕ) (at heads : ℕ) (w : at ≤ length s) (g : 
 
     on-is : {mode : ℕ} {t : Telling} → Tells mode t → (n : ℕ) (p : Place) (k : List ℕ)
         → fromPayload c s at heads mode left n p k ≡ answerAt (t .part) at (length s - at) (length s) heads (inMode c mode (left - (length s - at))) (placeIn c p) k s
-    unfolding answerAt stateAt named
+    unfolding answerAt modeState modeOf named
     on-is tells-content n p k = shown-on content-shown n (placeIn c p)
     on-is tells-header n p k = let e = not-last ((left - (length s - at)) - 1) in shown-on (section-shown header-section) n (placeIn c p) ∙ rw e refl
     on-is tells-trailers n p k = let e = not-last ((left - (length s - at)) - 1) in shown-on (section-shown trailers) n (placeIn c p) ∙ rw e refl
-    on-is (tells-kept m h3) n p k = kept-on (keptAt (suc (suc (suc (suc (suc (suc (suc (suc m))))))))) n (placeIn c p) k
+    on-is (tells-kept mode l) n p k =
+        let e = kept-state mode left 0 0 (placeIn c p) k l in
+        let f = kept-state mode (left - (length s - at)) 0 0 (placeIn c p) (k ++ take (length s - at) (drop at s)) l in
+        rw (e, f) (kept-on (keptAt mode) n (placeIn c p) k)
 
     pub handed-on : (mode : ℕ) (t : Telling) {r : Cells} → left < 2 ^ 62 → HandedMode mode → Tells mode t → r ≡ inMode c mode (left - (length s - at))
         → Answers c s fresh (fromPayload c s at heads mode left) (answer (t .part) at (length s - at) (length s) heads r)
@@ -203,16 +208,17 @@ module _ (c : Cells) (s : List ℕ) (at heads : ℕ) (w : at ≤ length s) (g : 
 
 -- ---- how parts are told
 
-pub told-content : (mode : ℕ) → mode ≡ 3 → Tells mode (tell 1 1 0)
+pub told-content : (mode : ℕ) → mode ≡ IN-CONTENT → Tells mode (tell CONTENT CONTENT IN-TYPE)
 told-content mode e = rw e tells-content
 
-pub told-section : (mode : ℕ) → HandedMode mode → (mode ≡ 3 → ⊥) → mode < 6 → Tells mode (tell 3 2 (mode + 2))
-told-section mode h n l = pick (mode - 4) (omega arith) (omega arith)
-  where
-    pick : (x : ℕ) → mode ≡ 4 + x → x ≤ 1 → Tells mode (tell 3 2 (mode + 2))
-    pick zero e i = let z : mode ≡ 4 = omega arith in rw z tells-header
-    pick (suc zero) e i = let z : mode ≡ 5 = omega arith in rw z tells-trailers
-    pick (suc (suc x)) e i = absurd (omega arith)
+pub told-header : (mode : ℕ) → mode ≡ IN-HEADER-SECTION → Tells mode (tell SECTION-END SECTION HEADER-SECTION-DUE)
+told-header mode e = rw e tells-header
 
-pub told-kept : (mode : ℕ) → HandedMode mode → 6 ≤ mode → Tells mode (tell 5 6 mode)
-told-kept mode h l = let z : mode ≡ suc (suc (suc (suc (suc (suc (suc (suc (mode - 8)))))))) = omega (arith, h .2, h .3) in rw z (tells-kept (mode - 8) (omega arith))
+pub told-trailers : (mode : ℕ) → mode ≡ IN-TRAILERS → Tells mode (tell SECTION-END SECTION TRAILERS-DUE)
+told-trailers mode e = rw e tells-trailers
+
+beyond : {a b : ℕ} → a ≤ b → (b ≡ a → ⊥) → suc a ≤ b
+beyond l n = omega arith
+
+pub told-kept : (mode : ℕ) → HandedMode mode → (mode ≡ IN-CONTENT → ⊥) → (mode ≡ IN-HEADER-SECTION → ⊥) → (mode ≡ IN-TRAILERS → ⊥) → Tells mode (tell KEPT KEPT-PART mode)
+told-kept mode h c s t = tells-kept mode (beyond (beyond (beyond (beyond (beyond (h .0) c) s) t) (h .2)) (h .3))

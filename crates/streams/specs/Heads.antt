@@ -13,6 +13,7 @@ use Rattle.varint.specs.declared.Part.{Part}
 use Rattle.varint.specs.declared.Step.{Step}
 use Rattle.varint.specs.declared.Step.the-variants.{More, Done}
 use Rattle.varint.specs.ByByte.{part, prog, readAs, step-reads, Good, fresh-good, small, Stepped}
+use Rattle.streams.specs.Modes.{IN-TYPE, IN-LENGTH, HEAD-WHOLE}
 use Rattle.streams.specs.declared.Head.{Head}
 use Rattle.streams.specs.declared.HeadEnd.{HeadEnd}
 use Rattle.streams.specs.Both.{Place, rule, both}
@@ -22,10 +23,10 @@ unfoldable pub headState : {P : Type 0} → (mode acc due ftype : ℕ) → P →
 headState zero a d t p = in-type (prog d a) p
 headState (suc k) a d t p = in-length t (prog d a) p
 
--- how a feed goes on behind the bytes read; mode 2: the header is whole, and acc its length
+-- how a feed goes on behind the bytes read; where the header is whole, acc is its length
 unfoldable pub goesOn : (n mode acc due ftype : ℕ) → Place → List ℕ → Feeding Place
-goesOn n zero a d t p bs = feed both (suc n) (headState 0 a d t p) bs
-goesOn n (suc zero) a d t p bs = feed both (suc n) (headState 1 a d t p) bs
+goesOn n zero a d t p bs = feed both (suc n) (headState IN-TYPE a d t p) bs
+goesOn n (suc zero) a d t p bs = feed both (suc n) (headState IN-LENGTH a d t p) bs
 goesOn n (suc (suc k)) a d t p bs = past 0 1 (behind-header both a (rule p t a) (λ s. feed both n s bs))
 
 abbrev pub headGoes : ℕ → Head → Place → List ℕ → Feeding Place
@@ -33,7 +34,7 @@ headGoes n h p bs = goesOn n (h .mode) (h .acc) (h .due) (h .ftype) p bs
 
 -- numbers that the code can go on with
 abbrev pub GoodHead : Head → Type 0
-GoodHead h = (h .mode ≤ 2) × (h .mode < 2 → Good (part (h .acc) (h .due))) × (h .acc < 2 ^ 62) × (h .ftype < 2 ^ 62)
+GoodHead h = (h .mode ≤ HEAD-WHOLE) × (h .mode < HEAD-WHOLE → Good (part (h .acc) (h .due))) × (h .acc < 2 ^ 62) × (h .ftype < 2 ^ 62)
 
 pub record HeadStepped (h : Head) (b : ℕ) (r : Head) : Type 0 where
   pub is : (n : ℕ) (p : Place) (bs : List ℕ) → headGoes n h p (b ∷ bs) ≡ past 1 0 (headGoes n r p bs)
@@ -43,7 +44,7 @@ pub record HeadRead (s : List ℕ) (at : ℕ) (h : Head) (r : HeadEnd) : Type 0 
   pub is : (n : ℕ) (p : Place) → headGoes n h p (drop at s) ≡ past (r .next - at) 0 (headGoes n (r .head) p (drop (r .next) s))
   pub from : at ≤ r .next
   pub within : r .next ≤ length s
-  pub ended : r .head .mode < 2 → r .next ≡ length s
+  pub ended : r .head .mode < HEAD-WHOLE → r .next ≡ length s
   pub good : GoodHead (r .head)
 
 -- ---- one byte
@@ -60,21 +61,21 @@ done-fed : (a d b v : ℕ) → Stepped (part a d) b (Done v) → fed (prog d a) 
 unfolding readAs
 done-fed a d b v s = sym (step-reads (part a d) b) ∙ ap readAs (sym (s .is))
 
-goes-more : (n mode a d t b : ℕ) (q : Part) (p : Place) (bs : List ℕ) → mode < 2 → Stepped (part a d) b (More q)
+goes-more : (n mode a d t b : ℕ) (q : Part) (p : Place) (bs : List ℕ) → mode < HEAD-WHOLE → Stepped (part a d) b (More q)
     → goesOn n mode a d t p (b ∷ bs) ≡ past 1 0 (goesOn n mode (q .acc) (q .due) t p bs)
 unfolding goesOn headState typed
 goes-more n zero a d t b q p bs h s = let e = more-fed a d b q s in type-byte both n (prog d a) p b bs ∙ rw (e, typed) refl
 goes-more n (suc zero) a d t b q p bs h s = length-byte both n t (prog d a) p b bs (more-fed a d b q s)
 goes-more n (suc (suc k)) a d t b q p bs h s = absurd (omega arith)
 
-pub step-more : (h : Head) (b : ℕ) (r : Step) (q : Part) → GoodHead h → h .mode < 2 → Stepped (part (h .acc) (h .due)) b r → r ≡ More q
+pub step-more : (h : Head) (b : ℕ) (r : Step) (q : Part) → GoodHead h → h .mode < HEAD-WHOLE → Stepped (part (h .acc) (h .due)) b r → r ≡ More q
     → HeadStepped h b (head (h .mode) (q .acc) (q .due) (h .ftype))
 step-more h b r q g m s e =
     let s′ : Stepped (part (h .acc) (h .due)) b (More q) = rw e at s in
     let k : Good q = s′ .good in
     record { is = λ n p bs. goes-more n (h .mode) (h .acc) (h .due) (h .ftype) b q p bs m s′; good = (g .0, (λ l. k), small k, g .3) }
 
-pub step-typed : (h : Head) (b : ℕ) (r : Step) (v : ℕ) → GoodHead h → h .mode ≡ 0 → Stepped (part (h .acc) (h .due)) b r → r ≡ Done v → HeadStepped h b (head 1 0 0 v)
+pub step-typed : (h : Head) (b : ℕ) (r : Step) (v : ℕ) → GoodHead h → h .mode ≡ IN-TYPE → Stepped (part (h .acc) (h .due)) b r → r ≡ Done v → HeadStepped h b (head IN-LENGTH 0 0 v)
 unfolding goesOn headState typed
 step-typed h b r v g m s e =
     let s′ : Stepped (part (h .acc) (h .due)) b (Done v) = rw e at s in
@@ -84,13 +85,13 @@ step-typed h b r v g m s e =
       good = (omega arith, (λ l. fresh-good), omega arith, s′ .good);
     }
 
-pub step-whole : (h : Head) (b : ℕ) (r : Step) (v : ℕ) → GoodHead h → (h .mode ≡ 0 → ⊥) → h .mode < 2 → Stepped (part (h .acc) (h .due)) b r → r ≡ Done v
-    → HeadStepped h b (head 2 v 0 (h .ftype))
+pub step-whole : (h : Head) (b : ℕ) (r : Step) (v : ℕ) → GoodHead h → (h .mode ≡ IN-TYPE → ⊥) → h .mode < HEAD-WHOLE → Stepped (part (h .acc) (h .due)) b r → r ≡ Done v
+    → HeadStepped h b (head HEAD-WHOLE v 0 (h .ftype))
 unfolding goesOn headState
 step-whole h b r v g n0 m s e =
     let s′ : Stepped (part (h .acc) (h .due)) b (Done v) = rw e at s in
     let f = done-fed (h .acc) (h .due) b v s′ in
-    let one : h .mode ≡ 1 = omega arith in
+    let one : h .mode ≡ IN-LENGTH = omega arith in
     record {
       is = λ n p bs. (rw one (last-byte both n (h .ftype) (prog (h .due) (h .acc)) p b bs f ∙ sym (past-past 1 0 0 1 _)));
       good = (omega arith, (λ l. absurd (omega arith)), s′ .good, g .3);
@@ -104,9 +105,9 @@ pub record OnWay (s : List ℕ) (at : ℕ) (h : Head) (i : ℕ) (q : Head) : Typ
   pub from : at ≤ i
   pub within : i ≤ length s
   pub good : GoodHead q
-  pub cut : q .mode < 2
+  pub cut : q .mode < HEAD-WHOLE
 
-pub way-begins : (s : List ℕ) (at : ℕ) (h : Head) → at ≤ length s → GoodHead h → h .mode < 2 → OnWay s at h at h
+pub way-begins : (s : List ℕ) (at : ℕ) (h : Head) → at ≤ length s → GoodHead h → h .mode < HEAD-WHOLE → OnWay s at h at h
 way-begins s at h w g m =
     record { is = λ n p. (let z : at - at ≡ 0 = omega arith in rw z (sym (past-none (headGoes n h p (drop at s))))); from = omega arith; within = w; good = g; cut = m }
 
@@ -119,12 +120,12 @@ way-byte s at h i q r w l st n p =
     w .is n p ∙ ap (past (i - at) 0) (ap (λ x. headGoes n q p x) d ∙ st .is n p (drop (suc i) s) ∙ ap (λ x. past 1 0 (headGoes n r p (drop x s))) (sym a))
     ∙ past-past (i - at) 0 1 0 _ ∙ ap (λ x. past x 0 (headGoes n r p (drop (i + 1) s))) e
 
-pub way-on : (s : List ℕ) (at : ℕ) (h : Head) (i : ℕ) (q r : Head) → OnWay s at h i q → i < length s → HeadStepped q (getD s i 0) r → (r .mode ≡ 2 → ⊥) → OnWay s at h (i + 1) r
+pub way-on : (s : List ℕ) (at : ℕ) (h : Head) (i : ℕ) (q r : Head) → OnWay s at h i q → i < length s → HeadStepped q (getD s i 0) r → (r .mode ≡ HEAD-WHOLE → ⊥) → OnWay s at h (i + 1) r
 way-on s at h i q r w l st m =
     let g = st .good in
     record { is = way-byte s at h i q r w l st; from = omega (arith, w .from); within = omega arith; good = g; cut = omega (arith, g .0, m) }
 
-pub way-whole : (s : List ℕ) (at : ℕ) (h : Head) (i : ℕ) (q r : Head) → OnWay s at h i q → i < length s → HeadStepped q (getD s i 0) r → r .mode ≡ 2
+pub way-whole : (s : List ℕ) (at : ℕ) (h : Head) (i : ℕ) (q r : Head) → OnWay s at h i q → i < length s → HeadStepped q (getD s i 0) r → r .mode ≡ HEAD-WHOLE
     → HeadRead s at h (record { head = r; next = i + 1 })
 way-whole s at h i q r w l st m =
     record { is = way-byte s at h i q r w l st; from = omega (arith, w .from); within = omega arith; ended = λ c. absurd (omega (arith, c, m)); good = st .good }

@@ -1,4 +1,5 @@
 pub mod Both
+pub mod Modes
 pub mod Uses
 pub mod Ruled
 pub mod Stops

@@ -8,6 +8,7 @@ use mathlib.Core.List.{List, [], _∷_, _++_, map}
 use mathlib.Core.Logic.{_⊎_, ⊎-elim, ⊎-map}
 use lib.Dec.{eqb}
 use borrow.Author.Tests.{eq-eqb}
+use Rattle.rules.specs.Events.{NOTHING, CONTENT, SECTION, SECTION-END, FAULT, KEPT-PART, SETTINGS}
 use Rattle.rules.specs.Numbers.{FRAME-UNEXPECTED, codeNumber, numberOf as answerNumber, rows as answers, namedIn, named as namedOf, codeIn, coded}
 use Rattle.rules.specs.Text.{same, between, hex, hexFrom, nibble, lookup}
 use Rattle.rules.specs.Integers.{extra}
@@ -19,12 +20,13 @@ use Rattle.meaning.specs.Machine.{after, fed, State, in-type, in-length, in-pay
 use Rattle.meaning.specs.Feed.{Event, quiet, section-bytes, content-bytes, taken, Feeding, halt, also, onward, over-event, left-event, behind-header, named, taking, feed}
 use Rattle.meaning.specs.Hom.{map-ruling}
 use Rattle.varint.specs.ByByte.{prog}
+use Rattle.streams.specs.Modes.{IN-TYPE, IN-LENGTH, IN-SKIPPED, IN-CONTENT, IN-HEADER-SECTION, HEADER-SECTION-DUE, TRAILERS-DUE, IN-SETTINGS, OPENING, BODY, TRAILED, UNSET, modeOf}
 use Rattle.streams.specs.declared.Cells.{Cells}
 use Rattle.streams.specs.declared.Answer.{Answer}
 use Rattle.streams.specs.Both.{Place, of-request, of-control, rule}
 use Rattle.streams.specs.Uses.{statedOf, placeOf, a-place, keptNumber, useNumber}
 use Rattle.streams.specs.Heads.{headState}
-use Rattle.streams.specs.Answers.{keptAt, stateAt, placeAt, answerAt, answerOf, Held, inMode, answer}
+use Rattle.streams.specs.Answers.{modeState, modeKept, placeAt, answerAt, answerOf, Held, inMode, answer}
 use Rattle.streams.specs.Fed.{fedBy, Fed}
 
 pub record Row : Type 0 where
@@ -37,10 +39,10 @@ pub record Row : Type 0 where
 -- ---- what a feed says, in numbers
 
 unfoldable placeNumbers : Place → List ℕ
-placeNumbers (of-request opening) = 0 ∷ []
-placeNumbers (of-request (body stated sum)) = 1 ∷ sum ∷ []
-placeNumbers (of-request (trailed stated sum)) = 2 ∷ sum ∷ []
-placeNumbers (of-control c) = 3 ∷ []
+placeNumbers (of-request opening) = OPENING ∷ []
+placeNumbers (of-request (body stated sum)) = BODY ∷ sum ∷ []
+placeNumbers (of-request (trailed stated sum)) = TRAILED ∷ sum ∷ []
+placeNumbers (of-control c) = UNSET ∷ []
 
 unfoldable stateNumbers : State Place → List ℕ
 stateNumbers (in-type g p) = 0 ∷ placeNumbers p
@@ -67,7 +69,7 @@ numbers f = f .used ∷ f .heads ∷ (eventNumbers (f .event) ++ afterNumbers (f
 unfoldable fits : (c : Cells) (s : List ℕ) (allow : ℕ) → Answer → Bool
 fits c s allow r =
     let p = placeOf (c .phase) (c .has) (c .stated) (c .sum) in
-    same (numbers (fedBy c s allow 0 p [])) (numbers (answerOf r p [] s)) && (eqb (r .start + r .len) (r .used) || eqb (r .event) 4)
+    same (numbers (fedBy c s allow 0 p [])) (numbers (answerOf r p [] s)) && (eqb (r .start + r .len) (r .used) || eqb (r .event) FAULT)
 
 same-self : (xs : List ℕ) → same xs xs ≡ true
 unfolding same
@@ -87,68 +89,68 @@ fed-fits : (c : Cells) (s : List ℕ) (allow : ℕ) (r : Answer) → Fed c s all
 unfolding fits
 fed-fits c s allow r f =
     let p = placeOf (c .phase) (c .has) (c .stated) (c .sum) in
-    let e = f .is 0 p [] (held-nothing (8 - c .mode)) a-place in
+    let e = f .is 0 p [] (held-nothing (IN-SETTINGS - c .mode)) a-place in
     let a = same-self (numbers (answerOf r p [] s)) in
-    let b = either (eqb (r .start + r .len) (r .used)) (eqb (r .event) 4) (⊎-map (eq-eqb (r .start + r .len) (r .used)) (eq-eqb (r .event) 4) (f .part)) in
+    let b = either (eqb (r .start + r .len) (r .used)) (eqb (r .event) FAULT) (⊎-map (eq-eqb (r .start + r .len) (r .used)) (eq-eqb (r .event) FAULT) (f .part)) in
     rw (e, a, b) refl
 
 -- ---- the rows
 
 -- between two frames
 abbrev between-frames : (phase sum : ℕ) → Cells
-between-frames phase sum = record { mode = 0; acc = 0; due = 0; ftype = 0; phase = phase; has = 0; stated = 0; sum = sum }
+between-frames phase sum = record { mode = IN-TYPE; acc = 0; due = 0; ftype = 0; phase = phase; has = 0; stated = 0; sum = sum }
 
 -- a request that has just begun; one with so many bytes of DATA, none stated; a control stream before SETTINGS
 abbrev begins : Cells
-begins = between-frames 0 0
+begins = between-frames OPENING 0
 
 abbrev headed : (sum : ℕ) → Cells
-headed sum = between-frames 1 sum
+headed sum = between-frames BODY sum
 
 abbrev unset : Cells
-unset = between-frames 3 0
+unset = between-frames UNSET 0
 
 -- a request that has just begun, behind a frame's type
 abbrev behind : (ftype : ℕ) → Cells
-behind t = record { mode = 1; acc = 0; due = 0; ftype = t; phase = 0; has = 0; stated = 0; sum = 0 }
+behind t = record { mode = IN-LENGTH; acc = 0; due = 0; ftype = t; phase = OPENING; has = 0; stated = 0; sum = 0 }
 
 abbrev row : Cells → (piece : List ℕ) (allow : ℕ) (asked wrong : Answer) → Row
 row c s n a w = record { cells = c; piece = s; allow = n; asked = a; wrong = w }
 
 -- a header section of one byte, all there
 abbrev sectioned : (wrong : Answer) → Row
-sectioned wrong = row begins (hex "01 01 00") 9 (answer 3 2 1 3 1 (inMode begins 6 0)) wrong
+sectioned wrong = row begins (hex "01 01 00") 9 (answer SECTION-END 2 1 3 1 (inMode begins HEADER-SECTION-DUE 0)) wrong
 
 unfoldable pub rows : List Row
 rows =
     -- loses a byte: counts one fewer, counts one more, does not count a skipped byte off, does not keep a byte of SETTINGS
-    sectioned (answer 3 1 1 2 1 (inMode begins 6 0))
-    ∷ sectioned (answer 3 3 1 4 1 (inMode begins 6 0))
-    ∷ row begins (hex "21 02 00") 9 (answer 0 3 0 3 1 (inMode begins 2 1)) (answer 0 3 0 3 1 (inMode begins 2 2))
-    ∷ row unset (hex "04 02 01") 9 (answer 6 2 1 3 1 (inMode unset 8 1)) (answer 0 3 0 3 1 (inMode unset 8 1))
+    sectioned (answer SECTION-END 1 1 2 1 (inMode begins HEADER-SECTION-DUE 0))
+    ∷ sectioned (answer SECTION-END 3 1 4 1 (inMode begins HEADER-SECTION-DUE 0))
+    ∷ row begins (hex "21 02 00") 9 (answer NOTHING 3 0 3 1 (inMode begins IN-SKIPPED 1)) (answer NOTHING 3 0 3 1 (inMode begins IN-SKIPPED 2))
+    ∷ row unset (hex "04 02 01") 9 (answer KEPT-PART 2 1 3 1 (inMode unset IN-SETTINGS 1)) (answer NOTHING 3 0 3 1 (inMode unset IN-SETTINGS 1))
     -- counts a header twice: at its type and at its length, in each of the two pieces that it lies in
-    ∷ sectioned (answer 3 2 1 3 2 (inMode begins 6 0))
-    ∷ row begins (hex "01") 9 (answer 0 1 0 1 0 (behind 0x01)) (answer 0 1 0 1 1 (behind 0x01))
+    ∷ sectioned (answer SECTION-END 2 1 3 2 (inMode begins HEADER-SECTION-DUE 0))
+    ∷ row begins (hex "01") 9 (answer NOTHING 1 0 1 0 (behind 0x01)) (answer NOTHING 1 0 1 1 (behind 0x01))
     -- gives an event after a fault: reads on behind DATA that comes first, to a HEADERS; takes the fault for none
-    ∷ row begins (hex "00 00 01 00") 9 (answer 4 2 FRAME-UNEXPECTED 2 1 begins) (answer 3 4 0 4 2 (inMode begins 6 0))
-    ∷ row begins (hex "00 00") 9 (answer 4 2 FRAME-UNEXPECTED 2 1 begins) (answer 0 2 0 2 1 begins)
+    ∷ row begins (hex "00 00 01 00") 9 (answer FAULT 2 FRAME-UNEXPECTED 2 1 begins) (answer SECTION-END 4 0 4 2 (inMode begins HEADER-SECTION-DUE 0))
+    ∷ row begins (hex "00 00") 9 (answer FAULT 2 FRAME-UNEXPECTED 2 1 begins) (answer NOTHING 2 0 2 1 begins)
     -- gives a fault after an event, which is lost: reads on behind a HEADERS, to a PUSH_PROMISE
-    ∷ row begins (hex "01 00 05 00") 9 (answer 3 2 0 2 1 (inMode begins 6 0)) (answer 4 4 FRAME-UNEXPECTED 4 2 begins)
+    ∷ row begins (hex "01 00 05 00") 9 (answer SECTION-END 2 0 2 1 (inMode begins HEADER-SECTION-DUE 0)) (answer FAULT 4 FRAME-UNEXPECTED 4 2 begins)
     -- marks a wrong part: one with a byte to come behind it, and not the last one
-    ∷ row begins (hex "01 02 00") 9 (answer 2 2 1 3 1 (inMode begins 4 1)) (answer 3 2 1 3 1 (inMode begins 4 1))
-    ∷ sectioned (answer 2 2 1 3 1 (inMode begins 6 0))
+    ∷ row begins (hex "01 02 00") 9 (answer SECTION 2 1 3 1 (inMode begins IN-HEADER-SECTION 1)) (answer SECTION-END 2 1 3 1 (inMode begins IN-HEADER-SECTION 1))
+    ∷ sectioned (answer SECTION 2 1 3 1 (inMode begins HEADER-SECTION-DUE 0))
     -- cuts a part short: leaves a byte that is there for the next feed
-    ∷ row (headed 0) (hex "00 02 61 62") 9 (answer 1 2 2 4 1 (headed 2)) (answer 1 2 1 3 1 (inMode (headed 2) 3 1))
+    ∷ row (headed 0) (hex "00 02 61 62") 9 (answer CONTENT 2 2 4 1 (headed 2)) (answer CONTENT 2 1 3 1 (inMode (headed 2) IN-CONTENT 1))
     -- sums DATA at its end, not at its header
-    ∷ row (headed 0) (hex "00 02") 9 (answer 0 2 0 2 1 (inMode (headed 2) 3 2)) (answer 0 2 0 2 1 (inMode (headed 0) 3 2))
+    ∷ row (headed 0) (hex "00 02") 9 (answer NOTHING 2 0 2 1 (inMode (headed 2) IN-CONTENT 2)) (answer NOTHING 2 0 2 1 (inMode (headed 0) IN-CONTENT 2))
     -- overruns the allowance: by a header, by a header's first byte, in a header that an earlier piece began
-    ∷ row begins (hex "21 00 21 00") 1 (answer 0 2 0 2 1 begins) (answer 0 4 0 4 2 begins)
-    ∷ row begins (hex "21 00 21 00") 1 (answer 0 2 0 2 1 begins) (answer 0 3 0 3 1 (behind 0x21))
-    ∷ row (behind 0x21) (hex "00") 0 (answer 0 0 0 0 0 (behind 0x21)) (answer 0 1 0 1 1 begins)
+    ∷ row begins (hex "21 00 21 00") 1 (answer NOTHING 2 0 2 1 begins) (answer NOTHING 4 0 4 2 begins)
+    ∷ row begins (hex "21 00 21 00") 1 (answer NOTHING 2 0 2 1 begins) (answer NOTHING 3 0 3 1 (behind 0x21))
+    ∷ row (behind 0x21) (hex "00") 0 (answer NOTHING 0 0 0 0 (behind 0x21)) (answer NOTHING 1 0 1 1 begins)
     -- takes the last HEADERS for the first: has the header section due again
-    ∷ row (headed 0) (hex "01 01 00") 9 (answer 3 2 1 3 1 (inMode (headed 0) 7 0)) (answer 3 2 1 3 1 (inMode (headed 0) 6 0))
+    ∷ row (headed 0) (hex "01 01 00") 9 (answer SECTION-END 2 1 3 1 (inMode (headed 0) TRAILERS-DUE 0)) (answer SECTION-END 2 1 3 1 (inMode (headed 0) HEADER-SECTION-DUE 0))
     -- names other bytes of the piece
-    ∷ sectioned (answer 3 1 1 3 1 (inMode begins 6 0))
+    ∷ sectioned (answer SECTION-END 1 1 3 1 (inMode begins HEADER-SECTION-DUE 0))
     ∷ []
 
 -- the answer asked for, and the wrong one
@@ -156,7 +158,7 @@ abbrev verdicts : Row → List Bool
 verdicts q = fits (q .cells) (q .piece) (q .allow) (q .asked) ∷ fits (q .cells) (q .piece) (q .allow) (q .wrong) ∷ []
 
 computed : map verdicts rows ≡ map (λ q. true ∷ false ∷ []) rows
-unfolding rows between hex hexFrom nibble fits same numbers eventNumbers afterNumbers stateNumbers placeNumbers keptNumber useNumber statedOf placeOf placeAt answerAt stateAt headState prog feed also halt onward behind-header left-event over-event named taking typed fed after extra over with-left rule map-ruling request-rule ruleFor kindOf column lookup data-rule carries sum-to content-limit codeOf headers-rule within-limit headers-limit control-rule first-rule settings-limit keptAt coded codeIn namedOf namedIn answers answerNumber
+unfolding rows between hex hexFrom nibble fits same numbers eventNumbers afterNumbers stateNumbers placeNumbers keptNumber useNumber statedOf placeOf placeAt answerAt modeState modeOf headState prog feed also halt onward behind-header left-event over-event named taking typed fed after extra over with-left rule map-ruling request-rule ruleFor kindOf column lookup data-rule carries sum-to content-limit codeOf headers-rule within-limit headers-limit control-rule first-rule settings-limit modeKept coded codeIn namedOf namedIn answers answerNumber
 computed = refl
 
 unfoldable pub Every : (Row → Type 0) → List Row → Type 0

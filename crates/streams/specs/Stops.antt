@@ -17,6 +17,7 @@ use Rattle.meaning.specs.Feed.{Feeding, onward, over-event, left-event, behind-
 use Rattle.meaning.specs.FeedLaws.{past, past-none, past-past, header-whole, skip-whole}
 use Rattle.meaning.specs.IntegerLaws.{integer-length, integer-rest}
 use Rattle.varint.specs.Whole.{wholeAt, endOf, wholeIs, Ended, Valued, read-value}
+use Rattle.streams.specs.Modes.{USE-SKIPPED, USE-CONTENT, USE-CANCEL-PUSH, NO-USE, BODY}
 use Rattle.streams.specs.Both.{Place, of-request, of-control, rule, both}
 use Rattle.streams.specs.Uses.{placeOf, Stands, withData, numberOf, rulingAt, ruling-back, number-stands, passesOf, use-small, data-lawful}
 use Rattle.rules.specs.Numbers.{codeNumber, coded}
@@ -31,12 +32,12 @@ Coming = Place → Feeding Place
 unfoldable pub headerOf : (s : List ℕ) (allow at : ℕ) → Coming
 headerOf s allow at p = feed both allow (between p) (drop at s)
 
--- from a payload on; 9: from a header on
+-- from a payload on; where there is no use, from a header on
 unfoldable pub payloadOf : (s : List ℕ) (number len allow at : ℕ) → Coming
 payloadOf s number len allow at p = behind-header both len (rulingAt p number len) (λ st. feed both allow st (drop at s))
 
 unfoldable pub stopOf : (s : List ℕ) (number len allow at : ℕ) → Coming
-stopOf s number len allow at p = elim (eqb number 9) [ true ↦ headerOf s allow at p | false ↦ payloadOf s number len allow at p ]
+stopOf s number len allow at p = elim (eqb number NO-USE) [ true ↦ headerOf s allow at p | false ↦ payloadOf s number len allow at p ]
 
 -- a header that is not whole
 unfoldable pub Unready : (s : List ℕ) (at : ℕ) → Type 0
@@ -44,14 +45,14 @@ Unready s at = (t here len from : ℕ) (rest pay : List ℕ) → integer at (dro
 
 -- DATA is accepted only behind the header section, and keeps the sum small; a refusal's number is a code's
 pub record Lawful (number phase sum len : ℕ) : Type 0 where
-  pub adds : number ≡ 1 → (phase ≡ 1) × (sum + len ≤ 2 ^ 62)
-  pub listed : 7 < number → (number ≡ 9 → ⊥) → codeNumber (coded number) ≡ number
+  pub adds : number ≡ USE-CONTENT → (phase ≡ BODY) × (sum + len ≤ 2 ^ 62)
+  pub listed : USE-CANCEL-PUSH < number → (number ≡ NO-USE → ⊥) → codeNumber (coded number) ≡ number
 
-pub nothing-lawful : {number : ℕ} (phase sum len : ℕ) → (number ≡ 0 ⊎ number ≡ 9) → Lawful number phase sum len
+pub nothing-lawful : {number : ℕ} (phase sum len : ℕ) → (number ≡ USE-SKIPPED ⊎ number ≡ NO-USE) → Lawful number phase sum len
 nothing-lawful phase sum len (inl e) = record { adds = λ x. absurd (omega arith); listed = λ h n. absurd (omega arith) }
 nothing-lawful phase sum len (inr e) = record { adds = λ x. absurd (omega arith); listed = λ h n. absurd (n e) }
 
-number-listed : {P : Type 0} (r : Ruling P) → 7 < numberOf r → codeNumber (coded (numberOf r)) ≡ numberOf r
+number-listed : {P : Type 0} (r : Ruling P) → USE-CANCEL-PUSH < numberOf r → codeNumber (coded (numberOf r)) ≡ numberOf r
 unfolding numberOf
 number-listed (refuse code) h = ap codeNumber (coded-back code)
 number-listed (accept u p) h = let l = use-small u in absurd (omega arith)
@@ -63,9 +64,9 @@ ruling-lawful number phase has stated sum t len h e = rw e (record { adds = data
 -- a place where the readers have to stop
 pub record Stuck (s : List ℕ) (phase sum to len rest number : ℕ) : Type 0 where
   pub lawful : Lawful number phase sum len
-  pub skips : number ≡ 0 → length s - to < len
-  pub some : number ≡ 1 → 0 < len
-  pub short : number ≡ 9 → 0 < rest → Unready s to
+  pub skips : number ≡ USE-SKIPPED → length s - to < len
+  pub some : number ≡ USE-CONTENT → 0 < len
+  pub short : number ≡ NO-USE → 0 < rest → Unready s to
 
 -- from a stop the feed goes on as from the start
 pub record Stop (s : List ℕ) (phase has stated sum at allow : ℕ) (want : Coming) (to len rest number : ℕ) : Type 0 where
@@ -87,9 +88,9 @@ stays s number len allow at p =
 
 module _ (s : List ℕ) (phase has stated sum : ℕ) where
   -- at a header that is not whole, or not allowed
-  pub stop-header : (at allow : ℕ) → at ≤ length s → (0 < allow → Unready s at) → Stop s phase has stated sum at allow (headerOf s allow at) at 0 allow 9
+  pub stop-header : (at allow : ℕ) → at ≤ length s → (0 < allow → Unready s at) → Stop s phase has stated sum at allow (headerOf s allow at) at 0 allow NO-USE
   stop-header at allow w u = record {
-    is = λ p st. unfold stopOf in stays s 9 0 allow at p;
+    is = λ p st. unfold stopOf in stays s NO-USE 0 allow at p;
     from = omega arith;
     within = w;
     fewer = omega arith;
@@ -98,7 +99,7 @@ module _ (s : List ℕ) (phase has stated sum : ℕ) where
   }
 
   -- at a payload that is not passed
-  stuck-at : (at left allow number : ℕ) → passesOf left number (length s - at) ≡ false → (number ≡ 9 → ⊥) → Lawful number phase sum left → Stuck s phase sum at left allow number
+  stuck-at : (at left allow number : ℕ) → passesOf left number (length s - at) ≡ false → (number ≡ NO-USE → ⊥) → Lawful number phase sum left → Stuck s phase sum at left allow number
   unfolding passesOf
   stuck-at at left allow zero e n d = record { lawful = d; skips = λ z. leb-false left (length s - at) e; some = λ z. absurd (omega arith); short = λ z. absurd (omega arith) }
   stuck-at at left allow (suc zero) e n d =
@@ -106,14 +107,14 @@ module _ (s : List ℕ) (phase has stated sum : ℕ) where
       record { lawful = d; skips = λ z. absurd (omega arith); some = λ z. omega arith; short = λ z. absurd (omega arith) }
   stuck-at at left allow (suc (suc k)) e n d = record { lawful = d; skips = λ z. absurd (omega arith); some = λ z. absurd (omega arith); short = λ z. absurd (n z) }
 
-  pub stop-here : (at left allow number : ℕ) → at ≤ length s → passesOf left number (length s - at) ≡ false → (number ≡ 9 → ⊥) → left < 2 ^ 62 → Lawful number phase sum left
+  pub stop-here : (at left allow number : ℕ) → at ≤ length s → passesOf left number (length s - at) ≡ false → (number ≡ NO-USE → ⊥) → left < 2 ^ 62 → Lawful number phase sum left
       → Stop s phase has stated sum at allow (stopOf s number left allow at) at left allow number
   stop-here at left allow number w e n sm d = record { is = λ p st. stays s number left allow at p; from = omega arith; within = w; fewer = omega arith; small = sm; stuck = stuck-at at left allow number e n d }
 
 -- a header that is whole: its payload is what is to come
-pub not-header : (s : List ℕ) (number len allow at : ℕ) (p : Place) → (number ≡ 9 → ⊥) → stopOf s number len allow at p ≡ payloadOf s number len allow at p
+pub not-header : (s : List ℕ) (number len allow at : ℕ) (p : Place) → (number ≡ NO-USE → ⊥) → stopOf s number len allow at p ≡ payloadOf s number len allow at p
 unfolding stopOf
-not-header s number len allow at p n = let e = ne-eqb number 9 n in rw (e, stopOf)
+not-header s number len allow at p n = let e = ne-eqb number NO-USE n in rw (e, stopOf)
 
 module _ (s : List ℕ) (phase has stated sum at allow t n l m k : ℕ) {rest : List ℕ} (i : integer at (drop at s) ≡ got t n rest) (j : integer n rest ≡ got l m (drop m s))
     (some : allow ≡ 0 → ⊥) (known : k ≡ numberOf (rule (placeOf phase has stated sum) t l)) (not9 : k ≡ 9 → ⊥) where
@@ -148,7 +149,7 @@ empty-data (of-request (body stated sum)) = let e = add-zero sum in rw e
 empty-data (of-request (trailed stated sum)) = refl
 empty-data (of-control c) = refl
 
-skip-passed : (s : List ℕ) (left allow at : ℕ) (p : Place) → left ≤ length s - at → payloadOf s 0 left allow at p ≡ past left 0 (headerOf s allow (at + left) p)
+skip-passed : (s : List ℕ) (left allow at : ℕ) (p : Place) → left ≤ length s - at → payloadOf s USE-SKIPPED left allow at p ≡ past left 0 (headerOf s allow (at + left) p)
 unfolding payloadOf headerOf rulingAt behind-header left-event over-event with-left over onward
 skip-passed s zero allow at p h =
     let a = add-zero at in
@@ -158,18 +159,18 @@ skip-passed s (suc l) allow at p h =
     let e = drop-drop (suc l) at s in
     skip-whole both allow p l [] (drop at s) (omega arith) ∙ rw e refl
 
-data-passed : (s : List ℕ) (allow at : ℕ) (p : Place) → payloadOf s 1 0 allow at p ≡ headerOf s allow at p
+data-passed : (s : List ℕ) (allow at : ℕ) (p : Place) → payloadOf s USE-CONTENT 0 allow at p ≡ headerOf s allow at p
 unfolding payloadOf headerOf rulingAt behind-header left-event over-event with-left over onward
 data-passed s allow at p = let e = empty-data p in rw e refl
 
 passed : (s : List ℕ) (left number allow at : ℕ) (p : Place) → passesOf left number (length s - at) ≡ true
     → stopOf s number left allow at p ≡ past left 0 (headerOf s allow (at + left) p)
 unfolding passesOf
-passed s left zero allow at p e = not-header s 0 left allow at p (λ z. omega arith) ∙ skip-passed s left allow at p (leb-true left (length s - at) e)
+passed s left zero allow at p e = not-header s USE-SKIPPED left allow at p (λ z. omega arith) ∙ skip-passed s left allow at p (leb-true left (length s - at) e)
 passed s left (suc zero) allow at p e =
     let z : left ≡ 0 = eqb-true left 0 e in
     let a = add-zero at in
-    not-header s 1 left allow at p (λ z. omega arith) ∙ rw (z, a) (data-passed s allow at p ∙ sym (past-none (headerOf s allow at p)))
+    not-header s USE-CONTENT left allow at p (λ z. omega arith) ∙ rw (z, a) (data-passed s allow at p ∙ sym (past-none (headerOf s allow at p)))
 passed s left (suc (suc k)) allow at p e = let z : _≡_ {A = ℕ} 0 1 = cc in absurd (omega arith)
 
 pub passed-fits : (left number room : ℕ) → passesOf left number room ≡ true → left ≤ room

@@ -5,6 +5,7 @@ use native.Mathlib.Omega.{arith}
 use mathlib.Core.Bool.{Bool, true, false, _||_}
 use mathlib.Core.Option.{Option, none, some}
 use lib.Dec.{ltb, leb, eqb, lit≤}
+use Rattle.rules.specs.Events.{SETTINGS}
 use Rattle.rules.specs.Numbers.{Code, of-connection, frame-error, codeNumber, coded}
 use Rattle.rules.specs.Text.{lookup}
 use Rattle.rules.specs.Reading.{header-section, trailers, Kept, settings, goaway, max-push-id, cancel-push, Use, content, skipped, section, kept, Ruling, refuse, accept}
@@ -15,6 +16,7 @@ use Rattle.meaning.specs.RequestLaws.{RuleView, r-refused, r-skipped, r-content
 use Rattle.meaning.specs.MessageLaws.{Fits, CarryView, c-refused, c-goes, carry-view}
 use Rattle.meaning.specs.ControlLaws.{ControlView, v-refused, v-skipped, v-kept, control-view}
 use Rattle.meaning.specs.NumberLaws.{coded-back, code-high}
+use Rattle.streams.specs.Modes.{USE-SKIPPED, USE-CONTENT, USE-HEADER-SECTION, USE-TRAILERS, USE-SETTINGS, USE-GOAWAY, USE-MAX-PUSH-ID, USE-CANCEL-PUSH, NO-USE, BODY}
 use Rattle.streams.specs.Both.{Place, of-request, of-control, rule}
 
 -- ---- a place
@@ -44,16 +46,16 @@ pub data Stands (has stated sum : ℕ) : (phase : ℕ) → Place → Type 0 wher
 -- ---- a ruling
 
 unfoldable pub keptNumber : Kept → ℕ
-keptNumber settings = 4
-keptNumber goaway = 5
-keptNumber max-push-id = 6
-keptNumber cancel-push = 7
+keptNumber settings = USE-SETTINGS
+keptNumber goaway = USE-GOAWAY
+keptNumber max-push-id = USE-MAX-PUSH-ID
+keptNumber cancel-push = USE-CANCEL-PUSH
 
 unfoldable pub useNumber : Use → ℕ
-useNumber skipped = 0
-useNumber content = 1
-useNumber (section header-section) = 2
-useNumber (section trailers) = 3
+useNumber skipped = USE-SKIPPED
+useNumber content = USE-CONTENT
+useNumber (section header-section) = USE-HEADER-SECTION
+useNumber (section trailers) = USE-TRAILERS
 useNumber (kept k) = keptNumber k
 
 unfoldable pub numberOf : {P : Type 0} → Ruling P → ℕ
@@ -78,7 +80,7 @@ rulingAt p (suc (suc (suc (suc (suc (suc zero)))))) len = accept (kept max-push-
 rulingAt p (suc (suc (suc (suc (suc (suc (suc zero))))))) len = accept (kept cancel-push) p
 rulingAt p (suc (suc (suc (suc (suc (suc (suc (suc k)))))))) len = refuse (coded (suc (suc (suc (suc (suc (suc (suc (suc k)))))))))
 
-pub high-back : (p : Place) (n len : ℕ) → 7 < n → rulingAt p n len ≡ refuse (coded n)
+pub high-back : (p : Place) (n len : ℕ) → USE-CANCEL-PUSH < n → rulingAt p n len ≡ refuse (coded n)
 unfolding rulingAt
 high-back p zero len h = absurd (omega arith)
 high-back p (suc zero) len h = absurd (omega arith)
@@ -124,8 +126,8 @@ unfolding rule
 ruling-back (of-request m) t len = request-back t len m (rule-view m t len)
 ruling-back (of-control c) t len = control-back c len (control-view c t len)
 
--- no ruling has the number 9
-pub use-small : (u : Use) → useNumber u ≤ 7
+-- no ruling has the number of none
+pub use-small : (u : Use) → useNumber u ≤ USE-CANCEL-PUSH
 unfolding useNumber keptNumber
 use-small content = lit≤ tt
 use-small skipped = lit≤ tt
@@ -136,24 +138,24 @@ use-small (kept goaway) = lit≤ tt
 use-small (kept max-push-id) = lit≤ tt
 use-small (kept cancel-push) = lit≤ tt
 
-request-not-nine : (t len : ℕ) (m : Message) {r : Ruling Message} → RuleView t len m r → numberOf (map-ruling of-request r) ≡ 9 → ⊥
+request-not-none : (t len : ℕ) (m : Message) {r : Ruling Message} → RuleView t len m r → numberOf (map-ruling of-request r) ≡ NO-USE → ⊥
 unfolding numberOf map-ruling
-request-not-nine t len m (r-refused {code = code}) e = let h = code-high code in omega arith
-request-not-nine t len m (r-skipped u) e = let h = use-small skipped in omega arith
-request-not-nine t len m (r-content z c) e = let h = use-small content in omega arith
-request-not-nine t len m (r-header z l) e = let h = use-small (section header-section) in omega arith
-request-not-nine t len m (r-trailers z l) e = let h = use-small (section trailers) in omega arith
+request-not-none t len m (r-refused {code = code}) e = let h = code-high code in omega arith
+request-not-none t len m (r-skipped u) e = let h = use-small skipped in omega arith
+request-not-none t len m (r-content z c) e = let h = use-small content in omega arith
+request-not-none t len m (r-header z l) e = let h = use-small (section header-section) in omega arith
+request-not-none t len m (r-trailers z l) e = let h = use-small (section trailers) in omega arith
 
-control-not-nine : (c : Control) {r : Ruling Control} → ControlView c r → numberOf (map-ruling of-control r) ≡ 9 → ⊥
+control-not-none : (c : Control) {r : Ruling Control} → ControlView c r → numberOf (map-ruling of-control r) ≡ NO-USE → ⊥
 unfolding numberOf map-ruling
-control-not-nine c (v-refused {f = f}) e = let h = code-high (of-connection f) in omega arith
-control-not-nine c v-skipped e = let h = use-small skipped in omega arith
-control-not-nine c (v-kept {k = k}) e = let h = use-small (kept k) in omega arith
+control-not-none c (v-refused {f = f}) e = let h = code-high (of-connection f) in omega arith
+control-not-none c v-skipped e = let h = use-small skipped in omega arith
+control-not-none c (v-kept {k = k}) e = let h = use-small (kept k) in omega arith
 
-pub not-nine : (p : Place) (t len : ℕ) → numberOf (rule p t len) ≡ 9 → ⊥
+pub not-none : (p : Place) (t len : ℕ) → numberOf (rule p t len) ≡ NO-USE → ⊥
 unfolding rule
-not-nine (of-request m) t len e = request-not-nine t len m (rule-view m t len) e
-not-nine (of-control c) t len e = control-not-nine c (control-view c t len) e
+not-none (of-request m) t len e = request-not-none t len m (rule-view m t len) e
+not-none (of-control c) t len e = control-not-none c (control-view c t len) e
 
 -- behind SETTINGS the rule does not look at what was kept
 integer-same : (k : Kept) (c d : Control) (x : Bool)
@@ -182,17 +184,17 @@ passesOf left zero room = leb left room
 passesOf left (suc zero) room = eqb left 0
 passesOf left (suc (suc k)) room = false
 
-pub passes-other : (left number room : ℕ) → (number ≡ 0 → ⊥) → (number ≡ 1 → ⊥) → false ≡ passesOf left number room
+pub passes-other : (left number room : ℕ) → (number ≡ USE-SKIPPED → ⊥) → (number ≡ USE-CONTENT → ⊥) → false ≡ passesOf left number room
 unfolding passesOf
 passes-other left zero room a b = absurd (a refl)
 passes-other left (suc zero) room a b = absurd (b refl)
 passes-other left (suc (suc k)) room a b = refl
 
-pub passes-skip : (left number room : ℕ) → number ≡ 0 → leb left room ≡ passesOf left number room
+pub passes-skip : (left number room : ℕ) → number ≡ USE-SKIPPED → leb left room ≡ passesOf left number room
 unfolding passesOf
 passes-skip left number room e = rw e refl
 
-pub passes-data : (left number room : ℕ) → number ≡ 1 → eqb left 0 ≡ passesOf left number room
+pub passes-data : (left number room : ℕ) → number ≡ USE-CONTENT → eqb left 0 ≡ passesOf left number room
 unfolding passesOf
 passes-data left number room e = rw e refl
 
@@ -206,7 +208,7 @@ within-stated (suc k) stated total f h = omega arith
 fits-move : (len : ℕ) {x y : Option ℕ} {u v : ℕ} → x ≡ y → u ≡ v → Fits y (v + len) → Fits x (u + len)
 fits-move len a b f = rw (a, b) f
 
-data-request : (t len : ℕ) (m : Message) {r : Ruling Message} → RuleView t len m r → numberOf (map-ruling of-request r) ≡ 1 → (q : Message) × (carries len m ≡ goes q)
+data-request : (t len : ℕ) (m : Message) {r : Ruling Message} → RuleView t len m r → numberOf (map-ruling of-request r) ≡ USE-CONTENT → (q : Message) × (carries len m ≡ goes q)
 unfolding numberOf useNumber map-ruling
 data-request t len m (r-refused {code = code}) e = let h = code-high code in absurd (omega arith)
 data-request t len m (r-skipped u) e = absurd (omega arith)
@@ -214,24 +216,24 @@ data-request t len m (r-content {q = q} z c) e = (q, c)
 data-request t len m (r-header z l) e = absurd (omega arith)
 data-request t len m (r-trailers z l) e = absurd (omega arith)
 
-kept-high : (k : Kept) → keptNumber k ≡ 1 → ⊥
+kept-no-content : (k : Kept) → keptNumber k ≡ USE-CONTENT → ⊥
 unfolding keptNumber
-kept-high settings e = omega arith
-kept-high goaway e = omega arith
-kept-high max-push-id e = omega arith
-kept-high cancel-push e = omega arith
+kept-no-content settings e = omega arith
+kept-no-content goaway e = omega arith
+kept-no-content max-push-id e = omega arith
+kept-no-content cancel-push e = omega arith
 
-no-data : (c : Control) {r : Ruling Control} → ControlView c r → numberOf (map-ruling of-control r) ≡ 1 → ⊥
+no-data : (c : Control) {r : Ruling Control} → ControlView c r → numberOf (map-ruling of-control r) ≡ USE-CONTENT → ⊥
 unfolding numberOf useNumber map-ruling
 no-data c (v-refused {f = f}) e = let h = code-high (of-connection f) in omega arith
 no-data c v-skipped e = omega arith
-no-data c (v-kept {k = k}) e = kept-high k e
+no-data c (v-kept {k = k}) e = kept-no-content k e
 
 carried : (len : ℕ) {m q : Message} {s : Step} → CarryView len m s → s ≡ goes q → (stated : Option ℕ) × (sum : ℕ) × (m ≡ body stated sum) × Fits stated (sum + len)
 carried len c-refused e = let z : _≡_ {A = ℕ} 0 1 = cc in absurd (omega arith)
 carried len (c-goes {stated = st} {sum = su} f) e = (st, su, refl, f)
 
-pub data-lawful : (phase has stated sum t len : ℕ) → stated ≤ 2 ^ 62 → numberOf (rule (placeOf phase has stated sum) t len) ≡ 1 → (phase ≡ 1) × (sum + len ≤ 2 ^ 62)
+pub data-lawful : (phase has stated sum t len : ℕ) → stated ≤ 2 ^ 62 → numberOf (rule (placeOf phase has stated sum) t len) ≡ USE-CONTENT → (phase ≡ BODY) × (sum + len ≤ 2 ^ 62)
 unfolding rule placeOf
 data-lawful zero has stated sum t len h e =
     let d = data-request t len opening (rule-view opening t len) e in

@@ -4,7 +4,9 @@ use varint::Step;
 ghost use mathlib.Core.Path.{_≡_};
 ghost use Prim.Native.Nat.{_+_, _≤_, _<_, _^_};
 ghost use lib.ListN.{length};
+ghost use Rattle.rules.specs.Events.{NOTHING, CONTENT};
 ghost use Rattle.streams.specs.Both.{rule};
+ghost use Rattle.streams.specs.Modes.{NO-USE, BODY, UNSET, IN-SKIPPED, IN-CONTENT, HEAD-WHOLE};
 ghost use Rattle.streams.specs.Uses.{placeOf, numberOf, passesOf};
 ghost use Rattle.streams.specs.Ruled.{oneOf};
 ghost use Rattle.streams.specs.Heads.{GoodHead, HeadStepped, HeadRead};
@@ -15,79 +17,143 @@ ghost use Rattle.streams.specs.Fed.{Fed};
 ghost use Rattle.streams.specs.End.{tallyOf, cutOf, Ends};
 ghost use Rattle.streams.specs.Stops.{Lawful, Unready, Stuck, Stop, headerOf, stopOf};
 
-// A header's use is a number: 0 skipped, 1 content, 2 the header section, 3 trailers, 4 SETTINGS, 5 GOAWAY, 6 MAX_PUSH_ID, 7 CANCEL_PUSH;
-// 9: the header is not whole, or not allowed. Any other number is the code that refuses it.
-// A place between two frames is four: phase 0 before the header section, 1 behind it, 2 behind trailers, 3 control before SETTINGS, 4 behind them;
-// has 1 where a length is stated; the length; the sum of DATA.
+// What a header's payload is for. Any other number is the code that refuses it.
+pub const USE_SKIPPED: u64 = 0;
+
+pub const USE_CONTENT: u64 = 1;
+
+pub const USE_HEADER_SECTION: u64 = 2;
+
+pub const USE_TRAILERS: u64 = 3;
+
+pub const USE_SETTINGS: u64 = 4;
+
+pub const USE_GOAWAY: u64 = 5;
+
+pub const USE_MAX_PUSH_ID: u64 = 6;
+
+pub const USE_CANCEL_PUSH: u64 = 7;
+
+// The header is not whole, or not allowed.
+pub const NO_USE: u64 = 9;
+
+// A place between two frames is four numbers: its phase; has, 1 where a length is stated; the length; the sum of DATA.
+pub const OPENING: u64 = 0;
+
+pub const BODY: u64 = 1;
+
+pub const TRAILED: u64 = 2;
+
+// A control stream's, before SETTINGS and behind them.
+pub const UNSET: u64 = 3;
+
+pub const SET: u64 = 4;
+
+// A place inside a frame: in its header, in its payload by what that is for, or at its end while a section is due.
+// What comes before a payload, what is shown, what is due and what is kept are next to one another in this order.
+pub const IN_TYPE: u64 = 0;
+
+pub const IN_LENGTH: u64 = 1;
+
+pub const IN_SKIPPED: u64 = 2;
+
+pub const IN_CONTENT: u64 = 3;
+
+pub const IN_HEADER_SECTION: u64 = 4;
+
+pub const IN_TRAILERS: u64 = 5;
+
+pub const HEADER_SECTION_DUE: u64 = 6;
+
+pub const TRAILERS_DUE: u64 = 7;
+
+pub const IN_SETTINGS: u64 = 8;
+
+pub const IN_GOAWAY: u64 = 9;
+
+pub const IN_MAX_PUSH_ID: u64 = 10;
+
+pub const IN_CANCEL_PUSH: u64 = 11;
+
+// From the number of a section's use, or of a kept payload's, to its mode.
+const SECTION_MODES: u64 = 2;
+
+const KEPT_MODES: u64 = 4;
 
 // DATA of a length, behind the header section.
 fn data_rule(has: u64, stated: u64, sum: u64, len: u64) -> u64
     requires { ⌜ (sum ≤ 2 ^ 62) × (len < 2 ^ 62) ⌝ }
-    ensures { λ r. ⌜ r ≡ numberOf (rule (placeOf 1 has stated sum) 0 len) ⌝ }
+    ensures { λ r. ⌜ r ≡ numberOf (rule (placeOf BODY has stated sum) 0 len) ⌝ }
 {
     let total = sum + len;
     if has == 0 {
         if 1048576 < total {
             rules::REQUEST_CANCELLED
         } else {
-            1
+            USE_CONTENT
         }
     } else if stated < total {
         rules::MESSAGE_ERROR
     } else {
-        1
+        USE_CONTENT
     }
 }
 
 // The frame table's first column.
 fn request_rule(phase: u64, has: u64, stated: u64, sum: u64, ftype: u64, len: u64) -> u64
-    requires { ⌜ (phase < 3) × (sum ≤ 2 ^ 62) × (len < 2 ^ 62) ⌝ }
+    requires { ⌜ (phase < UNSET) × (sum ≤ 2 ^ 62) × (len < 2 ^ 62) ⌝ }
     ensures { λ r. ⌜ r ≡ numberOf (rule (placeOf phase has stated sum) ftype len) ⌝ }
 {
     if ftype == 0 {
-        if phase == 1 {
+        if phase == BODY {
             data_rule(has, stated, sum, len)
         } else {
             rules::FRAME_UNEXPECTED
         }
     } else if ftype == 1 {
-        if phase == 2 {
+        if phase == TRAILED {
             rules::FRAME_UNEXPECTED
         } else if 16384 < len {
             rules::EXCESSIVE_LOAD
+        } else if phase == OPENING {
+            USE_HEADER_SECTION
         } else {
-            phase + 2
+            USE_TRAILERS
         }
     } else if ftype < 10 {
         rules::FRAME_UNEXPECTED
     } else if ftype == 13 {
         rules::FRAME_UNEXPECTED
     } else {
-        0
+        USE_SKIPPED
     }
 }
 
 // The frame table's second column.
 fn control_rule(phase: u64, ftype: u64, len: u64) -> u64
-    requires { ⌜ 3 ≤ phase ⌝ }
+    requires { ⌜ UNSET ≤ phase ⌝ }
     ensures { λ r. ⌜ r ≡ numberOf (rule (placeOf phase 0 0 0) ftype len) ⌝ }
 {
-    if phase == 3 {
+    if phase == UNSET {
         if ftype == 4 {
-            if 256 < len { rules::EXCESSIVE_LOAD } else { 4 }
+            if 256 < len {
+                rules::EXCESSIVE_LOAD
+            } else {
+                USE_SETTINGS
+            }
         } else {
             rules::MISSING_SETTINGS
         }
     } else if ftype == 7 {
-        one_integer(len, 5)
+        one_integer(len, USE_GOAWAY)
     } else if ftype == 13 {
-        one_integer(len, 6)
+        one_integer(len, USE_MAX_PUSH_ID)
     } else if ftype == 3 {
-        one_integer(len, 7)
+        one_integer(len, USE_CANCEL_PUSH)
     } else if ftype < 10 {
         rules::FRAME_UNEXPECTED
     } else {
-        0
+        USE_SKIPPED
     }
 }
 
@@ -108,7 +174,7 @@ pub fn ruled(phase: u64, has: u64, stated: u64, sum: u64, ftype: u64, len: u64) 
     requires { ⌜ (sum ≤ 2 ^ 62) × (len < 2 ^ 62) ⌝ }
     ensures { λ r. ⌜ r ≡ numberOf (rule (placeOf phase has stated sum) ftype len) ⌝ }
 {
-    if phase < 3 {
+    if phase < UNSET {
         request_rule(phase, has, stated, sum, ftype, len)
     } else {
         control_rule(phase, ftype, len)
@@ -119,9 +185,9 @@ pub fn ruled(phase: u64, has: u64, stated: u64, sum: u64, ftype: u64, len: u64) 
 fn passes(left: u64, number: u64, room: u64) -> bool
     ensures { λ r. ⌜ r ≡ passesOf left number room ⌝ }
 {
-    if number == 0 {
+    if number == USE_SKIPPED {
         left <= room
-    } else if number == 1 {
+    } else if number == USE_CONTENT {
         left == 0
     } else {
         false
@@ -148,21 +214,21 @@ fn header(
         *to = at;
         *len = 0;
         *rest = allow;
-        return 9;
+        return NO_USE;
     }
     let n = varint::ends(s, at);
     if n == 0 {
         *to = at;
         *len = 0;
         *rest = allow;
-        return 9;
+        return NO_USE;
     }
     let m = varint::ends(s, n);
     if m == 0 {
         *to = at;
         *len = 0;
         *rest = allow;
-        return 9;
+        return NO_USE;
     }
     let l = varint::value(s, n);
     let k = ruled(phase, has, stated, sum, varint::value(s, at), l);
@@ -197,7 +263,7 @@ fn payload(
     len: &mut u64,
     rest: &mut u64,
 ) -> u64
-    requires { ⌜ (at ≤ length (now s)) × (sum ≤ 2 ^ 62) × (stated ≤ 2 ^ 62) × (number ≡ 9 → ⊥) × (left < 2 ^ 62) × Lawful number phase sum left ⌝ }
+    requires { ⌜ (at ≤ length (now s)) × (sum ≤ 2 ^ 62) × (stated ≤ 2 ^ 62) × (number ≡ NO-USE → ⊥) × (left < 2 ^ 62) × Lawful number phase sum left ⌝ }
     ensures { λ r. ⌜ Stop (now (s .entry)) phase has stated sum at allow (stopOf (now (s .entry)) number left allow at) (now (to .exit)) (now (len .exit)) (now (rest .exit)) r ⌝ }
 {
     if passes(left, number, (s.len() - at) as u64) {
@@ -223,7 +289,9 @@ fn payload(
 
 // ---- a header that a piece cuts
 
-// A header of which some bytes were read. mode 0: in its type, 1: in the length behind its type; 2: it is whole, and acc is the length.
+// A header of which some bytes were read: in its type, in its length, or it is whole, and acc is the length.
+const HEAD_WHOLE: u64 = 2;
+
 struct Head {
     mode: u64,
     acc: u64,
@@ -238,7 +306,7 @@ struct HeadEnd {
 
 // One byte more.
 fn head_step(h: Head, b: u8) -> Head
-    requires { ⌜ GoodHead h × (h .mode < 2) ⌝ }
+    requires { ⌜ GoodHead h × (h .mode < HEAD-WHOLE) ⌝ }
     ensures { λ r. ⌜ HeadStepped h b r ⌝ }
 {
     let p = Part {
@@ -253,16 +321,16 @@ fn head_step(h: Head, b: u8) -> Head
             ftype: h.ftype,
         },
         Step::Done(v) => {
-            if h.mode == 0 {
+            if h.mode == IN_TYPE {
                 Head {
-                    mode: 1,
+                    mode: IN_LENGTH,
                     acc: 0,
                     due: 0,
                     ftype: v,
                 }
             } else {
                 Head {
-                    mode: 2,
+                    mode: HEAD_WHOLE,
                     acc: v,
                     due: 0,
                     ftype: h.ftype,
@@ -274,7 +342,7 @@ fn head_step(h: Head, b: u8) -> Head
 
 // On to the header's end or the piece's.
 fn head_on(s: &[u8], at: usize, h: Head) -> HeadEnd
-    requires { ⌜ (at ≤ length (now s)) × GoodHead h × (h .mode < 2) ⌝ }
+    requires { ⌜ (at ≤ length (now s)) × GoodHead h × (h .mode < HEAD-WHOLE) ⌝ }
     ensures { λ r. ⌜ HeadRead (now (s .entry)) at h r ⌝ }
 {
     let mut i = at;
@@ -282,7 +350,7 @@ fn head_on(s: &[u8], at: usize, h: Head) -> HeadEnd
     while i < s.len() {
         q = head_step(q, s[i]);
         i += 1;
-        if q.mode == 2 {
+        if q.mode == HEAD_WHOLE {
             return HeadEnd { head: q, next: i };
         }
     }
@@ -291,8 +359,7 @@ fn head_on(s: &[u8], at: usize, h: Head) -> HeadEnd
 
 // ---- one feed
 
-// Where a stream stands, in numbers. mode 0: in a type, 1: in a length, 2: in a payload to skip, 3: in content, 4: in the header section,
-// 5: in trailers, 6: the header section is due, 7: trailers are due, 8 to 11: in SETTINGS, GOAWAY, MAX_PUSH_ID, CANCEL_PUSH.
+// Where a stream stands, in numbers: its mode, as above;
 // acc: the value of an integer's bytes so far, or the payload's bytes to come; due: the integer's bytes to come; ftype: the type before a length.
 // phase, has, stated, sum: the place between two frames, as above.
 #[repr(C)]
@@ -307,8 +374,7 @@ pub struct Cells {
     pub sum: u64,
 }
 
-// event 0: none, 1: content, 2: section bytes, 3: the last of them, 4: a fault, its code in len, 5: a kept payload is complete, 6: a part of one.
-// A part is len bytes of the piece from start on.
+// An event up to a part of a kept payload (crate rules); of a fault the code is in len. A part is len bytes of the piece from start on.
 pub struct Answer {
     pub event: u64,
     pub start: usize,
@@ -331,7 +397,7 @@ fn in_mode(c: Cells, mode: u64, acc: u64) -> Cells
 
 // No event, at the end of what was used.
 fn quiet(used: usize, heads: u64, cells: Cells) -> Answer
-    ensures { λ r. ⌜ r ≡ answer 0 used 0 used heads cells ⌝ }
+    ensures { λ r. ⌜ r ≡ answer NOTHING used 0 used heads cells ⌝ }
 {
     Answer {
         event: rules::NOTHING,
@@ -354,30 +420,36 @@ fn told(mode: u64) -> Telling
     requires { ⌜ HandedMode mode ⌝ }
     ensures { λ r. ⌜ Tells mode r ⌝ }
 {
-    if mode == 3 {
+    if mode == IN_CONTENT {
         Telling {
-            last: 1,
-            part: 1,
-            behind: 0,
+            last: rules::CONTENT,
+            part: rules::CONTENT,
+            behind: IN_TYPE,
         }
-    } else if mode < 6 {
+    } else if mode == IN_HEADER_SECTION {
         Telling {
-            last: 3,
-            part: 2,
-            behind: mode + 2,
+            last: rules::SECTION_END,
+            part: rules::SECTION,
+            behind: HEADER_SECTION_DUE,
+        }
+    } else if mode == IN_TRAILERS {
+        Telling {
+            last: rules::SECTION_END,
+            part: rules::SECTION,
+            behind: TRAILERS_DUE,
         }
     } else {
         Telling {
-            last: 5,
-            part: 6,
+            last: rules::KEPT,
+            part: rules::KEPT_PART,
             behind: mode,
         }
     }
 }
 
-// A payload that is handed on, or kept by the caller and judged when it is complete: as much of it as is there. mode 3 to 5, 8 to 11.
+// A payload that is handed on, or kept by the caller and judged when it is complete: as much of it as is there.
 fn handed(s: &[u8], at: usize, left: u64, mode: u64, c: Cells, heads: u64) -> Answer
-    requires { ⌜ (at ≤ length (now s)) × (left < 2 ^ 62) × Numbers c × HandedMode mode × (mode ≡ 3 → 0 < left) ⌝ }
+    requires { ⌜ (at ≤ length (now s)) × (left < 2 ^ 62) × Numbers c × HandedMode mode × (mode ≡ IN-CONTENT → 0 < left) ⌝ }
     ensures { λ r. ⌜ Hands c (now (s .entry)) at heads mode left r ⌝ }
 {
     let t = told(mode);
@@ -434,7 +506,7 @@ fn cut_header(s: &[u8], to: usize, c: Cells, heads: u64) -> Answer
         s,
         to,
         Head {
-            mode: 0,
+            mode: IN_TYPE,
             acc: 0,
             due: 0,
             ftype: 0,
@@ -449,21 +521,21 @@ fn stopped(s: &[u8], number: u64, to: usize, len: u64, rest: u64, c: Cells, head
     requires { ⌜ (to ≤ length (now s)) × (len < 2 ^ 62) × Sane c × Stuck (now s) (c .phase) (c .sum) to len rest number ⌝ }
     ensures { λ r. ⌜ Answers c (now (s .entry)) 1 (fromStop (now (s .entry)) to heads number len rest) r ⌝ }
 {
-    if number == 1 {
-        handed(s, to, len, 3, more_sum(c, len), heads)
-    } else if number == 0 {
+    if number == USE_CONTENT {
+        handed(s, to, len, IN_CONTENT, more_sum(c, len), heads)
+    } else if number == USE_SKIPPED {
         let room = (s.len() - to) as u64;
-        quiet(s.len(), heads, in_mode(c, 2, len - room))
-    } else if number == 9 {
+        quiet(s.len(), heads, in_mode(c, IN_SKIPPED, len - room))
+    } else if number == NO_USE {
         if rest == 0 {
-            quiet(to, heads, in_mode(c, 0, 0))
+            quiet(to, heads, in_mode(c, IN_TYPE, 0))
         } else {
             cut_header(s, to, c, heads)
         }
-    } else if number < 4 {
-        handed(s, to, len, number + 2, c, heads)
-    } else if number < 8 {
-        handed(s, to, len, number + 4, c, heads)
+    } else if number < USE_SETTINGS {
+        handed(s, to, len, number + SECTION_MODES, c, heads)
+    } else if number <= USE_CANCEL_PUSH {
+        handed(s, to, len, number + KEPT_MODES, c, heads)
     } else {
         Answer {
             event: rules::FAULT,
@@ -476,7 +548,7 @@ fn stopped(s: &[u8], number: u64, to: usize, len: u64, rest: u64, c: Cells, head
     }
 }
 
-// Where a feed begins: at a payload, or nowhere (number 9), and then the cells are what is left.
+// Where a feed begins: at a payload, or nowhere (no use), and then the cells are what is left.
 struct Start {
     at: usize,
     left: u64,
@@ -487,24 +559,24 @@ struct Start {
 
 // On with a header or a skipped payload.
 fn begin(s: &[u8], c: Cells, allow: u64) -> Start
-    requires { ⌜ Sane c × (c .mode < 3) ⌝ }
+    requires { ⌜ Sane c × (c .mode < IN-CONTENT) ⌝ }
     ensures { λ r. ⌜ Started c (now (s .entry)) allow r ⌝ }
 {
-    if c.mode == 2 {
+    if c.mode == IN_SKIPPED {
         return Start {
             at: 0,
             left: c.acc,
-            number: 0,
+            number: USE_SKIPPED,
             heads: 0,
             cells: c,
         };
     }
-    if c.mode == 0 {
+    if c.mode == IN_TYPE {
         if c.due == 0 {
             return Start {
                 at: 0,
                 left: 0,
-                number: 0,
+                number: USE_SKIPPED,
                 heads: 0,
                 cells: c,
             };
@@ -515,14 +587,14 @@ fn begin(s: &[u8], c: Cells, allow: u64) -> Start
 
 // On with a header that an earlier piece began.
 fn begun(s: &[u8], c: Cells, allow: u64) -> Start
-    requires { ⌜ Sane c × (c .mode < 2) ⌝ }
+    requires { ⌜ Sane c × (c .mode < IN-SKIPPED) ⌝ }
     ensures { λ r. ⌜ Started c (now (s .entry)) allow r ⌝ }
 {
     if allow == 0 {
         return Start {
             at: 0,
             left: 0,
-            number: 9,
+            number: NO_USE,
             heads: 0,
             cells: c,
         };
@@ -538,7 +610,7 @@ fn begun(s: &[u8], c: Cells, allow: u64) -> Start
         },
     );
     let h = e.head;
-    if h.mode == 2 {
+    if h.mode == HEAD_WHOLE {
         Start {
             at: e.next,
             left: h.acc,
@@ -550,7 +622,7 @@ fn begun(s: &[u8], c: Cells, allow: u64) -> Start
         Start {
             at: s.len(),
             left: 0,
-            number: 9,
+            number: NO_USE,
             heads: 0,
             cells: head_cells(h, c),
         }
@@ -559,12 +631,12 @@ fn begun(s: &[u8], c: Cells, allow: u64) -> Start
 
 // By the readers, from where the feed begins.
 fn read(s: &[u8], c: Cells, allow: u64) -> Answer
-    requires { ⌜ Sane c × (c .mode < 3) ⌝ }
+    requires { ⌜ Sane c × (c .mode < IN-CONTENT) ⌝ }
     ensures { λ r. ⌜ Fed c (now (s .entry)) allow r ⌝ }
 {
     let b = begin(s, c, allow);
     let cells = b.cells;
-    if b.number == 9 {
+    if b.number == NO_USE {
         quiet(b.at, 0, cells)
     } else {
         let mut to = 0;
@@ -593,27 +665,27 @@ pub fn feed(s: &[u8], c: Cells, allow: u64) -> Answer
     requires { ⌜ Sane c ⌝ }
     ensures { λ r. ⌜ Fed c (now (s .entry)) allow r ⌝ }
 {
-    if c.mode < 3 {
+    if c.mode < IN_CONTENT {
         read(s, c, allow)
-    } else if c.mode < 6 {
+    } else if c.mode < HEADER_SECTION_DUE {
         handed(s, 0, c.acc, c.mode, c, 0)
-    } else if c.mode < 8 {
+    } else if c.mode < IN_SETTINGS {
         quiet(0, 0, c)
     } else {
         handed(s, 0, c.acc, c.mode, c, 0)
     }
 }
 
-// A feed that begins in content, or with a DATA frame's header that stands whole in the piece: event 1, and the answer is that of `feed`.
+// A feed that begins in content, or with a DATA frame's header that stands whole in the piece: its event is content, and the answer is that of `feed`.
 // Any other event says nothing.
 pub fn brisk(s: &[u8], c: Cells, allow: u64) -> Answer
     requires { ⌜ Sane c ⌝ }
-    ensures { λ r. ⌜ (r .event ≡ 1 → Fed c (now (s .entry)) allow r × Content c (r .cells)) ⌝ }
+    ensures { λ r. ⌜ (r .event ≡ CONTENT → Fed c (now (s .entry)) allow r × Content c (r .cells)) ⌝ }
 {
-    if c.mode == 3 {
-        return handed(s, 0, c.acc, 3, c, 0);
+    if c.mode == IN_CONTENT {
+        return handed(s, 0, c.acc, IN_CONTENT, c, 0);
     }
-    if c.mode != 0 {
+    if c.mode != IN_TYPE {
         return quiet(0, 0, c);
     }
     if c.due != 0 {
@@ -641,8 +713,8 @@ pub fn brisk(s: &[u8], c: Cells, allow: u64) -> Answer
         return quiet(0, 0, c);
     }
     let k = ruled(c.phase, c.has, c.stated, c.sum, varint::value(s, 0), l);
-    if k == 1 {
-        handed(s, m, l, 3, more_sum(c, l), 1)
+    if k == USE_CONTENT {
+        handed(s, m, l, IN_CONTENT, more_sum(c, l), 1)
     } else {
         quiet(0, 0, c)
     }
@@ -654,17 +726,17 @@ pub fn brisk(s: &[u8], c: Cells, allow: u64) -> Answer
 fn tallied(phase: u64, has: u64, stated: u64, sum: u64) -> u64
     ensures { λ r. ⌜ r ≡ tallyOf phase has stated sum ⌝ }
 {
-    if 2 < phase {
+    if TRAILED < phase {
         return rules::CLOSED_CRITICAL_STREAM;
     }
-    if phase == 0 {
+    if phase == OPENING {
         return rules::REQUEST_INCOMPLETE;
     }
     if has == 0 {
-        return 0;
+        return rules::ACCEPTED;
     }
     if sum == stated {
-        0
+        rules::ACCEPTED
     } else {
         rules::MESSAGE_ERROR
     }
@@ -674,24 +746,24 @@ fn tallied(phase: u64, has: u64, stated: u64, sum: u64) -> u64
 fn cut_off(phase: u64) -> u64
     ensures { λ r. ⌜ r ≡ cutOf phase ⌝ }
 {
-    if 2 < phase {
+    if TRAILED < phase {
         rules::CLOSED_CRITICAL_STREAM
     } else {
         rules::FRAME_ERROR
     }
 }
 
-// The end of a stream: 0 whole, 4 a section is due, else the code.
+// The end of a stream: accepted if it is whole, a section is due, or the code.
 pub fn end(c: Cells) -> u64
     ensures { λ r. ⌜ Ends c r ⌝ }
 {
-    if c.mode == 6 {
-        return 4;
+    if c.mode == HEADER_SECTION_DUE {
+        return rules::SECTION_DUE;
     }
-    if c.mode == 7 {
-        return 4;
+    if c.mode == TRAILERS_DUE {
+        return rules::SECTION_DUE;
     }
-    if 0 < c.mode {
+    if IN_TYPE < c.mode {
         return cut_off(c.phase);
     }
     if 0 < c.due {

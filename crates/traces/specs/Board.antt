@@ -6,7 +6,7 @@ use mathlib.Core.List.{List, [], _∷_, _++_}
 use mathlib.Core.Bool.{Bool, true, false}
 use mathlib.Core.Option.{Option, none, some}
 use lib.ListN.{length, replicate}
-use Rattle.rules.specs.Numbers.{House, not-open, not-next, no-record, short-room, bad-value, not-24, StreamFault, request-rejected, ConnectionFault, Code, of-stream, of-connection}
+use Rattle.rules.specs.Numbers.{House, not-open, not-next, no-record, room-short, bad-value, other-row, StreamFault, request-rejected, ConnectionFault, Code, of-stream, of-connection}
 use Rattle.traces.specs.Stream.{Gave, done, Left, Own, Out, refuse, step, leave, fault, Machine, act, act₁, either, mapOut}
 
 unfoldable pub pick : {P X : Type 0} → Dec P → (ifSo ifNot : X) → X
@@ -201,7 +201,7 @@ module _ {M : Machine} where
   unfoldable pub sending : (id room : ℕ) → Pair M → Result M
   sending id room p =
       either (goodGoaway (p .conn .limit) id)
-      (pick (decLe (goawaySize id) room) (with (gave done) (limited id (p .conn)) (p .row)) (same (house short-room) p))
+      (pick (decLe (goawaySize id) room) (with (gave done) (limited id (p .conn)) (p .row)) (same (house room-short) p))
       (same (house bad-value) p)
 
   -- ---- every call
@@ -214,7 +214,7 @@ module _ {M : Machine} where
 
   -- with the row as it is lent: another length than 24 comes before all else (our GOAWAY is not lent the row)
   unfoldable pub rowed : Pair M → Result M → Result M
-  rowed p r = pick (ℕ-discrete (length (p .row)) 24) r (same (house not-24) p)
+  rowed p r = pick (ℕ-discrete (length (p .row)) 24) r (same (house other-row) p)
 
   unfoldable pub lent : Call M → Pair M → Result M
   lent start p = rowed p (call start p)

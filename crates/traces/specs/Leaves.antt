@@ -4,7 +4,7 @@ use Prim.Native.Nat.{ℕ}
 use native.Mathlib.Decide.{ℕ-discrete}
 use mathlib.Core.Option.{Option, none, some}
 use lib.ListN.{length}
-use Rattle.rules.specs.Numbers.{House, not-24, StreamFault, request-rejected, ConnectionFault, Code, of-stream, of-connection}
+use Rattle.rules.specs.Numbers.{House, other-row, StreamFault, request-rejected, ConnectionFault, Code, of-stream, of-connection}
 use Rattle.traces.specs.Stream.{Gave, Left, Own, Machine}
 use Rattle.traces.specs.Board.{pick, Kind, kindOf, Slot, free, Row, Conn, Pair, Call, start, open′, on, goaway, Answer, gave, left, house, code, same, spend, killed, call, rowed, lent}
 use Rattle.traces.specs.Row.{Replaced, put-replaces, pick-yes, pick-no}
@@ -51,7 +51,7 @@ module _ {M : Machine} where
 
   -- of another length than 24: 9, before all else, and nothing altered
   pub other-length : (id : ℕ) (o : Own M) (p : Pair M) → ¬ (length (p .row) ≡ 24)
-      → (lent start p ≡ same (house not-24) p) × (lent (open′ id) p ≡ same (house not-24) p) × (lent (on id o) p ≡ same (house not-24) p)
+      → (lent start p ≡ same (house other-row) p) × (lent (open′ id) p ≡ same (house other-row) p) × (lent (on id o) p ≡ same (house other-row) p)
   unfolding lent rowed
   other-length id o p n = (pick-no _ _ _ n, pick-no _ _ _ n, pick-no _ _ _ n)
 
@@ -68,7 +68,7 @@ module _ {M : Machine} where
   unfolding rowed pick same
   leaves-rowed c p = go (ℕ-discrete (length (p .row)) 24)
     where
-      go : (d : Dec (length (p .row) ≡ 24)) → Leaves p c (pick d (call c p) (same (house not-24) p) .answer) (pick d (call c p) (same (house not-24) p) .after)
+      go : (d : Dec (length (p .row) ≡ 24)) → Leaves p c (pick d (call c p) (same (house other-row) p) .answer) (pick d (call c p) (same (house other-row) p) .after)
       go (yes e) = leaves c p
       go (no n) = nothing-altered
 

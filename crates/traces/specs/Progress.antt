@@ -7,7 +7,7 @@ use mathlib.Core.List.{List, [], _∷_, _++_}
 use mathlib.Core.Bool.{Bool, true, false}
 use mathlib.Core.Option.{some}
 use lib.ListN.{length, take}
-use Rattle.rules.specs.Numbers.{StreamFault, Code, of-stream, of-connection, section-due, none-due, unreadable}
+use Rattle.rules.specs.Numbers.{StreamFault, Code, of-stream, of-connection, section-due, no-section, unreadable}
 use Rattle.traces.specs.Stream.{Event, Fed, goes, faults, Given, sound, unsound, Ended, is-whole, broken, Own, feed, section, refuse, ofFed, ofGiven, mapOut, done, fed, Machine, act, either}
 use Rattle.traces.specs.Board.{request, kindOf, asking, Pair, Call, on, Answer, gave, house, code, same, with, faulted, settle, fresh, call, run, trace}
 use Rattle.traces.specs.View.{Shown, View, Fate, running, refused, plusFeed, plusBytes, plusSection, mine, fedly, view}
@@ -25,7 +25,7 @@ pub data Moves {M : Machine} (R : Meaning M) (s : Shown M) (allow : ℕ) (piece 
 
 -- WHAT A SECTION IS ANSWERED: 5 exactly if none is due; then 6 exactly if it is unreadable; then a code exactly if the bytes with it have that fault
 pub data Takes {M : Machine} (R : Meaning M) (s : Shown M) (b : M .Block) : Answer → Type 0 where
-  not-due : ¬ Waits R s → Takes R s b (house none-due)
+  not-due : ¬ Waits R s → Takes R s b (house no-section)
   not-readable : Waits R s → M .readable b ≡ false → Takes R s b (house unreadable)
   unfit : {k : StreamFault} → Waits R s → M .readable b ≡ true → Struck R (of-stream k) (s .bytes) (s .sections ++ (b ∷ [])) → Takes R s b (code (of-stream k) 0 0)
   taken : Waits R s → M .readable b ≡ true → NoFault R (s .bytes) (s .sections ++ (b ∷ [])) → Takes R s b (gave done)
@@ -67,7 +67,7 @@ module _ {M : Machine} (R : Meaning M) (L : Reads R) where
   -- ---- sections
 
   takes : (id : ℕ) (p : Pair M) (s : Shown M) (r : M .Request) (b : M .Block) → Reached s r → (d : Bool) → M .due r ≡ d → (c : Bool) → M .readable b ≡ c → (x : Given (M .Request)) → M .give r b ≡ x
-      → Takes R s b (settle id p (mapOut (λ x. record { stream = asking x; kept = p .conn .kept }) (either d (either c (ofGiven x) (refuse unreadable)) (refuse none-due))) .answer)
+      → Takes R s b (settle id p (mapOut (λ x. record { stream = asking x; kept = p .conn .kept }) (either d (either c (ofGiven x) (refuse unreadable)) (refuse no-section))) .answer)
   unfolding settle mapOut either ofGiven same with faulted plusSection
   takes id p s r b t true e true w (sound r′) q = taken (L .while-due t e) w (L .unhurt (by-section t e w q))
   takes id p s r b t true e true w (unsound k) q = unfit (L .while-due t e) w (L .at-section b k t e w q .1)

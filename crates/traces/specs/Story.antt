@@ -4,7 +4,7 @@ use mathlib.Core.Path.{_≡_, refl}
 use Prim.Native.Nat.{ℕ}
 use mathlib.Core.List.{List, [], _∷_}
 use mathlib.Core.Bool.{Bool, true, false}
-use Rattle.rules.specs.Numbers.{StreamFault, Code, of-stream, of-connection, section-due, none-due, unreadable}
+use Rattle.rules.specs.Numbers.{StreamFault, Code, of-stream, of-connection, section-due, no-section, unreadable}
 use Rattle.traces.specs.Stream.{Event, Fed, goes, faults, Given, sound, unsound, Ended, is-whole, broken, Own, feed, section, end, reset, Out, refuse, step, leave, fault, ofFed, ofGiven, ofEnded, mapOut, Gave, done, Left, whole, freed, Machine, act, either}
 use Rattle.traces.specs.Board.{Kind, request, Stream, asking, first, actOn}
 use Rattle.traces.specs.View.{Shown, Fate, unopened, spent, running, ended, dropped, refused, lost, nothing, plusFeed, plusBytes, plusSection, fedly, mine}
@@ -60,7 +60,7 @@ module _ {M : Machine} where
     at-feed allow piece false e (faults k u h) q = bad-feed t e q
 
     at-section : (b : M .Block) (d : Bool) → M .due r ≡ d → (c : Bool) → M .readable b ≡ c → (x : Given (M .Request)) → M .give r b ≡ x
-        → Then (section b) (either d (either c (ofGiven x) (refuse unreadable)) (refuse none-due))
+        → Then (section b) (either d (either c (ofGiven x) (refuse unreadable)) (refuse no-section))
     unfolding mapOut mine either ofGiven
     at-section b true e true w (sound r′) q = goes-on (asks (by-section t e w q))
     at-section b true e true w (unsound k) q = bad-section t e w q

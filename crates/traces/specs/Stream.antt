@@ -5,7 +5,7 @@ use mathlib.Core.List.{List, [], _∷_, _++_, map}
 use mathlib.Core.Bool.{Bool, true, false}
 use mathlib.Core.Option.{Option, none, some}
 use lib.ListN.{take, drop}
-use Rattle.rules.specs.Numbers.{House, section-due, none-due, unreadable, StreamFault, ConnectionFault, Code, of-stream, of-connection}
+use Rattle.rules.specs.Numbers.{House, section-due, no-section, unreadable, StreamFault, ConnectionFault, Code, of-stream, of-connection}
 
 -- ---- events
 
@@ -158,12 +158,12 @@ module _ (M : Machine) where
   -- 4 or 5, then 6, then the protocol
   unfoldable pub act : M .Request → Own M → Out (M .Request)
   act r (feed allow piece) = either (M .due r) (refuse section-due) (ofFed (M .feed r allow piece))
-  act r (section block) = either (M .due r) (either (M .readable block) (ofGiven (M .give r block)) (refuse unreadable)) (refuse none-due)
+  act r (section block) = either (M .due r) (either (M .readable block) (ofGiven (M .give r block)) (refuse unreadable)) (refuse no-section)
   act r end = either (M .due r) (refuse section-due) (ofEnded (M .finish r))
   act r reset = leave freed
 
   unfoldable pub act₁ : M .Kept → M .Oneway → Own M → Out (record { state : M .Oneway; kept : M .Kept })
   act₁ k w (feed allow piece) = ofFed (M .feed₁ k w allow piece)
-  act₁ k w (section block) = refuse none-due
+  act₁ k w (section block) = refuse no-section
   act₁ k w end = ofClosed (M .close w)
   act₁ k w reset = ofClosed (M .close w)

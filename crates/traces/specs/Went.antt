@@ -96,7 +96,7 @@ module _ {M : Machine} where
   went-sending id room p a = go (goodGoaway (p .conn .limit) id) refl (decLe (goawaySize id) room)
     where
       go : (b : Bool) → goodGoaway (p .conn .limit) id ≡ b → (d : Dec (goawaySize id ≤ room))
-          → Goes p (goaway id room) (either b (pick d (with (gave done) (limited id (p .conn)) (p .row)) (same (house House.short-room) p)) (same (house House.bad-value) p))
+          → Goes p (goaway id room) (either b (pick d (with (gave done) (limited id (p .conn)) (p .row)) (same (house House.room-short) p)) (same (house House.bad-value) p))
       go true e (yes l) = sending a e l
       go true e (no l) = by-house a
       go false e d = by-house a

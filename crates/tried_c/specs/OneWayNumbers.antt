@@ -7,6 +7,8 @@ use native.Mathlib.Omega.{arith}
 use lib.Dec.{eqb}
 use borrow.Author.Tests.{eq-eqb, ne-eqb}
 use Rattle.varint.specs.ByByte.{part, Good}
+use Rattle.rules.specs.Events.{FAULT}
+use Rattle.streams.specs.Modes.{UNSET}
 use Rattle.streams.specs.declared.Cells.{Cells}
 use Rattle.streams.specs.Answers.{Sane}
 use Rattle.oneway.specs.declared.OneWay.{OneWay}
@@ -15,6 +17,7 @@ use Rattle.oneway.specs.declared.Seen.{Seen}
 use Rattle.oneway.specs.Stands.{OneSoundAt, OneSound, OneFed}
 use Rattle.tried_c.specs.declared.feeds.WayReport.{WayReport}
 use Rattle.tried_c.specs.StreamNumbers.{Tells, tells}
+use Rattle.record.specs.Kinds.{UNTYPED, CONTROL}
 
 abbrev wayReport : (number event start len used heads payload : ℕ) → OneWay → WayReport
 wayReport number event start len used heads payload a =
@@ -36,13 +39,13 @@ pub record WayReported (a : OneWay) (came : Seen) (s : List ℕ) (allow : ℕ) (
 -- ---- laws: which numbers are sound
 
 module _ (w : OneWay) where
-  no-sound : (kind : ℕ) (c : Cells) → kind < 2 → OneSoundAt kind c → ⊥
+  no-sound : (kind : ℕ) (c : Cells) → kind < UNTYPED → OneSoundAt kind c → ⊥
   unfolding OneSoundAt
   no-sound zero c h s = s
   no-sound (suc zero) c h s = s
   no-sound (suc (suc k)) c h s = omega arith
 
-  any-sound : (kind : ℕ) (c : Cells) → 3 < kind → OneSoundAt kind c
+  any-sound : (kind : ℕ) (c : Cells) → CONTROL < kind → OneSoundAt kind c
   unfolding OneSoundAt
   any-sound zero c h = absurd (omega arith)
   any-sound (suc zero) c h = absurd (omega arith)
@@ -50,41 +53,41 @@ module _ (w : OneWay) where
   any-sound (suc (suc (suc zero))) c h = absurd (omega arith)
   any-sound (suc (suc (suc (suc k)))) c h = tt
 
-  type-sound : (kind : ℕ) (c : Cells) (x : Bool) → kind ≡ 2 → Tells x (Good (part (c .acc) (c .due))) → Tells x (OneSoundAt kind c)
+  type-sound : (kind : ℕ) (c : Cells) (x : Bool) → kind ≡ UNTYPED → Tells x (Good (part (c .acc) (c .due))) → Tells x (OneSoundAt kind c)
   unfolding OneSoundAt
   type-sound kind c x e t = rw e t
 
-  late-sound : (kind : ℕ) (c : Cells) (x : Bool) → kind ≡ 3 → 3 ≤ c .phase → Tells x (Sane c) → Tells x (OneSoundAt kind c)
+  late-sound : (kind : ℕ) (c : Cells) (x : Bool) → kind ≡ CONTROL → UNSET ≤ c .phase → Tells x (Sane c) → Tells x (OneSoundAt kind c)
   unfolding OneSoundAt
   late-sound kind c x e h t = rw e (tells x (λ s. (s, h)) (λ s. s .0) t)
 
-  early-sound : (kind : ℕ) (c : Cells) → kind ≡ 3 → c .phase < 3 → OneSoundAt kind c → ⊥
+  early-sound : (kind : ℕ) (c : Cells) → kind ≡ CONTROL → c .phase < UNSET → OneSoundAt kind c → ⊥
   unfolding OneSoundAt
   early-sound kind c e h s = let q = rw e at s in omega (arith, q .1)
 
-  pub sound-none : w .kind < 2 → Tells false (OneSound w)
+  pub sound-none : w .kind < UNTYPED → Tells false (OneSound w)
   sound-none h = no-sound (w .kind) (w .cells) h
 
-  pub sound-type : (x : Bool) → w .kind ≡ 2 → Tells x (Good (part (w .cells .acc) (w .cells .due))) → Tells x (OneSound w)
+  pub sound-type : (x : Bool) → w .kind ≡ UNTYPED → Tells x (Good (part (w .cells .acc) (w .cells .due))) → Tells x (OneSound w)
   sound-type x e t = type-sound (w .kind) (w .cells) x e t
 
-  pub sound-bare : 3 < w .kind → Tells true (OneSound w)
+  pub sound-bare : CONTROL < w .kind → Tells true (OneSound w)
   sound-bare h = any-sound (w .kind) (w .cells) h
 
-  pub sound-early : w .kind ≡ 3 → w .cells .phase < 3 → Tells false (OneSound w)
+  pub sound-early : w .kind ≡ CONTROL → w .cells .phase < UNSET → Tells false (OneSound w)
   sound-early e h = early-sound (w .kind) (w .cells) e h
 
-  pub sound-control : (x : Bool) → w .kind ≡ 3 → 3 ≤ w .cells .phase → Tells x (Sane (w .cells)) → Tells x (OneSound w)
+  pub sound-control : (x : Bool) → w .kind ≡ CONTROL → UNSET ≤ w .cells .phase → Tells x (Sane (w .cells)) → Tells x (OneSound w)
   sound-control x e h t = late-sound (w .kind) (w .cells) x e h t
 
 -- ---- laws: the report
 
 module _ (a : OneWay) (r : OneAnswer) where
-  pub way-fault : r .event ≡ 4 → wayReport (r .len) 0 0 0 (r .used) (r .heads) 0 a ≡ wayReportOf a r
+  pub way-fault : r .event ≡ FAULT → wayReport (r .len) 0 0 0 (r .used) (r .heads) 0 a ≡ wayReportOf a r
   unfolding wayFaultOr
   way-fault e = let x = eq-eqb (r .event) 4 e in rw (x, wayFaultOr) refl
 
-  pub way-left : (r .event ≡ 4 → ⊥) → wayReport 0 (r .event) (r .start) (r .len) (r .used) (r .heads) (r .payload) (r .stream) ≡ wayReportOf a r
+  pub way-left : (r .event ≡ FAULT → ⊥) → wayReport 0 (r .event) (r .start) (r .len) (r .used) (r .heads) (r .payload) (r .stream) ≡ wayReportOf a r
   unfolding wayFaultOr
   way-left n = let x = ne-eqb (r .event) 4 n in rw (x, wayFaultOr) refl
 

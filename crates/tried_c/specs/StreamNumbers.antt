@@ -7,6 +7,8 @@ use native.Mathlib.Omega.{arith}
 use lib.Dec.{eqb, ltb}
 use borrow.Author.Tests.{ltb-true, ltb-false, eq-eqb, ne-eqb}
 use Rattle.varint.specs.ByByte.{part, Good}
+use Rattle.rules.specs.Events.{FAULT}
+use Rattle.streams.specs.Modes.{IN-SKIPPED, HEADER-SECTION-DUE, TRAILERS-DUE, IN-SETTINGS, IN-CANCEL-PUSH}
 use Rattle.streams.specs.declared.Cells.{Cells}
 use Rattle.streams.specs.declared.Answer.{Answer}
 use Rattle.streams.specs.Answers.{Sane}
@@ -36,7 +38,7 @@ reportOf a r = faultOr (eqb (r .event) 4) a r
 
 -- a section is due
 abbrev pub IsDue : Cells → Type 0
-IsDue a = (6 ≤ a .mode) × (a .mode < 8)
+IsDue a = (HEADER-SECTION-DUE ≤ a .mode) × (a .mode < IN-SETTINGS)
 
 -- WHAT A FEED REPORTS, of any numbers
 pub record Reported (a : Cells) (s : List ℕ) (allow : ℕ) (r : Report) : Type 0 where
@@ -79,21 +81,21 @@ room (suc (suc (suc (suc (suc (suc (suc (suc k)))))))) h = absurd (omega arith)
 pub tells-part : (acc due : ℕ) → due ≤ 7 → Tells (ltb acc (2 ^ 62 / 2 ^ (8 * due))) (Good (part acc due))
 tells-part acc due h = rw (room due h) (below acc (64 * 256 ^ (7 - due)) (λ l. record { few = h; small = l }) (λ g. g .small))
 
-module _ (c : Cells) (modes : c .mode ≤ 11) (small : c .acc < 2 ^ 62) (type : c .ftype < 2 ^ 62) (sums : c .sum ≤ 2 ^ 62) (stateds : c .stated ≤ 2 ^ 62) where
-  pub tells-header : (x : Bool) → c .mode < 2 → Tells x (Good (part (c .acc) (c .due))) → Tells x (Sane c)
+module _ (c : Cells) (modes : c .mode ≤ IN-CANCEL-PUSH) (small : c .acc < 2 ^ 62) (type : c .ftype < 2 ^ 62) (sums : c .sum ≤ 2 ^ 62) (stateds : c .stated ≤ 2 ^ 62) where
+  pub tells-header : (x : Bool) → c .mode < IN-SKIPPED → Tells x (Good (part (c .acc) (c .due))) → Tells x (Sane c)
   tells-header x h = tells x (λ g. record { modes = modes; header = λ l. g; small = small; type = type; some = λ l m n. absurd (omega arith); sums = sums; stateds = stateds }) (λ s. s .header h)
 
-  pub tells-payload : 2 ≤ c .mode → (c .mode ≡ 6 → ⊥) → (c .mode ≡ 7 → ⊥) → Tells (ltb 0 (c .acc)) (Sane c)
+  pub tells-payload : IN-SKIPPED ≤ c .mode → (c .mode ≡ HEADER-SECTION-DUE → ⊥) → (c .mode ≡ TRAILERS-DUE → ⊥) → Tells (ltb 0 (c .acc)) (Sane c)
   tells-payload h m n = below 0 (c .acc) (λ l. record { modes = modes; header = λ k. absurd (omega arith); small = small; type = type; some = λ i j k. l; sums = sums; stateds = stateds }) (λ s. s .some h m n)
 
 -- ---- laws: the report
 
 module _ (a : Cells) (r : Answer) where
-  pub report-fault : r .event ≡ 4 → report (r .len) 0 0 0 (r .used) (r .heads) a ≡ reportOf a r
+  pub report-fault : r .event ≡ FAULT → report (r .len) 0 0 0 (r .used) (r .heads) a ≡ reportOf a r
   unfolding faultOr
   report-fault e = let x = eq-eqb (r .event) 4 e in rw (x, faultOr) refl
 
-  pub report-left : (r .event ≡ 4 → ⊥) → report 0 (r .event) (r .start) (r .len) (r .used) (r .heads) (r .cells) ≡ reportOf a r
+  pub report-left : (r .event ≡ FAULT → ⊥) → report 0 (r .event) (r .start) (r .len) (r .used) (r .heads) (r .cells) ≡ reportOf a r
   unfolding faultOr
   report-left n = let x = ne-eqb (r .event) 4 n in rw (x, faultOr) refl
 

@@ -44,7 +44,7 @@ fn is_part(acc: u64, due: u64) -> bool
 fn is_sane(c: Cells) -> bool
     ensures { λ r. ⌜ Tells r (Sane c) ⌝ }
 {
-    if 11 < c.mode {
+    if streams::IN_CANCEL_PUSH < c.mode {
         return false;
     }
     if 0x4000000000000000 <= c.acc {
@@ -59,13 +59,13 @@ fn is_sane(c: Cells) -> bool
     if 0x4000000000000000 < c.stated {
         return false;
     }
-    if c.mode < 2 {
+    if c.mode < streams::IN_SKIPPED {
         return is_part(c.acc, c.due);
     }
-    if c.mode == 6 {
+    if c.mode == streams::HEADER_SECTION_DUE {
         return true;
     }
-    if c.mode == 7 {
+    if c.mode == streams::TRAILERS_DUE {
         return true;
     }
     0 < c.acc
@@ -78,7 +78,7 @@ fn refusal(number: u64, at: Cells) -> Report
 {
     Report {
         number,
-        event: 0,
+        event: rules::NOTHING,
         start: 0,
         len: 0,
         used: 0,
@@ -91,10 +91,10 @@ fn refusal(number: u64, at: Cells) -> Report
 fn reported(a: Answer, at: Cells) -> Report
     ensures { λ r. ⌜ r ≡ reportOf at a ⌝ }
 {
-    if a.event == 4 {
+    if a.event == rules::FAULT {
         Report {
             number: a.len,
-            event: 0,
+            event: rules::NOTHING,
             start: 0,
             len: 0,
             used: a.used,
@@ -121,10 +121,10 @@ pub extern "C" fn eist_feed(at: Cells, piece: &[u8], allow: u64) -> Report
     ensures { λ r. ⌜ Reported at (now (piece .entry)) allow r ⌝ }
 {
     if is_sane(at) {
-        if at.mode == 6 {
+        if at.mode == streams::HEADER_SECTION_DUE {
             return refusal(4, at);
         }
-        if at.mode == 7 {
+        if at.mode == streams::TRAILERS_DUE {
             return refusal(4, at);
         }
         reported(streams::feed(piece, at, allow), at)
@@ -167,16 +167,16 @@ fn is_sound(w: OneWay) -> bool
     ensures { λ r. ⌜ Tells r (OneSound w) ⌝ }
 {
     let c = w.cells;
-    if w.kind < 2 {
+    if w.kind < record::UNTYPED {
         return false;
     }
-    if w.kind == 2 {
+    if w.kind == record::UNTYPED {
         return is_part(c.acc, c.due);
     }
-    if 3 < w.kind {
+    if record::CONTROL < w.kind {
         return true;
     }
-    if c.phase < 3 {
+    if c.phase < streams::UNSET {
         return false;
     }
     is_sane(c)
@@ -185,10 +185,10 @@ fn is_sound(w: OneWay) -> bool
 fn way_reported(a: OneAnswer, at: OneWay) -> WayReport
     ensures { λ r. ⌜ r ≡ wayReportOf at a ⌝ }
 {
-    if a.event == 4 {
+    if a.event == rules::FAULT {
         WayReport {
             number: a.len,
-            event: 0,
+            event: rules::NOTHING,
             start: 0,
             len: 0,
             used: a.used,
@@ -220,7 +220,7 @@ pub extern "C" fn eist_feed_way(at: OneWay, came: Seen, piece: &[u8], allow: u64
     } else {
         WayReport {
             number: 10,
-            event: 0,
+            event: rules::NOTHING,
             start: 0,
             len: 0,
             used: 0,

@@ -3,7 +3,7 @@ use mathlib.Core.Path.{_≡_}
 use Prim.Native.Nat.{ℕ, zero, suc, _+_, _-_, _≤_}
 use native.Mathlib.Omega.{arith}
 use mathlib.Core.Bool.{true}
-use Rattle.rules.specs.Numbers.{STREAM-CREATION-ERROR, stream-creation-error, closed-critical-stream, frame-unexpected, frame-error, excessive-load, id-error, settings-error, missing-settings, ConnectionFault, of-connection, codeNumber, named, leaves}
+use Rattle.rules.specs.Numbers.{STREAM-CREATION-ERROR, MISSING-SETTINGS, stream-creation-error, closed-critical-stream, frame-unexpected, frame-error, excessive-load, id-error, settings-error, missing-settings, ConnectionFault, of-connection, codeNumber, named, leaves}
 use Rattle.connection.specs.Faults.{keeps, keeps-one, keeps-none}
 use Rattle.connection.proofs.keeps_code.Statement.{statement}
 use Rattle.connection.proofs.keeps_code.Tie as tie
@@ -20,10 +20,10 @@ at (suc (suc (suc (suc (suc (suc zero)))))) n e h = keeps-one settings-error n (
 at (suc (suc (suc (suc (suc (suc (suc zero))))))) n e h = keeps-one missing-settings n (omega arith)
 at (suc (suc (suc (suc (suc (suc (suc (suc i)))))))) n e h = absurd (omega arith)
 
-within : (n : ℕ) → STREAM-CREATION-ERROR ≤ n → n ≤ STREAM-CREATION-ERROR + 7 → true ≡ keeps (leaves (named n))
+within : (n : ℕ) → STREAM-CREATION-ERROR ≤ n → n ≤ MISSING-SETTINGS → true ≡ keeps (leaves (named n))
 within n l h = at (n - STREAM-CREATION-ERROR) n (omega arith) (omega arith)
 
-bounded : (f : ConnectionFault) → (STREAM-CREATION-ERROR ≤ codeNumber (of-connection f)) × (codeNumber (of-connection f) ≤ STREAM-CREATION-ERROR + 7)
+bounded : (f : ConnectionFault) → (STREAM-CREATION-ERROR ≤ codeNumber (of-connection f)) × (codeNumber (of-connection f) ≤ MISSING-SETTINGS)
 bounded stream-creation-error = (omega arith, omega arith)
 bounded closed-critical-stream = (omega arith, omega arith)
 bounded frame-unexpected = (omega arith, omega arith)

@@ -1,6 +1,7 @@
 use native.Mathlib.Omega.{arith}
 use Rattle.record.specs.Tidy.{tidy-type, tidy-length, tidy-due, tidy-payload}
 use borrow.Author.Needs.{needs}
+use Rattle.rules.specs.Reading.{header-section, trailers}
 use Rattle.record.proofs.tidy_head.Statement.{statement}
 use Rattle.record.proofs.tidy_head.Tie as tie
 use Rattle.record.proofs.tidy_head.Reads as reads
@@ -38,7 +39,7 @@ headed-requires-3 c κs = search needs
 
 -- src/lib.rt:335:9
 returns-3 : tie.Need-returns-3
-returns-3 c = tidy-due _ (omega arith) (omega arith) (c .headed3 .ensures)
+returns-3 c = tidy-due _ header-section (c .before .if3 .taken) (c .headed3 .ensures)
 
 -- src/lib.rt:338:9
 headed-requires-4 : tie.Need-headed-requires-4
@@ -46,7 +47,7 @@ headed-requires-4 c κs = search needs
 
 -- src/lib.rt:338:9
 returns-4 : tie.Need-returns-4
-returns-4 c = tidy-due _ (omega arith) (omega arith) (c .headed4 .ensures)
+returns-4 c = tidy-due _ trailers (c .before .if4 .taken) (c .headed4 .ensures)
 
 -- src/lib.rt:340:5
 headed-requires-5 : tie.Need-headed-requires-5

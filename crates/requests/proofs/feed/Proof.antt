@@ -1,6 +1,7 @@
 use denote.Ref.{now}
 use native.Mathlib.Omega.{arith}
 use mathlib.Core.Path.{ap}
+use Rattle.rules.specs.Reading.{header-section, trailers}
 use Rattle.streams.specs.Fed.{Fed}
 use Rattle.record.specs.Sound.{cellsIn}
 use Rattle.requests.specs.Reply.{fedAs}
@@ -27,7 +28,7 @@ told-requires c κs = search needs
 
 -- src/lib.rt:101:13
 returns : tie.Need-returns
-returns c = let g = c .before .before .before .before .before .before .before .before .args in let o = read-open (g .r) _ (c .before .before .before .before .before .before .read .ensures) (c .before .before .before .before .if1 .taken) in let m = ap (λ x. x .mode) (o .1) in feed-due (g .r) (o .0) (now (g .piece)) (g .allow) (omega (arith, m, c .before .if2 .taken)) (omega (arith, m, c .before .if2 .taken)) (c .told .ensures)
+returns c = let g = c .before .before .before .before .before .before .before .before .args in let o = read-open (g .r) _ (c .before .before .before .before .before .before .read .ensures) (c .before .before .before .before .if1 .taken) in let m = ap (λ x. x .mode) (o .1) in feed-due (g .r) (o .0) (now (g .piece)) (g .allow) header-section (omega (arith, m, c .before .if2 .taken)) (c .told .ensures)
 
 -- src/lib.rt:104:13
 told-requires-2 : tie.Need-told-requires-2
@@ -35,7 +36,7 @@ told-requires-2 c κs = search needs
 
 -- src/lib.rt:104:13
 returns-2 : tie.Need-returns-2
-returns-2 c = let g = c .before .before .before .before .before .before .before .before .before .before .args in let o = read-open (g .r) _ (c .before .before .before .before .before .before .before .before .read .ensures) (c .before .before .before .before .before .before .if1 .taken) in let m = ap (λ x. x .mode) (o .1) in feed-due (g .r) (o .0) (now (g .piece)) (g .allow) (omega (arith, m, c .before .if3 .taken)) (omega (arith, m, c .before .if3 .taken)) (c .told2 .ensures)
+returns-2 c = let g = c .before .before .before .before .before .before .before .before .before .before .args in let o = read-open (g .r) _ (c .before .before .before .before .before .before .before .before .read .ensures) (c .before .before .before .before .before .before .if1 .taken) in let m = ap (λ x. x .mode) (o .1) in feed-due (g .r) (o .0) (now (g .piece)) (g .allow) trailers (omega (arith, m, c .before .if3 .taken)) (c .told2 .ensures)
 
 -- src/lib.rt:106:13
 feed-requires : tie.Need-feed-requires

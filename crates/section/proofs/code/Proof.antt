@@ -9,7 +9,7 @@ use types.Run.{OneOf}
 use denote.Enum.Declared.{tagOf}
 use Rattle.rules.specs.Numbers.{REQUEST-REJECTED, MESSAGE-ERROR, codeNumber}
 use Rattle.section.proofs.Reason.{the-type}
-use Rattle.rules.specs.Section.{codeOf, size-check, bytes-check, unknown-check, repeated-check, late-check, in-trailers-check, connection-check, te-check, method-check, no-method-check, repeated-length-check, length-in-trailers-check, digits-check, length-above-check, repeated-host-check, connect-check, present-check, scheme-check, path-check, authority-check, empty-check, differ-check, at-check, length-check}
+use Rattle.rules.specs.Section.{fateOf, codeOf, size-check, bytes-check, unknown-check, repeated-check, late-check, in-trailers-check, connection-check, te-check, method-check, no-method-check, repeated-length-check, length-in-trailers-check, digits-check, length-above-check, repeated-host-check, connect-check, present-check, scheme-check, path-check, authority-check, empty-check, differ-check, at-check, length-check}
 use Rattle.section.specs.declared.Reason.{Reason}
 use Rattle.section.specs.declared.Reason.the-variants.{TooLarge, BadBytes, UnknownPseudo, RepeatedPseudo, LatePseudo, PseudoInTrailers, ConnectionField, OtherTe, BadMethod, NoMethod, RepeatedLength, LengthInTrailers, NoDigits, LengthAbove, RepeatedHost, Connect, NoSchemeOrPath, OtherScheme, BadPath, NoAuthority, EmptyAuthority, AuthoritiesDiffer, AtInAuthority, LengthPastLimit}
 use Rattle.section.specs.Checks.{checks, reasonOf}
@@ -20,7 +20,7 @@ byTag : ℕ → ℕ
 byTag t = cond (eqb t 15 || eqb t 17 || eqb t 23) REQUEST-REJECTED MESSAGE-ERROR
 
 by-tag : (r : Reason) → byTag (tagOf the-type r) ≡ codeNumber (codeOf (reasonOf r))
-unfolding byTag codeOf reasonOf checks size-check bytes-check unknown-check repeated-check late-check in-trailers-check connection-check te-check method-check no-method-check repeated-length-check length-in-trailers-check digits-check length-above-check repeated-host-check connect-check present-check scheme-check path-check authority-check empty-check differ-check at-check length-check
+unfolding byTag fateOf codeOf reasonOf checks size-check bytes-check unknown-check repeated-check late-check in-trailers-check connection-check te-check method-check no-method-check repeated-length-check length-in-trailers-check digits-check length-above-check repeated-host-check connect-check present-check scheme-check path-check authority-check empty-check differ-check at-check length-check
 by-tag TooLarge = refl
 by-tag BadBytes = refl
 by-tag UnknownPseudo = refl

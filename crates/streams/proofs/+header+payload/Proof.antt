@@ -3,7 +3,7 @@ use Prim.Native.Nat.{ℕ, _+_, _*_, _<_}
 use mathlib.Core.Path.{sym, _∙_}
 use borrow.Author.Needs.{needs}
 use denote.Ref.{now}
-use Rattle.streams.specs.Uses.{not-nine}
+use Rattle.streams.specs.Uses.{not-none}
 use Rattle.streams.specs.Stops.{ruling-lawful, stop-header, stop-here, header-stop, passed-fits, pass-stop, found, unready-type, unready-length}
 use borrow.Fn.Kinds.{In}
 use borrow.Fn.PlainCycle.{Measures, is, falls, and}
@@ -96,7 +96,7 @@ header-sub-payload t c = omega (arith, c .before .before .before .before .before
 
 -- src/lib.rt:153:5
 header-payload-requires : (t : ℕ) → header-lts.Need-payload-requires (header-claims t) (header-at t) header.Post
-header-payload-requires t c κs = (omega (arith, c .before .before .before .before .before .before .before .before .before .before .if1 .left), (c .before .before .before .before .before .before .before .ends2 .ensures .within, c .before .before .before .before .before .before .before .before .before .before .before .before .pre .1 .1, c .before .before .before .before .before .before .before .before .before .before .before .before .pre .1 .2, (λ e. not-nine _ _ _ (sym (c .before .before .before .ruled .ensures) ∙ e)), c .before .before .before .before .before .value .ensures .small, ruling-lawful _ _ _ _ _ _ _ (c .before .before .before .before .before .before .before .before .before .before .before .before .pre .1 .2) (c .before .before .before .ruled .ensures)))
+header-payload-requires t c κs = (omega (arith, c .before .before .before .before .before .before .before .before .before .before .if1 .left), (c .before .before .before .before .before .before .before .ends2 .ensures .within, c .before .before .before .before .before .before .before .before .before .before .before .before .pre .1 .1, c .before .before .before .before .before .before .before .before .before .before .before .before .pre .1 .2, (λ e. not-none _ _ _ (sym (c .before .before .before .ruled .ensures) ∙ e)), c .before .before .before .before .before .value .ensures .small, ruling-lawful _ _ _ _ _ _ _ (c .before .before .before .before .before .before .before .before .before .before .before .before .pre .1 .2) (c .before .before .before .ruled .ensures)))
 
 -- src/lib.rt:116:1
 header-returns-4 : (t : ℕ) → header-lts.Need-returns-4 (header-claims t) (header-at t) header.Post
@@ -105,7 +105,7 @@ header-returns-4 t c = let a = c .before .before .before .before .before .before
     let g = c .before .before .before .before .before .before .before .before .ends2 .ensures in
     let n0 = c .before .before .before .before .before .before .before .before .before .if2 .left in
     let m0 = c .before .before .before .before .before .before .before .if3 .left in
-    header-stop (now (a .s)) (a .phase) (a .has) (a .stated) (a .sum) (a .at) (a .allow) _ _ _ _ _ (found _ _ _ _ h n0 (c .before .before .before .before .before .value2 .ensures)) (found _ _ _ _ g m0 (c .before .before .before .before .before .before .value .ensures)) (c .before .before .before .before .before .before .before .before .before .before .before .if1 .left) (c .before .before .before .before .ruled .ensures) (λ e. not-nine _ _ _ (sym (c .before .before .before .before .ruled .ensures) ∙ e)) (omega (arith, h .past (omega (arith, n0)), g .past (omega (arith, m0)))) (c .payload .ensures)
+    header-stop (now (a .s)) (a .phase) (a .has) (a .stated) (a .sum) (a .at) (a .allow) _ _ _ _ _ (found _ _ _ _ h n0 (c .before .before .before .before .before .value2 .ensures)) (found _ _ _ _ g m0 (c .before .before .before .before .before .before .value .ensures)) (c .before .before .before .before .before .before .before .before .before .before .before .if1 .left) (c .before .before .before .before .ruled .ensures) (λ e. not-none _ _ _ (sym (c .before .before .before .before .ruled .ensures) ∙ e)) (omega (arith, h .past (omega (arith, n0)), g .past (omega (arith, m0)))) (c .payload .ensures)
 
 -- src/lib.rt:187:30
 payload-sub-passes : (t : ℕ) → payload-lts.Need-sub-passes (payload-claims t) (payload-at t) payload.Post

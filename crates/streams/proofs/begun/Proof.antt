@@ -1,7 +1,7 @@
 use native.Mathlib.Omega.{arith}
 use mathlib.Core.Path.{sym, _∙_}
 use denote.Ref.{now}
-use Rattle.streams.specs.Uses.{not-nine}
+use Rattle.streams.specs.Uses.{not-none}
 use Rattle.streams.specs.Stops.{ruling-lawful}
 use Rattle.streams.specs.Begun.{begin-held, begin-whole, begin-cut}
 use borrow.Author.Needs.{needs}
@@ -31,7 +31,7 @@ head-cells-requires c κs = search needs
 
 -- src/lib.rt:587:1
 returns-2 : tie.Need-returns-2
-returns-2 c = let a = c .before .before .before .before .before .before .before in begin-whole (a .args .c) (now (a .args .s)) (a .args .allow) (a .pre .0) _ _ (a .pre .1) (c .before .before .before .before .before .if1 .left) (c .before .before .before .before .head-on .ensures) (c .before .if2 .taken) (c .ruled .ensures) (λ e. not-nine _ _ _ (sym (c .ruled .ensures) ∙ e)) (ruling-lawful _ _ _ _ _ _ _ (a .pre .0 .stateds) (c .ruled .ensures))
+returns-2 c = let a = c .before .before .before .before .before .before .before in begin-whole (a .args .c) (now (a .args .s)) (a .args .allow) (a .pre .0) _ _ (a .pre .1) (c .before .before .before .before .before .if1 .left) (c .before .before .before .before .head-on .ensures) (c .before .if2 .taken) (c .ruled .ensures) (λ e. not-none _ _ _ (sym (c .ruled .ensures) ∙ e)) (ruling-lawful _ _ _ _ _ _ _ (a .pre .0 .stateds) (c .ruled .ensures))
 
 -- src/lib.rt:587:1
 returns-3 : tie.Need-returns-3

@@ -1,4 +1,5 @@
 use native.Mathlib.Omega.{arith}
+use Rattle.rules.specs.Reading.{header-section, trailers}
 use Rattle.streams.specs.End.{end-due, end-inside, end-between}
 use borrow.Author.Needs.{needs}
 use Rattle.streams.proofs.end.Statement.{statement}
@@ -10,11 +11,11 @@ use Rattle.streams.proofs.tallied.Reads as tallied-reads
 
 -- src/lib.rt:729:9
 returns : tie.Need-returns
-returns c = end-due (c .before .before .args .c) (omega (arith, c .if1 .taken)) (omega (arith, c .if1 .taken))
+returns c = end-due (c .before .before .args .c) header-section (c .if1 .taken)
 
 -- src/lib.rt:732:9
 returns-2 : tie.Need-returns-2
-returns-2 c = end-due (c .before .before .before .before .args .c) (omega (arith, c .if2 .taken)) (omega (arith, c .if2 .taken))
+returns-2 c = end-due (c .before .before .before .before .args .c) trailers (c .if2 .taken)
 
 -- src/lib.rt:735:9
 cut-off-requires : tie.Need-cut-off-requires
