@@ -24,6 +24,7 @@ use Rattle.traces.specs.Why as Y
 use Rattle.demands.specs.Streams.{Keeps, typesIn, streams}
 use Rattle.demands.specs.Reading.{reading}
 use Rattle.demands.specs.Reads.{reads}
+use Rattle.demands.specs.Becomes.{Once}
 use Rattle.demands.specs.Moves.{aloneBy, aloneOf, alone}
 use Rattle.demands.specs.OneWayReads.{faultBy, codeFor, closes-reached, reads-on, struck-by, unhurt-by, creation-by}
 use Rattle.demands.specs.Types.{Seen, Second, IsSecond, second-of-its-type}
@@ -138,7 +139,7 @@ one-way-of-the-bytes id q cs e allow piece k f = moved-struck (trace fresh cs) (
 closed-why : {s : Shown streams} {w : O.OneState} {k : ConnectionFault} → Reached₁ alone s w → streams .close w ≡ some k → faultBy (oneWay [] (s .bytes)) ≡ some (of-connection k)
 closed-why {k = k} t e = closes-reached t ∙ ap codeFor e ∙ unfold codeFor in refl
 
-second-why : (k : Keeps) (x : Option _) (bytes : List ℕ) → Struck [] (of-connection stream-creation-error) bytes ⊎ ((x ≡ none) × Struck (typesIn k) (of-connection stream-creation-error) bytes) → Why₁ bytes (of-connection stream-creation-error)
+second-why : (k : Keeps) (x : Option Once) (bytes : List ℕ) → Struck [] (of-connection stream-creation-error) bytes ⊎ ((x ≡ none) × Struck (typesIn k) (of-connection stream-creation-error) bytes) → Why₁ bytes (of-connection stream-creation-error)
 second-why k x bytes (inl y) = by-its-bytes y
 second-why k x bytes (inr y) = after-another (typesIn k) (y .1)
 

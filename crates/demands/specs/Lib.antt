@@ -33,5 +33,6 @@ pub mod Others
 pub mod Instances
 pub mod Types
 pub mod Faults
+pub mod OneWayInstances
 pub mod WrongOneWays
 pub mod Exported

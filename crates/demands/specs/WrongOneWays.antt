@@ -11,21 +11,20 @@ use Rattle.rules.specs.Numbers.{ConnectionFault, closed-critical-stream, missin
 use Rattle.rules.specs.Reading.{whole, fault}
 use Rattle.rules.specs.OneWay.{oneWay}
 use Rattle.rules.specs.Worked.{answer}
-use Rattle.meaning.specs.Feed as F
 use Rattle.meaning.specs.OneWayFeed as O
 use Rattle.meaning.specs.OneWayFirst.{verdictOn, Struck, NoFault}
-use Rattle.traces.specs.Stream.{Event, quiet, fed, Fed, goes, faults, Own, feed, section, end, reset, ofFed, mapOut, toldBy, act₁}
+use Rattle.traces.specs.Stream.{Event, quiet, fed, Fed, goes, faults, Own, feed, section, end, reset, ofFed, mapOut}
 use Rattle.traces.specs.Board.{pick, one-way, kindOf, Stream, asking, telling, Pair, Call, start, open′, on, goaway, Answer, gave, code, Entry, Result, alive, find, settle, fresh, call, run, trace}
 use Rattle.traces.specs.View.{Shown, View, running, refused, view}
 use Rattle.traces.specs.Oneways.{Both}
-use Rattle.demands.specs.Streams.{Keeps, came, typesIn, noticeOf, framesEvent, oneEvent, heardBy, streams}
+use Rattle.demands.specs.Streams.{Keeps, streams}
 use Rattle.demands.specs.Becomes.{Once}
 use Rattle.demands.specs.OneWayReads.{Heard, faultBy, closeAnswer}
 use Rattle.demands.specs.Demands.{one-way-reads, closes-exactly}
 use Rattle.demands.specs.Types.{First, one-of-a-type}
-use Rattle.demands.specs.Faults.{Brought, of-its-bytes, as-second, Moves₁, faulty, moved, Fares₁, one-way-progress, one-way-of-the-bytes, one-way-fares}
+use Rattle.demands.specs.Faults.{of-its-bytes, Moves₁, faulty, moved, Fares₁, one-way-progress, one-way-fares}
 use Rattle.demands.specs.Servers.{Server, tracedFrom, traced, after, next, ours, same-trace, same-next}
-use Rattle.demands.specs.Instances.{shows}
+use Rattle.demands.specs.OneWayInstances.{opened-two, struck-at-three}
 
 -- ---- WHAT IS PROMISED of one-way streams
 
@@ -52,16 +51,16 @@ ours-meets-one-way = record {
 
 -- ---- ours, but for a feed of a one-way stream
 
-abbrev Feeds : Type 0
+abbrev pub Feeds : Type 0
 Feeds = Keeps → O.OneState → (allow : ℕ) (piece : List ℕ) → Fed (Both streams)
 
 module _ (f : Feeds) where
-  unfoldable feeding : (id allow : ℕ) (piece : List ℕ) → Pair streams → Option (Stream streams) → Result streams
+  unfoldable pub feeding : (id allow : ℕ) (piece : List ℕ) → Pair streams → Option (Stream streams) → Result streams
   feeding id allow piece p none = call (on id (feed allow piece)) p
   feeding id allow piece p (some (asking r)) = call (on id (feed allow piece)) p
   feeding id allow piece p (some (telling w)) = alive (p .conn .dead) p (settle id p (mapOut (λ x. record { stream = telling (x .state); kept = x .kept }) (ofFed (f (p .conn .kept) w allow piece))))
 
-  unfoldable calling : Call streams → Pair streams → Result streams
+  unfoldable pub calling : Call streams → Pair streams → Result streams
   calling start p = call start p
   calling (open′ id) p = call (open′ id) p
   calling (on id (feed allow piece)) p = feeding id allow piece p (find id (p .row))
@@ -70,12 +69,12 @@ module _ (f : Feeds) where
   calling (on id reset) p = call (on id reset) p
   calling (goaway id room) p = call (goaway id room) p
 
-  abbrev ours-but : Server
+  abbrev pub ours-but : Server
   ours-but = record { State = Pair streams; begins = fresh; answers = λ p c. calling c p .answer; goes-on = λ p c. calling c p .after }
 
 -- to compute with: what a server shows and answers
 unfoldable computed : ℕ
-unfolding shows feeding calling tracedFrom after act₁ heardBy O.feed O.type-feed O.also O.typed-feed O.halt typesIn came O.kind-feed O.of-control O.controlled O.qpack-feed F.judged-event oneEvent framesEvent noticeOf toldBy
+unfolding opened-two feeding calling tracedFrom after
 computed = 0
 
 -- ---- 1. IT ANSWERS 0x0104, with no byte used, to any feed of a healthy control stream
@@ -164,14 +163,6 @@ late-breaks p = not-late _ (view 2 (traced (ours-but a-byte-late) just-open) .sh
 
 abbrev pub takes-all : Feeds
 takes-all k w allow piece = goes (length piece) 0 quiet (record { state = w; kept = k })
-
-struck-only : {t : List (Entry streams)} {before bytes : List ℕ} → Brought t before bytes (of-connection missing-settings) → Struck [] (of-connection missing-settings) bytes
-struck-only (of-its-bytes x) = x
-
--- as ours finds it
-pub struck-at-three : Struck [] (of-connection missing-settings) (0x00 ∷ 0x00 ∷ 0x00 ∷ [])
-unfolding computed
-struck-at-three = struck-only (one-way-of-the-bytes 2 refl just-open refl 9 (0x00 ∷ 0x00 ∷ 0x00 ∷ 0x21 ∷ []) (of-connection missing-settings) refl)
 
 not-well : (t : List (Entry streams)) (s : Shown streams) → s .bytes ≡ [] → Moves₁ t s 9 (0x00 ∷ 0x00 ∷ 0x00 ∷ []) (gave (fed 3 0 quiet)) → ⊥
 not-well t s e (moved n l) = (rw e at n) (of-connection missing-settings) 3 struck-at-three
