@@ -13,9 +13,9 @@ use Rattle.rules.specs.OneWay.{oneWay}
 use Rattle.meaning.specs.OneWayFeed as O
 use Rattle.meaning.specs.OneWays.{one-moves}
 use Rattle.meaning.specs.OneWayFirst.{FaultAt, Struck, NoFault, goes-on, one-fault, same-alone}
-use Rattle.traces.specs.Stream.{Event, Fed, goes, faults, Own, feed, ofFed, mapOut, fed, act₁}
-use Rattle.traces.specs.Board.{request, one-way, kindOf, telling, Pair, Call, on, Answer, gave, code, Entry, same, with, faulted, settle, actOn, fresh, call, run, trace}
-use Rattle.traces.specs.View.{Shown, Fate, unopened, spent, running, ended, dropped, refused, lost, View, nothing, plusFeed, plusBytes, fedly, mine, view}
+use Rattle.traces.specs.Stream.{Event, Fed, goes, feed, ofFed, mapOut, fed, act₁}
+use Rattle.traces.specs.Board.{request, one-way, kindOf, telling, Pair, Call, on, Answer, gave, code, Entry, with, faulted, settle, actOn, fresh, call, run, trace}
+use Rattle.traces.specs.View.{Shown, Fate, unopened, spent, running, ended, dropped, refused, lost, View, plusFeed, plusBytes, mine, view}
 use Rattle.traces.specs.Alone.{call-on}
 use Rattle.traces.specs.Follow.{Agrees, open-still, over, not-running}
 use Rattle.traces.specs.Oneways.{Both, Like, goes-alike, faults-alike, second, Reached₁, at-first, by-feed, Story₁, not-yet, never, cut-off, closed, closed-critical, bad-feed, second-of-type, Says, says, story₁, follows₁}
@@ -27,7 +27,7 @@ use Rattle.demands.specs.Reads.{reads}
 use Rattle.demands.specs.Becomes.{Once}
 use Rattle.demands.specs.Moves.{aloneBy, aloneOf, alone}
 use Rattle.demands.specs.OneWayReads.{faultBy, codeFor, closes-reached, reads-on, struck-by, unhurt-by, creation-by}
-use Rattle.demands.specs.Types.{Seen, Second, IsSecond, second-of-its-type}
+use Rattle.demands.specs.Types.{Second, IsSecond, second-of-its-type}
 
 abbrev Calls : Type 0
 Calls = List (Call streams)

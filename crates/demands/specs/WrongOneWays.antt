@@ -1,21 +1,20 @@
 -- WRONG SERVERS FOR ONE-WAY STREAMS: each is ours but for what it makes of a feed of one-way streams, and breaks what is promised of them at a concrete
 -- input; and our own keeps it. Assumes nothing.
-use mathlib.Core.Path.{_≡_, refl, sym, ap, _∙_}
-use Prim.Native.Nat.{ℕ, zero, suc, _≤_, min}
-use native.Mathlib.Decide.{ℕ-discrete}
+use mathlib.Core.Path.{_≡_, refl}
+use Prim.Native.Nat.{ℕ, suc, min}
 use native.Mathlib.Omega.{arith}
-use mathlib.Core.List.{List, [], _∷_, _++_}
+use mathlib.Core.List.{List, [], _∷_}
 use mathlib.Core.Option.{Option, none, some}
-use lib.ListN.{length, take}
-use Rattle.rules.specs.Numbers.{ConnectionFault, closed-critical-stream, missing-settings, stream-creation-error, Code, of-connection}
+use lib.ListN.{length}
+use Rattle.rules.specs.Numbers.{closed-critical-stream, missing-settings, of-connection}
 use Rattle.rules.specs.Reading.{whole, fault}
 use Rattle.rules.specs.OneWay.{oneWay}
 use Rattle.rules.specs.Worked.{answer}
 use Rattle.meaning.specs.OneWayFeed as O
-use Rattle.meaning.specs.OneWayFirst.{verdictOn, Struck, NoFault}
-use Rattle.traces.specs.Stream.{Event, quiet, fed, Fed, goes, faults, Own, feed, section, end, reset, ofFed, mapOut}
-use Rattle.traces.specs.Board.{pick, one-way, kindOf, Stream, asking, telling, Pair, Call, start, open′, on, goaway, Answer, gave, code, Entry, Result, alive, find, settle, fresh, call, run, trace}
-use Rattle.traces.specs.View.{Shown, View, running, refused, view}
+use Rattle.meaning.specs.OneWayFirst.{verdictOn, Struck}
+use Rattle.traces.specs.Stream.{quiet, fed, Fed, goes, faults, feed, section, end, reset, ofFed, mapOut}
+use Rattle.traces.specs.Board.{one-way, kindOf, Stream, asking, telling, Pair, Call, start, open′, on, goaway, gave, code, Entry, Result, alive, find, settle, fresh, call}
+use Rattle.traces.specs.View.{Shown, running, view}
 use Rattle.traces.specs.Oneways.{Both}
 use Rattle.demands.specs.Streams.{Keeps, streams}
 use Rattle.demands.specs.Becomes.{Once}

@@ -1,13 +1,13 @@
 -- WHY A REQUEST STREAM WAS REFUSED: a fault of its bytes is told from one of its end by the bytes themselves. From the same of one stream by itself.
 -- Assumes nothing.
-use mathlib.Core.Path.{_≡_, refl, _∙_}
+use mathlib.Core.Path.{_≡_, _∙_}
 use Prim.Native.Nat.{ℕ}
-use mathlib.Core.List.{List, _∷_, []}
+use mathlib.Core.List.{List}
 use mathlib.Core.Option.{some}
-use Rattle.rules.specs.Numbers.{Code, of-stream}
+use Rattle.rules.specs.Numbers.{Code}
 use Rattle.traces.specs.Stream.{Machine}
-use Rattle.traces.specs.Board.{request, kindOf, Pair, Call, fresh, run, trace}
-use Rattle.traces.specs.View.{Shown, Fate, unopened, spent, running, ended, dropped, refused, lost, View, plusBytes, plusSection, nothing, view}
+use Rattle.traces.specs.Board.{request, kindOf, Pair, Call, fresh, trace}
+use Rattle.traces.specs.View.{Shown, Fate, unopened, spent, running, ended, dropped, refused, lost, View, plusBytes, plusSection, view}
 use Rattle.traces.specs.Story.{at-first, Story, not-yet, never, to-the-end, given-up, cut-off, bad-feed, bad-section, bad-end, Asks, asks, story}
 use Rattle.traces.specs.Follow.{Agrees, open-still, over, agrees}
 use Rattle.traces.specs.Demands.{bad, Meaning, Struck, NoFault, verdictOf, Reads}
