@@ -32,4 +32,7 @@ pub mod Parts
 pub mod Others
 pub mod Instances
 pub mod Types
+pub mod Faults
+pub mod OneWayInstances
+pub mod WrongOneWays
 pub mod Exported

@@ -17,6 +17,7 @@ use Rattle.meaning.specs.Feed as F
 use Rattle.meaning.specs.Feeds.{unheaded, headersIn}
 use Rattle.meaning.specs.EveryFeed.{ReadsOn, feed-silent}
 use Rattle.meaning.specs.OneWayFeed as O
+use Rattle.meaning.specs.OneWayFirst.{Struck, NoFault, calls-struck, calls-unhurt}
 use Rattle.meaning.specs.OneWays.{Came, still-untyped, type-refused, a-control-stream, a-qpack-stream, a-skipped-stream, calls-read, always-reads, ReadsOnOne}
 use Rattle.traces.specs.Stream.{Notice, toldBy, noticesIn, ofType, partBy, qpackIn, Event, contentIn, sectionIn, Fed, goes, faults, end, reset, ofClosed, mapOut, freed, act₁}
 use Rattle.traces.specs.Board.{one-way, kindOf, telling, Pair, Call, on, Answer, left as is-left, code as is-code, with, faulted, settle, actOn, fresh, call, run, trace}
@@ -325,6 +326,13 @@ module _ (seen : List ℕ) where
       unfold plusFeed oneEvent framesEvent contentIn sectionIn noticesIn qpackIn in
       (rw (append-nil (s .content), append-nil (s .blocks), append-nil (s .notices), append-nil (s .qpack)) at v)
 
+  -- a fault is one of the bytes, whatever follows; and where there was none, the bytes have none
+  been-struck : (s : Shown streams) (code : Code) → Been s (O.dies code) → Struck seen code (s .bytes)
+  been-struck s code b = subst (λ d. Struck seen code (d .bytes)) (b .came) (calls-struck seen (b .made) code (ap (λ d. d .after) (b .came)))
+
+  been-unhurt : (s : Shown streams) (w : O.OneState) → Been s (O.lives w) → NoFault seen (s .bytes)
+  been-unhurt s w b = subst (λ d. NoFault seen (d .bytes)) (b .came) (calls-unhurt seen (b .made) w (ap (λ d. d .after) (b .came)))
+
   -- in the words of the definition
 
   came-of : (s : Shown streams) (o : O.OneOutcome) (b : Been s o) → Came seen (doneOf s (b .frames) (b .raw) o) (W.oneWay seen (s .bytes))
@@ -455,12 +463,12 @@ pub data Heard (v : View streams) : Type 0 where
 -- a feed that met a fault
 fault-of : (seen : List ℕ) (s : Shown streams) (w : O.OneState) (allow u h : ℕ) (piece : List ℕ) (k : Code) → Been seen s (O.lives w) → let f = O.feed seen allow w piece in
     (code : Code) → f .after ≡ O.dies code → f .used ≡ u → f .heads ≡ h → code ≡ k
-    → let s′ = plusBytes u h piece s in Hears seen s′ × (faultBy (W.oneWay seen (s′ .bytes)) ≡ some k)
+    → let s′ = plusBytes u h piece s in Hears seen s′ × (faultBy (W.oneWay seen (s′ .bytes)) ≡ some k) × Struck seen k (s′ .bytes)
 fault-of seen s w allow u h piece k b code e x y c =
     let v = been-dead seen s w allow u h code piece b e x y in
     let s′ = plusBytes u h piece s in
     let d = dead-by seen s′ code v (came-of seen s′ (O.dies code) v) in
-    (hears seen s′ (O.dies code) v, unfold faultBy in (d ∙ ap some c))
+    (hears seen s′ (O.dies code) v, unfold faultBy in (d ∙ ap some c), subst (λ c. Struck seen c (s′ .bytes)) c (been-struck seen s′ code v))
 
 fault-story : (s : Shown streams) (w : O.OneState) (allow u h : ℕ) (piece : List ℕ) (k : Code) → Been [] s (O.lives w) → aloneOf w allow piece ≡ faults k u h
     → Heard (record { fate = refused k; shown = plusBytes u h piece s })
@@ -469,6 +477,18 @@ fault-story s w allow u h piece k b q =
     let g = alone-faults (f .used) (f .heads) (f .event) (f .after) q in
     let z = fault-of [] s w allow u h piece k b (g .0) (g .1) (g .2) (g .3) (g .4) in
     by-its-bytes (z .0) (z .1)
+
+-- a feed of a stream by itself that met a fault: the last byte consumed brings it
+pub struck-by : (s : Shown streams) (w : O.OneState) (allow u h : ℕ) (piece : List ℕ) (k : Code) → Reached₁ alone s w → aloneOf w allow piece ≡ faults k u h → Struck [] k (s .bytes ++ take u piece)
+unfolding plusBytes
+struck-by s w allow u h piece k t q =
+    let f = O.feed [] allow w piece in
+    let g = alone-faults (f .used) (f .heads) (f .event) (f .after) q in
+    fault-of [] s w allow u h piece k (been t) (g .0) (g .1) (g .2) (g .3) (g .4) .2
+
+-- and one that accepted feeds lead to has none
+pub unhurt-by : {s : Shown streams} {w : O.OneState} → Reached₁ alone s w → NoFault [] (s .bytes)
+unhurt-by {s} {w} t = been-unhurt [] s w (been t)
 
 heard-reached : {s : Shown streams} {w : O.OneState} → Reached₁ alone s w → Hears [] s
 heard-reached {s} {w} t = hears [] s (O.lives w) (been t)
@@ -563,7 +583,7 @@ heard-faults k u₀ h₀ e₀ (O.lives s) q = let z : _≡_ {A = ℕ} 0 1 = cc i
 heard-faults k u₀ h₀ e₀ (O.dies code) q = (code, refl, cc, cc, cc)
 
 typed-both : (s : Shown streams) (w : O.OneState) (k : Keeps) (allow u h : ℕ) (piece : List ℕ) → Typed (O.lives w) → Reached₁ alone s w → streams .feed₁ k w allow piece ≡ faults (of-connection stream-creation-error) u h
-    → let s′ = plusBytes u h piece s in Hears [] s′ × (faultBy (W.oneWay [] (s′ .bytes)) ≡ some (of-connection stream-creation-error))
+    → let s′ = plusBytes u h piece s in Hears [] s′ × (faultBy (W.oneWay [] (s′ .bytes)) ≡ some (of-connection stream-creation-error)) × Struck [] (of-connection stream-creation-error) (s′ .bytes)
 typed-both s w k allow u h piece y t q =
     let f = O.feed [] allow w piece in
     let z : heardBy k (f .used) (f .heads) (f .event) (f .after) ≡ faults (of-connection stream-creation-error) u h = rw (typed-same (typesIn k) allow w piece y) at q in
@@ -587,15 +607,15 @@ second-story s O.in-skipped k allow u h piece t q = typed-story s O.in-skipped k
 
 -- a stream refused with 0x0103: by its own bytes, or, its type not yet shown, as they are where the types that are kept came before
 pub creation-by : (s : Shown streams) (w : O.OneState) (k : Keeps) (allow u h : ℕ) (piece : List ℕ) → Reached₁ alone s w → streams .feed₁ k w allow piece ≡ faults (of-connection stream-creation-error) u h
-    → let b = s .bytes ++ take u piece in (faultBy (W.oneWay [] b) ≡ some (of-connection stream-creation-error)) ⊎ ((isFor w ≡ none) × (faultBy (W.oneWay (typesIn k) b) ≡ some (of-connection stream-creation-error)))
+    → let b = s .bytes ++ take u piece in Struck [] (of-connection stream-creation-error) b ⊎ ((isFor w ≡ none) × Struck (typesIn k) (of-connection stream-creation-error) b)
 unfolding plusBytes isFor
 creation-by s (O.in-stream-type g) k allow u h piece t q =
     let f = O.feed (typesIn k) allow (O.in-stream-type g) piece in
     let r = heard-faults k (f .used) (f .heads) (f .event) (f .after) q in
-    inr (refl, fault-of (typesIn k) s (O.in-stream-type g) allow u h piece (of-connection stream-creation-error) (been-untyped (typesIn k) t g refl) (r .0) (r .1) (r .2) (r .3) (r .4) .1)
-creation-by s (O.in-control c) k allow u h piece t q = inl (typed-both s (O.in-control c) k allow u h piece tt t q .1)
-creation-by s (O.in-qpack c) k allow u h piece t q = inl (typed-both s (O.in-qpack c) k allow u h piece tt t q .1)
-creation-by s O.in-skipped k allow u h piece t q = inl (typed-both s O.in-skipped k allow u h piece tt t q .1)
+    inr (refl, fault-of (typesIn k) s (O.in-stream-type g) allow u h piece (of-connection stream-creation-error) (been-untyped (typesIn k) t g refl) (r .0) (r .1) (r .2) (r .3) (r .4) .2)
+creation-by s (O.in-control c) k allow u h piece t q = inl (typed-both s (O.in-control c) k allow u h piece tt t q .2)
+creation-by s (O.in-qpack c) k allow u h piece t q = inl (typed-both s (O.in-qpack c) k allow u h piece tt t q .2)
+creation-by s O.in-skipped k allow u h piece t q = inl (typed-both s O.in-skipped k allow u h piece tt t q .2)
 
 -- so closing is answered as the bytes say
 pub closes-reached : {s : Shown streams} {w : O.OneState} → Reached₁ alone s w → faultBy (W.oneWay [] (s .bytes)) ≡ codeFor (closeOf w)

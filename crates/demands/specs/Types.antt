@@ -17,8 +17,9 @@ use Rattle.rules.specs.OneWay.{encoder, decoder}
 use Rattle.meaning.specs.Machine as M
 use Rattle.meaning.specs.Feed as F
 use Rattle.meaning.specs.OneWayFeed as O
+use Rattle.meaning.specs.OneWayFirst.{Struck}
 use Rattle.traces.specs.Stream.{Fed, goes, faults, Own, feed, section, end, reset, Out, refuse, step, leave, fault, ofFed, ofClosed, mapOut, act, act₁}
-use Rattle.traces.specs.Board.{Kind, request, one-way, kindOf, Stream, asking, telling, free, held, Pair, Held, Call, start, open′, on, goaway, Answer, code, spend, keeping, killed, limited, find, put, same, with, faulted, settle, actOn, fresh, first, call, run, trace}
+use Rattle.traces.specs.Board.{Kind, request, one-way, kindOf, Stream, asking, telling, free, held, Pair, Held, Call, start, open′, on, goaway, Answer, code, Entry, spend, keeping, killed, limited, find, put, same, with, faulted, settle, actOn, fresh, first, call, run, trace}
 use Rattle.traces.specs.View.{running, View, view}
 use Rattle.traces.specs.Row.{find-put-same, find-put-other, find-free-other, find-free-same, find-seat-same, find-seat-other, find-empty}
 use Rattle.traces.specs.Went.{Alive, pair, Went, restarted, still-dead, by-house, barring, faulting, dying, opening, stepping, leaving, sending, went}
@@ -32,7 +33,7 @@ use Rattle.demands.specs.Codes.{one-way-listed}
 use Rattle.demands.specs.Streams.{Keeps, keptBy, came, typesIn, heardBy, closeOf, streams}
 use Rattle.demands.specs.Becomes.{Once, as-control, as-encoder, as-decoder, isFor, typeNumber, Unseen, type-unseen}
 use Rattle.demands.specs.Moves.{alone}
-use Rattle.demands.specs.OneWayReads.{faultBy, typeShown, type-shown, creation-by}
+use Rattle.demands.specs.OneWayReads.{typeShown, type-shown, creation-by}
 use Rattle.demands.specs.Only.{not-held, held-is-running}
 
 -- ---- what is kept, and what a stream is
@@ -359,29 +360,29 @@ abbrev Calls : Type 0
 Calls = List (Call streams)
 
 -- a one-way stream of the trace that runs, and whose bytes show this type
-pub record First (cs : Calls) (c : Once) : Type 0 where
+pub record First (t : List (Entry streams)) (c : Once) : Type 0 where
   pub id : ℕ
   pub is-one-way : kindOf id ≡ some one-way
-  pub runs : view id (trace fresh cs) .fate ≡ running
-  pub shows : typeShown (W.oneWay [] (view id (trace fresh cs) .shown .bytes)) ≡ some c
+  pub runs : view id t .fate ≡ running
+  pub shows : typeShown (W.oneWay [] (view id t .shown .bytes)) ≡ some c
 
-held-first : (cs : Calls) (c : Once) → Alive (run fresh cs) → Holds (run fresh cs) c → First cs c
+held-first : (cs : Calls) (c : Once) → Alive (run fresh cs) → Holds (run fresh cs) c → First (trace fresh cs) c
 held-first cs c a w = let s = sound-run cs fresh sound-fresh .below (w .id) (w .stream) (w .found) in by (s .kind) (s .is)
   where
-    by : (k : Kind) → kindOf (w .id) ≡ some k → First cs c
+    by : (k : Kind) → kindOf (w .id) ≡ some k → First (trace fresh cs) c
     by request q = absurd (asked-none (w .id) (run fresh cs) (view (w .id) (trace fresh cs)) (w .stream) c a (w .found) (w .is) (agrees story (w .id) cs q))
     by one-way q = record { id = w .id; is-one-way = q; runs = held-is-running cs (w .id) (w .stream) a (w .found); shows = told-type (w .id) (run fresh cs) (view (w .id) (trace fresh cs)) (w .stream) a (w .found) (follows₁ alone (w .id) q cs) ∙ w .is }
 
-abbrev first-held : (cs : Calls) (c : Once) → First cs c → Holds (run fresh cs) c
+abbrev first-held : (cs : Calls) (c : Once) → First (trace fresh cs) c → Holds (run fresh cs) c
 first-held cs c f =
     let h = held-by (f .id) (run fresh cs) (view (f .id) (trace fresh cs)) c (f .runs) (f .shows) (follows₁ alone (f .id) (f .is-one-way) cs) in
     record { id = f .id; stream = h .0; found = h .1 .0; is = h .1 .1 }
 
 -- TYPES SEEN: those of the streams that run, and no others
-abbrev pub Seen : Calls → List ℕ → Type 0
-Seen cs seen = (c : Once) → (isOneOf seen (typeNumber c) ≡ true) ↔ First cs c
+abbrev pub Seen : List (Entry streams) → List ℕ → Type 0
+Seen t seen = (c : Once) → (isOneOf seen (typeNumber c) ≡ true) ↔ First t c
 
-kept-seen : (cs : Calls) → Alive (run fresh cs) → Seen cs (typesIn (run fresh cs .conn .kept))
+kept-seen : (cs : Calls) → Alive (run fresh cs) → Seen (trace fresh cs) (typesIn (run fresh cs .conn .kept))
 kept-seen cs a c =
     let k = run fresh cs .conn .kept in
     let i = typed-from cs fresh sound-fresh typed-fresh in
@@ -395,32 +396,34 @@ fed-fault id p (goes u′ h′ e y) u h q = let z : _≡_ {A = ℕ} 0 1 = cc in 
 fed-fault id p (faults (of-stream k) u′ h′) u h q = let z : _≡_ {A = ℕ} 0 1 = cc in absurd (omega arith)
 fed-fault id p (faults (of-connection k) u′ h′) u h q = cc
 
--- for its own bytes' sake, or, its type not yet shown by the bytes before, as it is where others came
-abbrev pub IsSecond : Calls → (before bytes : List ℕ) → Type 0
-IsSecond cs a b =
-    (faultBy (W.oneWay [] b) ≡ some (of-connection stream-creation-error))
-    ⊎ ((typeShown (W.oneWay [] a) ≡ none) × ((seen : List ℕ) × (Seen cs seen × (faultBy (W.oneWay seen b) ≡ some (of-connection stream-creation-error)))))
+-- its type not yet shown by the bytes before, it is refused as they are where these types came
+abbrev pub Second : List (Entry streams) → (before bytes : List ℕ) → Type 0
+Second t a b = (typeShown (W.oneWay [] a) ≡ none) × ((seen : List ℕ) × (Seen t seen × Struck seen (of-connection stream-creation-error) b))
 
-second-out : (cs : Calls) (a b seen : List ℕ) (x : Option Once) → typeShown (W.oneWay [] a) ≡ x → Seen cs seen
-    → (faultBy (W.oneWay [] b) ≡ some (of-connection stream-creation-error)) ⊎ ((x ≡ none) × (faultBy (W.oneWay seen b) ≡ some (of-connection stream-creation-error))) → IsSecond cs a b
-second-out cs a b seen x z k (inl e) = inl e
-second-out cs a b seen x z k (inr e) = inr (z ∙ e .0, (seen, (k, e .1)))
+-- for its own bytes' sake, or as a second
+abbrev pub IsSecond : List (Entry streams) → (before bytes : List ℕ) → Type 0
+IsSecond t a b = Struck [] (of-connection stream-creation-error) b ⊎ Second t a b
 
-second-by : (id : ℕ) (cs : Calls) (allow u h : ℕ) (piece : List ℕ) (p : Pair streams) (v : View streams) → v .fate ≡ running → call (on id (feed allow piece)) p .answer ≡ code (of-connection stream-creation-error) u h
-    → (Alive p → Seen cs (typesIn (p .conn .kept))) → Agrees (Says alone) (Story₁ alone) id p v → IsSecond cs (v .shown .bytes) (v .shown .bytes ++ take u piece)
+second-out : (t : List (Entry streams)) (a b seen : List ℕ) (x : Option Once) → typeShown (W.oneWay [] a) ≡ x → Seen t seen
+    → Struck [] (of-connection stream-creation-error) b ⊎ ((x ≡ none) × Struck seen (of-connection stream-creation-error) b) → IsSecond t a b
+second-out t a b seen x z k (inl e) = inl e
+second-out t a b seen x z k (inr e) = inr (z ∙ e .0, (seen, (k, e .1)))
+
+second-by : (id : ℕ) (r : List (Entry streams)) (allow u h : ℕ) (piece : List ℕ) (p : Pair streams) (v : View streams) → v .fate ≡ running → call (on id (feed allow piece)) p .answer ≡ code (of-connection stream-creation-error) u h
+    → (Alive p → Seen r (typesIn (p .conn .kept))) → Agrees (Says alone) (Story₁ alone) id p v → IsSecond r (v .shown .bytes) (v .shown .bytes ++ take u piece)
 unfolding actOn act₁
-second-by id cs allow u h piece p v e a k (over {f = f} t n) = absurd (not-running f (story₁ alone .shut t) e)
-second-by id cs allow u h piece p v e a k (open-still {s = s} l (says {w = w} t) g) =
+second-by id r allow u h piece p v e a k (over {f = f} t n) = absurd (not-running f (story₁ alone .shut t) e)
+second-by id r allow u h piece p v e a k (open-still {s = s} l (says {w = w} t) g) =
     let x = streams .feed₁ (p .conn .kept) w allow piece in
     let z = ap (λ r. r .answer) (call-on p id (telling w) (feed allow piece) l g) in
-    second-out cs (s .bytes) (s .bytes ++ take u piece) (typesIn (p .conn .kept)) (isFor w) (type-shown t) (k l) (creation-by s w (p .conn .kept) allow u h piece t (fed-fault id p x u h (sym z ∙ a)))
+    second-out r (s .bytes) (s .bytes ++ take u piece) (typesIn (p .conn .kept)) (isFor w) (type-shown t) (k l) (creation-by s w (p .conn .kept) allow u h piece t (fed-fault id p x u h (sym z ∙ a)))
 
 -- THE SECOND OF ITS TYPE: a feed of a one-way stream is refused with 0x0103 for its own bytes' sake, or, its type not yet shown, as they are where
--- these types came before: exactly those that streams of the trace which run, others than this, have shown
+-- these types came before: exactly those that streams of the trace which run, others than this, have shown; the last byte consumed brings it
 pub second-of-its-type : (id : ℕ) → kindOf id ≡ some one-way → (cs : Calls) (allow u h : ℕ) (piece : List ℕ) → let v = view id (trace fresh cs) in
-    v .fate ≡ running → call (on id (feed allow piece)) (run fresh cs) .answer ≡ code (of-connection stream-creation-error) u h → IsSecond cs (v .shown .bytes) (v .shown .bytes ++ take u piece)
-second-of-its-type id q cs allow u h piece e a = second-by id cs allow u h piece (run fresh cs) (view id (trace fresh cs)) e a (λ l. kept-seen cs l) (follows₁ alone id q cs)
+    v .fate ≡ running → call (on id (feed allow piece)) (run fresh cs) .answer ≡ code (of-connection stream-creation-error) u h → IsSecond (trace fresh cs) (v .shown .bytes) (v .shown .bytes ++ take u piece)
+second-of-its-type id q cs allow u h piece e a = second-by id (trace fresh cs) allow u h piece (run fresh cs) (view id (trace fresh cs)) e a (λ l. kept-seen cs l) (follows₁ alone id q cs)
 
 -- ONE OF A TYPE: two streams of a trace that run and show the same type of these are one
-pub one-of-a-type : (cs : Calls) (c : Once) (f g : First cs c) → f .id ≡ g .id
+pub one-of-a-type : (cs : Calls) (c : Once) (f g : First (trace fresh cs) c) → f .id ≡ g .id
 one-of-a-type cs c f g = typed-from cs fresh sound-fresh typed-fresh .once c (first-held cs c f) (first-held cs c g)

@@ -17,6 +17,7 @@ pub mod First
 pub mod ControlLaws
 pub mod OneWayFeed
 pub mod OneWays
+pub mod OneWayFirst
 pub mod MessageLaws
 pub mod RequestLaws
 pub mod Whole

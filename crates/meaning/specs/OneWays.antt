@@ -71,13 +71,13 @@ one-within-also (of-frames e) u w = within-also e u w
 one-within-also (qpack-bytes q len) u w = omega arith
 
 -- of a control stream whose frames are `rest`, from `next` on
-record OfControl (bytes : List ℕ) (frames : List Saying) (count next : ℕ) (rest : List ℕ) (o : Outcome Control) : Type 0 where
-  state : settled control (length bytes) [] o ≡ run control next (fresh-run control []) rest
+pub record OfControl (bytes : List ℕ) (frames : List Saying) (count next : ℕ) (rest : List ℕ) (o : Outcome Control) : Type 0 where
+  pub state : settled control (length bytes) [] o ≡ run control next (fresh-run control []) rest
   shown : frames ≡ unheaded (lists control next next (fresh-run control []) rest)
   heads : count ≡ headersIn (lists control next next (fresh-run control []) rest)
 
 module _ (seen : List ℕ) where
-  data Holds (bytes : List ℕ) (frames : List Saying) (qpack : List ℕ) (heads : ℕ) : OneOutcome → Type 0 where
+  pub data Holds (bytes : List ℕ) (frames : List Saying) (qpack : List ℕ) (heads : ℕ) : OneOutcome → Type 0 where
     h-type : {g : Prog} → ((y : List ℕ) → integer 0 (bytes ++ y) ≡ resumed g (length bytes) y) → frames ≡ [] → qpack ≡ [] → heads ≡ 0
         → Holds bytes frames qpack heads (lives (in-stream-type g))
     h-refused : {t : ℕ} {code : Code} → integer 0 bytes ≡ got t (length bytes) [] → typeRule seen t ≡ refuse code → frames ≡ [] → qpack ≡ [] → heads ≡ 0
@@ -202,7 +202,7 @@ module _ (seen : List ℕ) where
   feed-went allow piece (h-qpack {q = q} e r f n) = qpack-went q piece e r f n
   feed-went allow piece (h-skipped e r f q n) = skip-went allow piece e r f q n
 
-  abbrev HoldsOf : Done → Type 0
+  abbrev pub HoldsOf : Done → Type 0
   HoldsOf d = Holds (d .bytes) (d .frames) (d .qpack) (d .heads) (d .after)
 
   called-holds : (d : Done) (c : Call) (o : OneOutcome) → d .after ≡ o → HoldsOf d → HoldsOf (called seen d c o)
@@ -210,7 +210,7 @@ module _ (seen : List ℕ) where
   called-holds d (feed-call allow piece) (lives s) e h = feed-went allow {s = s} piece (rw e at h) .holds
   called-holds d (feed-call allow piece) (dies code) e h = h
 
-  calls-hold : (d : Done) (cs : List Call) → HoldsOf d → HoldsOf (calls seen d cs)
+  pub calls-hold : (d : Done) (cs : List Call) → HoldsOf d → HoldsOf (calls seen d cs)
   unfolding calls
   calls-hold d [] h = h
   calls-hold d (c ∷ cs) h = calls-hold (called seen d c (d .after)) cs (called-holds d c (d .after) refl h)
@@ -245,7 +245,7 @@ module _ (seen : List ℕ) where
   came d o a (h-qpack e r f n) = rw (e, behind-type, r) (a-qpack-stream a f n)
   came d o a (h-skipped e r f q n) = rw (e, behind-type, r) (a-skipped-stream a f q n)
 
-  first-holds : HoldsOf nothing-done
+  pub first-holds : HoldsOf nothing-done
   unfolding nothing-done resumed
   first-holds = h-type {g = fresh} (λ y. refl) refl refl refl
 

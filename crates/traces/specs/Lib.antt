@@ -11,6 +11,7 @@ pub mod Oneways
 pub mod Kept
 pub mod Demands
 pub mod Progress
+pub mod Why
 pub mod Leaves
 pub mod Ledger
 pub mod Opening
