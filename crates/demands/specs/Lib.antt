@@ -33,3 +33,7 @@ pub mod Others
 pub mod Instances
 pub mod Types
 pub mod Exported
+pub mod Allowed
+pub mod Events
+pub mod WrongEvents
+pub mod ExportedEvents

@@ -130,13 +130,13 @@ request-within r allow piece =
     request-by allow piece (f .used) (f .heads) (f .event) (f .after) (record { fits = w .fits; allowed = feed-allows (asking-rules document) allow r piece }) (w .within)
 
 -- of a one-way stream only QPACK bytes are a part
-abbrev OneWithin : O.OneEvent → ℕ → Type 0
+abbrev pub OneWithin : O.OneEvent → ℕ → Type 0
 OneWithin (O.of-frames e) u = Unit {0}
 OneWithin (O.qpack-bytes q len) u = len ≤ u
 
-record OneFits (piece : List ℕ) (f : O.OneFeeding) : Type 0 where
-  fits : f .used ≤ length piece
-  within : OneWithin (f .event) (f .used)
+pub record OneFits (piece : List ℕ) (f : O.OneFeeding) : Type 0 where
+  pub fits : f .used ≤ length piece
+  pub within : OneWithin (f .event) (f .used)
 
 also-within : (e : O.OneEvent) (u : ℕ) → OneWithin e u → OneWithin e (suc u)
 also-within (O.of-frames e) u w = tt
@@ -172,7 +172,7 @@ module _ (seen : List ℕ) (allow : ℕ) where
       by next (M.going g′) = next g′
       by next (M.value t) = typed-fits allow (typeRule seen t) bs
 
-  one-fits : (s : O.OneState) (piece : List ℕ) → OneFits piece (O.feed seen allow s piece)
+  pub one-fits : (s : O.OneState) (piece : List ℕ) → OneFits piece (O.feed seen allow s piece)
   unfolding O.feed O.kind-feed O.typed-feed
   one-fits (O.in-stream-type g) piece = type-fits piece g
   one-fits (O.in-control s) piece = control-fits allow s piece

@@ -66,7 +66,7 @@ module _ (S : Server) where
 abbrev pub ours : Server
 ours = record { State = Pair streams; begins = fresh; answers = λ p c. call c p .answer; goes-on = λ p c. call c p .after }
 
-same-trace : (p : Pair streams) (cs : List (Call streams)) → tracedFrom ours p cs ≡ trace p cs
+pub same-trace : (p : Pair streams) (cs : List (Call streams)) → tracedFrom ours p cs ≡ trace p cs
 unfolding tracedFrom trace
 same-trace p [] = refl
 same-trace p (c ∷ cs) = ap (λ t. record { asked = c; answer = call c p .answer } ∷ t) (same-trace (call c p .after) cs)
@@ -76,7 +76,7 @@ unfolding after run
 same-run p [] = refl
 same-run p (c ∷ cs) = same-run (call c p .after) cs
 
-same-next : (cs : List (Call streams)) (c : Call streams) → next ours cs c ≡ call c (run fresh cs) .answer
+pub same-next : (cs : List (Call streams)) (c : Call streams) → next ours cs c ≡ call c (run fresh cs) .answer
 same-next cs c = ap (λ p. call c p .answer) (same-run fresh cs)
 
 pub ours-meets : Promised ours
