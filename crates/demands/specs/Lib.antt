@@ -37,3 +37,4 @@ pub mod Allowed
 pub mod Events
 pub mod WrongEvents
 pub mod ExportedEvents
+pub mod InMemory
