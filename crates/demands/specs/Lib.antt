@@ -37,4 +37,8 @@ pub mod Allowed
 pub mod Events
 pub mod WrongEvents
 pub mod ExportedEvents
+pub mod OneWayAllowed
 pub mod InMemory
+pub mod Rebuilt
+pub mod ExportedMemory
+pub mod RunInMemory
