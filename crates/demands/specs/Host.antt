@@ -222,7 +222,7 @@ seen-whole ks k w = subst (λ a. SaysWhole (seenOf k a)) (sym (whole-only ks k .
 
 -- ---- a stream after one call more
 
-view-last : (id : ℕ) (v : View streams) (p : Pair streams) (ks : Calls) (k : Call streams) → viewFrom id v (trace p (ks ++ (k ∷ []))) ≡ shown-by.seen id k (call k (run p ks) .answer) (viewFrom id v (trace p ks))
+pub view-last : (id : ℕ) (v : View streams) (p : Pair streams) (ks : Calls) (k : Call streams) → viewFrom id v (trace p (ks ++ (k ∷ []))) ≡ shown-by.seen id k (call k (run p ks) .answer) (viewFrom id v (trace p ks))
 unfolding viewFrom trace run
 view-last id v p [] k = refl
 view-last id v p (j ∷ ks) k = view-last id (shown-by.seen id j (call j p .answer) v) (call j p .after) ks k

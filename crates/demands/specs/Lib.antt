@@ -36,3 +36,12 @@ pub mod Faults
 pub mod OneWayInstances
 pub mod WrongOneWays
 pub mod Exported
+pub mod Allowed
+pub mod Events
+pub mod WrongEvents
+pub mod ExportedEvents
+pub mod OneWayAllowed
+pub mod InMemory
+pub mod Rebuilt
+pub mod ExportedMemory
+pub mod RunInMemory

@@ -130,13 +130,13 @@ request-within r allow piece =
     request-by allow piece (f .used) (f .heads) (f .event) (f .after) (record { fits = w .fits; allowed = feed-allows (asking-rules document) allow r piece }) (w .within)
 
 -- of a one-way stream only QPACK bytes are a part
-abbrev OneWithin : O.OneEvent → ℕ → Type 0
+abbrev pub OneWithin : O.OneEvent → ℕ → Type 0
 OneWithin (O.of-frames e) u = Unit {0}
 OneWithin (O.qpack-bytes q len) u = len ≤ u
 
-record OneFits (piece : List ℕ) (f : O.OneFeeding) : Type 0 where
-  fits : f .used ≤ length piece
-  within : OneWithin (f .event) (f .used)
+pub record OneFits (piece : List ℕ) (f : O.OneFeeding) : Type 0 where
+  pub fits : f .used ≤ length piece
+  pub within : OneWithin (f .event) (f .used)
 
 also-within : (e : O.OneEvent) (u : ℕ) → OneWithin e u → OneWithin e (suc u)
 also-within (O.of-frames e) u w = tt
@@ -172,7 +172,7 @@ module _ (seen : List ℕ) (allow : ℕ) where
       by next (M.going g′) = next g′
       by next (M.value t) = typed-fits allow (typeRule seen t) bs
 
-  one-fits : (s : O.OneState) (piece : List ℕ) → OneFits piece (O.feed seen allow s piece)
+  pub one-fits : (s : O.OneState) (piece : List ℕ) → OneFits piece (O.feed seen allow s piece)
   unfolding O.feed O.kind-feed O.typed-feed
   one-fits (O.in-stream-type g) piece = type-fits piece g
   one-fits (O.in-control s) piece = control-fits allow s piece
@@ -325,7 +325,7 @@ AtRest (lives (in-payload u k l p)) = ⊥
 AtRest (lives (due t p)) = Unit {0}
 AtRest (dies n) = Unit {0}
 
-abbrev InHeader : {P : Type 0} → State P → Type 0
+abbrev pub InHeader : {P : Type 0} → State P → Type 0
 InHeader (in-type M.fresh p) = ⊥
 InHeader (in-type (M.need k v) p) = Unit {0}
 InHeader (in-length t g p) = Unit {0}
@@ -403,7 +403,7 @@ module _ (G : Grammar) where
   feed-rests n (due t p) h (b ∷ bs) = at-rest tt
 
   -- and then it uses nothing
-  feed-held : (s : State (G .P)) → InHeader s → (bs : List ℕ) → F.feed G zero s bs .used ≡ 0
+  pub feed-held : (s : State (G .P)) → InHeader s → (bs : List ℕ) → F.feed G zero s bs .used ≡ 0
   unfolding F.feed halt
   feed-held s i [] = refl
   feed-held (in-type g p) i (b ∷ bs) = refl
@@ -411,7 +411,7 @@ module _ (G : Grammar) where
   feed-held (in-payload u k l p) i (b ∷ bs) = absurd i
   feed-held (due t p) i (b ∷ bs) = absurd i
 
-  in-header : (s : State (G .P)) → Dec (InHeader s)
+  pub in-header : (s : State (G .P)) → Dec (InHeader s)
   in-header (in-type M.fresh p) = no (λ i. i)
   in-header (in-type (M.need k v) p) = yes tt
   in-header (in-length t g p) = yes tt
@@ -477,7 +477,7 @@ module _ (r r′ : State Message) (allow u h : ℕ) (piece : List ℕ) (e : Even
       by (at-rest a) = subst AtRest (was .0) a
       by (all-used n) = absurd (omega (arith, m, n, was .1))
 
-got-fed : {M : Machine} (id : ℕ) (p : Pair M) (f : M .Request → Held M) (u h : ℕ) (e : Event) (d : Bool) (x : Fed (M .Request))
+pub got-fed : {M : Machine} (id : ℕ) (p : Pair M) (f : M .Request → Held M) (u h : ℕ) (e : Event) (d : Bool) (x : Fed (M .Request))
     → settle id p (mapOut f (either d (stream.refuse section-due) (ofFed x))) .answer ≡ gave (fed u h e) → (d ≡ false) × ((r : M .Request) × (x ≡ goes u h e r))
 unfolding settle mapOut either ofFed same with faulted
 got-fed id p f u h e true x q = absurd (no-house q)
@@ -485,7 +485,7 @@ got-fed id p f u h e false (goes u′ h′ e′ r) q = (refl, (r, cc))
 got-fed id p f u h e false (faults (of-stream k) u′ h′) q = absurd (no-code q)
 got-fed id p f u h e false (faults (of-connection k) u′ h′) q = absurd (no-code q)
 
-suits-run : (cs : List (Call streams)) (p : Pair streams) → RowSuits (p .row) → RowSuits (run p cs .row)
+pub suits-run : (cs : List (Call streams)) (p : Pair streams) → RowSuits (p .row) → RowSuits (run p cs .row)
 unfolding run
 suits-run [] p w = w
 suits-run (c ∷ cs) p w = suits-run cs (call c p .after) (suits-call c p w)
@@ -612,7 +612,7 @@ one-stopped allow piece u h (O.of-frames (F.content-bytes len)) o s w a l x = ab
 one-stopped allow piece u h (O.of-frames (F.taken k payload)) o s (y, q, j) a l x = at-event (taken-loud k (j .place) (j .next) payload (j .fits) (j .is))
 one-stopped allow piece u h (O.qpack-bytes q len) o s w a l x = at-event tt
 
-heard-goes : (k : Keeps) (u₀ h₀ : ℕ) (e₀ : O.OneEvent) (o : O.OneOutcome) {u h : ℕ} {e : Event} {x : Both streams} → heardBy k u₀ h₀ e₀ o ≡ goes u h e x
+pub heard-goes : (k : Keeps) (u₀ h₀ : ℕ) (e₀ : O.OneEvent) (o : O.OneOutcome) {u h : ℕ} {e : Event} {x : Both streams} → heardBy k u₀ h₀ e₀ o ≡ goes u h e x
     → (s : O.OneState) × (o ≡ O.lives s) × (u₀ ≡ u) × (h₀ ≡ h) × (oneEvent u₀ e₀ ≡ e)
 unfolding heardBy
 heard-goes k u₀ h₀ e₀ (O.lives s) q = (s, refl, cc, cc, cc)
@@ -625,7 +625,7 @@ heard-stopped k w allow u h piece e x f q =
     let g = heard-goes k (o .used) (o .heads) (o .event) (o .after) q in
     rw (← g .2, ← g .3, ← g .4) (one-stopped allow piece (o .used) (o .heads) (o .event) (o .after) (g .0) (y .event) (y .after) (g .1) (one-stops (typesIn k) allow w piece))
 
-got-heard : {M : Machine} {X : Type 0} (id : ℕ) (p : Pair M) (f : X → Held M) (u h : ℕ) (e : Event) (x : Fed X) → settle id p (mapOut f (ofFed x)) .answer ≡ gave (fed u h e) → (y : X) × (x ≡ goes u h e y)
+pub got-heard : {M : Machine} {X : Type 0} (id : ℕ) (p : Pair M) (f : X → Held M) (u h : ℕ) (e : Event) (x : Fed X) → settle id p (mapOut f (ofFed x)) .answer ≡ gave (fed u h e) → (y : X) × (x ≡ goes u h e y)
 unfolding settle mapOut ofFed with faulted
 got-heard id p f u h e (goes u′ h′ e′ y) q = (y, cc)
 got-heard id p f u h e (faults (of-stream k) u′ h′) q = absurd (no-code q)

@@ -344,6 +344,11 @@ been at-first = been-first
 been (by-feed {s = s} {r = r} {r′ = r′} {allow = allow} {u = u} {h = h} {piece = piece} {e = e} t d q) = been-goes s r r′ allow u h piece e (been t) q
 been (by-section {s = s} {r = r} {r′ = r′} {b = b} t d y q) = been-sound s r r′ b d (been t) q
 
+-- where the definition's machine is behind what such a stream has shown
+pub runs-there : {s : Shown streams} {r : M.State Message} → Reached s r → (bl : List Section)
+    → M.settled G (length (s .bytes)) bl (M.lives r) ≡ M.run G 0 (M.fresh-run G (sectionsOf (s .sections) ++ bl)) (s .bytes)
+runs-there {s} {r} t bl = been-runs s (M.lives r) (been t) bl
+
 -- a fault is silent, so the bytes up to it are all that it adds
 been-dead : (s : Shown streams) (r : M.State Message) (allow u h : ℕ) (code : Code) (piece : List ℕ) → Been s (M.lives r) → let f = F.feed G allow r piece in
     f .after ≡ M.dies code → f .used ≡ u → f .heads ≡ h → Been (plusBytes u h piece s) (M.dies code)
