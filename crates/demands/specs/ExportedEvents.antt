@@ -5,13 +5,14 @@ use mathlib.Core.List.{List, _++_}
 use mathlib.Core.Option.{some}
 use lib.ListN.{take}
 use Rattle.traces.specs.Stream.{Event, fed, feed}
-use Rattle.traces.specs.Board.{request, one-way, kindOf, on, Answer, gave, call, run, fresh}
+use Rattle.traces.specs.Board.{request, one-way, kindOf, on, Answer, gave, call, run, fresh, trace}
 use Rattle.traces.specs.View.{running}
 use Rattle.demands.specs.Demands.{Calls}
 use Rattle.demands.specs.Means.{reportOf}
 use Rattle.demands.specs.Runs.{Seen, feeds}
 use Rattle.demands.specs.Host.{Run, shows, reports}
 use Rattle.demands.specs.Exports.{FeedSays, World, OfFeed, of-feed}
+use Rattle.demands.specs.Faults.{Moves₁, one-way-progress}
 use Rattle.demands.specs.Events.{RequestEvent, OneWayEvent, shownBy, request-events, one-way-events}
 use Rattle.demands.specs.Allowed.{NoFurther, no-further-header}
 
@@ -39,4 +40,16 @@ demand-2-one-way-events w = of-feed w OneWayReports (λ c rows id piece allow r 
   call k (run fresh ks) .answer,
   reports s k (feeds m),
   λ u h e z. one-way-events id q ks allow u h piece e n z,
+)))
+
+-- A FEED OF A ONE-WAY STREAM that runs: a code only for a fault that the bytes brought, or as the second of its type; else it gets on
+abbrev pub OneWayFeeds : FeedSays
+OneWayFeeds c rows id piece allow r c′ rows′ = (ks : Calls) (xs : List Seen) → Run ks xs c rows → kindOf id ≡ some one-way → shows id ks .fate ≡ running
+    → (a : Answer) × (r ≡ reportOf a) × Moves₁ (trace fresh ks) (shows id ks .shown) allow piece a
+
+pub demand-2-one-way-feed : (w : World) → OfFeed w OneWayFeeds
+demand-2-one-way-feed w = of-feed w OneWayFeeds (λ c rows id piece allow r c′ rows′ m ks xs s q n. (let k = on id (feed allow piece) in (
+  call k (run fresh ks) .answer,
+  reports s k (feeds m),
+  one-way-progress id q ks allow piece n,
 )))
