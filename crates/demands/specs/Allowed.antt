@@ -17,9 +17,8 @@ use Rattle.meaning.specs.Machine.{State, in-type, in-length, in-payload, due, O
 use Rattle.meaning.specs.Feed as F
 use Rattle.meaning.specs.Feed.{Feeding, halt, also, onward, judged-event, left-event, over-event, behind-header, taking}
 use Rattle.meaning.specs.Cut.{read-is}
-use Rattle.traces.specs.Stream.{Event, goes, fed, feed, act}
-use Rattle.traces.specs.Board.{request, kindOf, asking, Pair, Call, on, gave, fresh, call, run, trace}
-use Rattle.traces.specs.View.{Shown, running, View, plusFeed, view}
+use Rattle.rules.specs.Calls.{Event, goes, fed, feed, act, request, kindOf, asking, Pair, Call, on, gave, fresh, call, run, trace}
+use Rattle.rules.specs.Shown.{Shown, running, View, plusFeed, view}
 use Rattle.traces.specs.Alone.{call-on-asking}
 use Rattle.traces.specs.Follow.{Agrees, open-still, over, agrees, not-running}
 use Rattle.traces.specs.Story.{Reached, by-feed, Asks, asks, Story, story, shut}

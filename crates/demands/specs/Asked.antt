@@ -15,9 +15,8 @@ use Rattle.rules.specs.Request.{document, request}
 use Rattle.meaning.specs.Machine as M
 use Rattle.meaning.specs.Machine.{State, Outcome}
 use Rattle.meaning.specs.Feed as F
-use Rattle.traces.specs.Stream as trace
-use Rattle.traces.specs.Stream.{Own, Gave, done, Out, refuse, step, ofFed, ofGiven, ofEnded, mapOut, either, act}
-use Rattle.traces.specs.Board.{asking, held, Held, gave, keeping, actOn}
+use Rattle.rules.specs.Calls as trace
+use Rattle.rules.specs.Calls.{Own, Gave, done, Out, refuse, step, ofFed, ofGiven, ofEnded, mapOut, either, act, asking, held, Held, gave, keeping, actOn}
 use Rattle.record.specs.declared.Record.{Record}
 use Rattle.record.specs.Row.{requestRecord, free-record}
 use Rattle.requests.specs.declared.Reply.{Reply}

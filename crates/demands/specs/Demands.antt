@@ -15,9 +15,8 @@ use Rattle.rules.specs.Control.{Control}
 use Rattle.rules.specs.Legal.{Legal}
 use Rattle.rules.specs.OneWay.{oneWay}
 use Rattle.meaning.specs.Whole.{whole-iff-legal}
-use Rattle.traces.specs.Stream.{Own, feed, section, end, reset}
-use Rattle.traces.specs.Board.{request, one-way, kindOf, Call, on, fresh, call, run, trace}
-use Rattle.traces.specs.View.{running, ended, refused, view}
+use Rattle.rules.specs.Calls.{Own, feed, section, end, reset, request, one-way, kindOf, Call, on, fresh, call, run, trace}
+use Rattle.rules.specs.Shown.{running, ended, refused, view}
 use Rattle.traces.specs.Follow.{Agrees}
 use Rattle.traces.specs.Oneways.{Says, Story₁, follows₁}
 use Rattle.traces.specs.Kept as K

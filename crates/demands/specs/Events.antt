@@ -21,9 +21,8 @@ use Rattle.meaning.specs.Feed as F
 use Rattle.meaning.specs.Feed.{Feeding, halt, also, named, taking}
 use Rattle.meaning.specs.EveryFeed.{every-feed}
 use Rattle.meaning.specs.OneWayFeed as O
-use Rattle.traces.specs.Stream.{Notice, qpack-bytes, settings, client-goaway, max-push-id, Event, quiet, section-bytes, content-bytes, notice, sectionIn, part, Fed, goes, fed, feed, act, act₁, Machine}
-use Rattle.traces.specs.Board.{request, one-way, kindOf, asking, telling, Pair, Call, on, gave, actOn, fresh, call, run, trace}
-use Rattle.traces.specs.View.{Shown, running, View, plusFeed, view}
+use Rattle.rules.specs.Calls.{Notice, qpack-bytes, settings, client-goaway, max-push-id, Event, quiet, section-bytes, content-bytes, notice, sectionIn, part, Fed, goes, fed, feed, act, act₁, Machine, request, one-way, kindOf, asking, telling, Pair, Call, on, gave, actOn, fresh, call, run, trace}
+use Rattle.rules.specs.Shown.{Shown, running, View, plusFeed, view}
 use Rattle.traces.specs.Alone.{call-on-asking, call-on}
 use Rattle.traces.specs.Follow.{Agrees, open-still, over, agrees, not-running}
 use Rattle.traces.specs.Oneways.{Both, Like, goes-alike, faults-alike, second, Reached₁, by-feed, Story₁, Says, says, story₁}

@@ -14,11 +14,9 @@ use Rattle.meaning.specs.FrameLaws.{head}
 use Rattle.meaning.specs.IntegerLaws.{Bytes}
 use Rattle.meaning.specs.WriterLaws.{FrameBack}
 use Rattle.rules.specs.Numbers.{OTHER-ROW, Code, of-stream, codeNumber}
-use Rattle.traces.specs.Stream.{feed, section, end}
-use Rattle.traces.specs.Board.{request, one-way, kindOf, find, open′, on, goaway, Answer, call, run, fresh, trace}
-use Rattle.traces.specs.View.{View, running, ended, refused}
+use Rattle.rules.specs.Calls.{feed, section, end, request, one-way, kindOf, find, open′, on, goaway, Answer, call, run, fresh, trace}
+use Rattle.rules.specs.Shown.{View, running, ended, refused, ledger}
 use Rattle.traces.specs.Alone.{Aside}
-use Rattle.traces.specs.Ledger.{ledger}
 use Rattle.traces.specs.Demands.{Tells, Struck, endAnswer, all-refused}
 use Rattle.traces.specs.Progress.{Moves, awaits, faulty, moved, Takes, not-due, not-readable, unfit, taken}
 use Rattle.varint.specs.declared.Wrote.{Wrote}

@@ -4,9 +4,8 @@ use Prim.Native.Nat.{ℕ, _≤_}
 use mathlib.Core.List.{List, _++_}
 use mathlib.Core.Option.{some}
 use lib.ListN.{take}
-use Rattle.traces.specs.Stream.{Event, fed, feed}
-use Rattle.traces.specs.Board.{request, one-way, kindOf, on, Answer, gave, call, run, fresh, trace}
-use Rattle.traces.specs.View.{running}
+use Rattle.rules.specs.Calls.{Event, fed, feed, request, one-way, kindOf, on, Answer, gave, call, run, fresh, trace}
+use Rattle.rules.specs.Shown.{running}
 use Rattle.demands.specs.Demands.{Calls}
 use Rattle.demands.specs.Means.{reportOf}
 use Rattle.demands.specs.Runs.{Seen, feeds}

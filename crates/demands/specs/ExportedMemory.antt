@@ -5,7 +5,7 @@ use mathlib.Core.List.{List, [], _∷_, _++_}
 use mathlib.Core.Option.{some}
 use lib.ListN.{length}
 use Rattle.rules.specs.Numbers.{not-24}
-use Rattle.traces.specs.Board.{request, kindOf, house}
+use Rattle.rules.specs.Calls.{request, kindOf, house}
 use Rattle.demands.specs.LongerStreams.{headerOf}
 use Rattle.demands.specs.Demands.{Calls}
 use Rattle.demands.specs.Runs.{Seen, seenOf, numberIn}

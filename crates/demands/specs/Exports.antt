@@ -19,8 +19,7 @@ use denote.Triple.Clauses.{AtExit, Clauses, closing}
 use denote.Triple.Clauses as kit
 use denote.Triple.Table.{run-framed}
 use denote.Triple.Weaken.{weaken}
-use Rattle.traces.specs.Stream.{feed, section, end, reset}
-use Rattle.traces.specs.Board.{Call, start, open′, on, goaway}
+use Rattle.rules.specs.Calls.{feed, section, end, reset, Call, start, open′, on, goaway}
 use Rattle.record.specs.declared.Record.{Record}
 use Rattle.connection.specs.declared.Connection.{Connection}
 use Rattle.connection.specs.declared.Report.{Report}

@@ -13,9 +13,8 @@ use Rattle.rules.specs.OneWay.{oneWay}
 use Rattle.meaning.specs.OneWayFeed as O
 use Rattle.meaning.specs.OneWays.{one-moves}
 use Rattle.meaning.specs.OneWayFirst.{FaultAt, Struck, NoFault, goes-on, one-fault, same-alone}
-use Rattle.traces.specs.Stream.{Event, Fed, goes, feed, ofFed, mapOut, fed, act₁}
-use Rattle.traces.specs.Board.{request, one-way, kindOf, telling, Pair, Call, on, Answer, gave, code, Entry, with, faulted, settle, actOn, fresh, call, run, trace}
-use Rattle.traces.specs.View.{Shown, Fate, unopened, spent, running, ended, dropped, refused, lost, View, plusFeed, plusBytes, mine, view}
+use Rattle.rules.specs.Calls.{Event, Fed, goes, feed, ofFed, mapOut, fed, act₁, request, one-way, kindOf, telling, Pair, Call, on, Answer, gave, code, Entry, with, faulted, settle, actOn, fresh, call, run, trace}
+use Rattle.rules.specs.Shown.{Shown, Fate, unopened, spent, running, ended, dropped, refused, lost, View, plusFeed, plusBytes, mine, view}
 use Rattle.traces.specs.Alone.{call-on}
 use Rattle.traces.specs.Follow.{Agrees, open-still, over, not-running}
 use Rattle.traces.specs.Oneways.{Both, Like, goes-alike, faults-alike, second, Reached₁, at-first, by-feed, Story₁, not-yet, never, cut-off, closed, closed-critical, bad-feed, second-of-type, Says, says, story₁, follows₁}

@@ -10,11 +10,10 @@ use mathlib.Core.Option.{some}
 use lib.ListN.{length}
 use Rattle.rules.specs.Numbers as table
 use Rattle.rules.specs.Numbers.{of-stream, of-connection}
-use Rattle.traces.specs.Stream.{qpack-bytes, settings, client-goaway, max-push-id, quiet, section-bytes, content-bytes, notice, Own, end, done, fed, whole, freed}
-use Rattle.traces.specs.Board.{request, kindOf, Pair, Call, start, open′, on, goaway, Answer, gave, left, house, code, call, run, fresh, trace}
+use Rattle.rules.specs.Calls.{qpack-bytes, settings, client-goaway, max-push-id, quiet, section-bytes, content-bytes, notice, Own, end, done, fed, whole, freed, request, kindOf, Pair, Call, start, open′, on, goaway, Answer, gave, left, house, code, call, run, fresh, trace}
 use Rattle.traces.specs.Row.{pick-yes}
-use Rattle.traces.specs.View as shown-by
-use Rattle.traces.specs.View.{View, running, ended, ifRunning, mine, viewFrom, view}
+use Rattle.rules.specs.Shown as shown-by
+use Rattle.rules.specs.Shown.{View, running, ended, ifRunning, mine, viewFrom, view}
 use Rattle.record.specs.declared.Record.{Record}
 use Rattle.connection.specs.declared.Connection.{Connection}
 use Rattle.connection.specs.declared.Report.{Report}

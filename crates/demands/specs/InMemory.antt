@@ -28,8 +28,7 @@ use Rattle.meaning.specs.EveryFeed.{feed-allows}
 use Rattle.meaning.specs.OneWayFeed as O
 use Rattle.meaning.specs.OneWayFeed.{OneState, OneOutcome, OneEvent}
 use Rattle.meaning.specs.OneWays.{one-allows}
-use Rattle.traces.specs.Stream.{Own, feed, section, end, reset}
-use Rattle.traces.specs.Board.{Call, start, open′, on, goaway}
+use Rattle.rules.specs.Calls.{Own, feed, section, end, reset, Call, start, open′, on, goaway}
 use Rattle.record.specs.declared.Record.{Record}
 use Rattle.record.specs.Row.{free-record}
 use Rattle.requests.specs.declared.Reply.{Reply}

@@ -21,10 +21,8 @@ use Rattle.meaning.specs.Feed as F
 use Rattle.meaning.specs.OneWayFeed as O
 use Rattle.meaning.specs.FrameLaws.{head}
 use Rattle.meaning.specs.Feeds.{headersIn}
-use Rattle.traces.specs.Stream.{settings, section-bytes, content-bytes, part, contentIn, sectionIn, noticesIn, qpackIn, done, fed, whole, freed, feed, section, end, reset, ofFed, ofGiven, ofEnded, mapOut, toldBy, act, act₁, either}
-use Rattle.traces.specs.Board.{pick, kindOf, over, Call, open′, on, gave, left, house, code, nextOf, spend, keeping, killed, barred, find, put, behind, seat, same, with, alive, fresh, first, seated, opening, faulted, actOn, settle, acting, higher, goodGoaway, goawaySize, sending, call, run, trace}
-use Rattle.traces.specs.View.{ended, refused, View, nothing, plusFeed, plusBytes, plusSection, fedly, mine, ifRunning, opened, unseen, seen, viewFrom, view}
-use Rattle.traces.specs.Ledger.{ledger, ledgerFrom, noted, dies, opens, counts, blank}
+use Rattle.rules.specs.Calls.{settings, section-bytes, content-bytes, part, contentIn, sectionIn, noticesIn, qpackIn, done, fed, whole, freed, feed, section, end, reset, ofFed, ofGiven, ofEnded, mapOut, toldBy, act, act₁, either, pick, kindOf, over, Call, open′, on, gave, left, house, code, nextOf, spend, keeping, killed, barred, find, put, behind, seat, same, with, alive, fresh, first, seated, opening, faulted, actOn, settle, acting, higher, goodGoaway, goawaySize, sending, call, run, trace}
+use Rattle.rules.specs.Shown.{ended, refused, View, nothing, plusFeed, plusBytes, plusSection, fedly, mine, ifRunning, opened, unseen, seen, viewFrom, view, ledger, ledgerFrom, noted, dies, opens, counts, blank}
 use Rattle.traces.specs.Demands.{endAnswer, Struck, SameOutput, is-ended}
 use Rattle.traces.specs.Progress.{Moves, Takes, a-feed}
 use Rattle.demands.specs.Streams.{streamCode, connCode, isDue, eventOf, fedBy, isReadable, sectionOf, givenBy, endedBy, came, typesIn, noticeOf, framesEvent, oneEvent, heardBy, streams}

@@ -5,8 +5,7 @@ use mathlib.Core.List.{List, map}
 use mathlib.Core.Bool.{Bool, true, false}
 use mathlib.Core.Option.{Option, none, some}
 use Rattle.rules.specs.Numbers.{houseNumber, ConnectionFault, codeNumber, Code, coded}
-use Rattle.traces.specs.Stream.{Notice, qpack-bytes, settings, client-goaway, max-push-id, Event, quiet, section-bytes, content-bytes, notice, Own, feed, section, end, reset, done, fed, whole, freed}
-use Rattle.traces.specs.Board.{asking, telling, Slot, free, held, Row, Conn, Pair, Call, open′, on, Answer, gave, left, house, code, goawaySize}
+use Rattle.rules.specs.Calls.{Notice, qpack-bytes, settings, client-goaway, max-push-id, Event, quiet, section-bytes, content-bytes, notice, Own, feed, section, end, reset, done, fed, whole, freed, asking, telling, Slot, free, held, Row, Conn, Pair, Call, open′, on, Answer, gave, left, house, code, goawaySize}
 use Rattle.control.specs.Rules.{controlOf}
 use Rattle.record.specs.declared.Record.{Record}
 use Rattle.requests.specs.Reply.{stateIn}

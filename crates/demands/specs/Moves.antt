@@ -18,7 +18,7 @@ use Rattle.meaning.specs.Feed as F
 use Rattle.meaning.specs.EveryFeed.{ReadsOn, feed-moves}
 use Rattle.meaning.specs.OneWayFeed as O
 use Rattle.meaning.specs.TextLaws.{lookup-absent}
-use Rattle.traces.specs.Stream.{Event, Fed, goes, faults}
+use Rattle.rules.specs.Calls.{Event, Fed, goes, faults}
 use Rattle.traces.specs.Oneways.{Both, Like, goes-alike, faults-alike, second, ByItself}
 use Rattle.traces.specs.Kept.{Steps, tells-nothing, becomes, tells-on}
 use Rattle.demands.specs.Becomes.{as-control, isFor, typeNumber, Unseen, type-unseen}

@@ -21,9 +21,8 @@ use Rattle.meaning.specs.Feed as F
 use Rattle.meaning.specs.Feeds.{feed-runs}
 use Rattle.meaning.specs.OneWayFeed as O
 use Rattle.meaning.specs.OneWays.{resumed}
-use Rattle.traces.specs.Stream.{Event, Fed, goes, fed, feed, act₁}
-use Rattle.traces.specs.Board.{one-way, kindOf, telling, Pair, Call, on, gave, actOn, fresh, call, run, trace}
-use Rattle.traces.specs.View.{Shown, running, View, nothing, plusFeed, view}
+use Rattle.rules.specs.Calls.{Event, Fed, goes, fed, feed, act₁, one-way, kindOf, telling, Pair, Call, on, gave, actOn, fresh, call, run, trace}
+use Rattle.rules.specs.Shown.{Shown, running, View, nothing, plusFeed, view}
 use Rattle.traces.specs.Alone.{call-on}
 use Rattle.traces.specs.Follow.{Agrees, open-still, over, agrees, not-running}
 use Rattle.traces.specs.Oneways.{Both, Reached₁, at-first, by-feed, Story₁, Says, says, story₁}

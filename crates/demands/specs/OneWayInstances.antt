@@ -7,9 +7,8 @@ use Rattle.rules.specs.Numbers.{missing-settings, stream-creation-error, of-con
 use Rattle.meaning.specs.Feed as F
 use Rattle.meaning.specs.OneWayFeed as O
 use Rattle.meaning.specs.OneWayFirst.{Struck, NoFault}
-use Rattle.traces.specs.Stream.{client-goaway, notice, fed, feed, toldBy, partBy, ofType, act₁}
-use Rattle.traces.specs.Board.{Call, open′, on, gave, code, Entry, fresh, trace}
-use Rattle.traces.specs.View.{refused, view}
+use Rattle.rules.specs.Calls.{client-goaway, notice, fed, feed, toldBy, partBy, ofType, act₁, Call, open′, on, gave, code, Entry, fresh, trace}
+use Rattle.rules.specs.Shown.{refused, view}
 use Rattle.demands.specs.Streams.{came, typesIn, keptBy, placeIn, typeOf, noticeOf, framesEvent, oneEvent, heardBy, streams}
 use Rattle.demands.specs.Faults.{Brought, of-its-bytes, Moves₁, one-way-progress, one-way-of-the-bytes, one-way-fares, one-way-any-cutting}
 use Rattle.demands.specs.Instances.{shows, control-open}

@@ -19,9 +19,8 @@ use Rattle.meaning.specs.EveryFeed.{ReadsOn, feed-silent}
 use Rattle.meaning.specs.OneWayFeed as O
 use Rattle.meaning.specs.OneWayFirst.{Struck, NoFault, calls-struck, calls-unhurt}
 use Rattle.meaning.specs.OneWays.{Came, still-untyped, type-refused, a-control-stream, a-qpack-stream, a-skipped-stream, calls-read, always-reads, ReadsOnOne}
-use Rattle.traces.specs.Stream.{Notice, toldBy, noticesIn, ofType, partBy, qpackIn, Event, contentIn, sectionIn, Fed, goes, faults, end, reset, ofClosed, mapOut, freed, act₁}
-use Rattle.traces.specs.Board.{one-way, kindOf, telling, Pair, Call, on, Answer, left as is-left, code as is-code, with, faulted, settle, actOn, fresh, call, run, trace}
-use Rattle.traces.specs.View.{Shown, Fate, unopened, spent, running, ended, dropped, refused, lost, View, nothing, plusFeed, plusBytes, view}
+use Rattle.rules.specs.Calls.{Notice, toldBy, noticesIn, ofType, partBy, qpackIn, Event, contentIn, sectionIn, Fed, goes, faults, end, reset, ofClosed, mapOut, freed, act₁, one-way, kindOf, telling, Pair, Call, on, Answer, left as is-left, code as is-code, with, faulted, settle, actOn, fresh, call, run, trace}
+use Rattle.rules.specs.Shown.{Shown, Fate, unopened, spent, running, ended, dropped, refused, lost, View, nothing, plusFeed, plusBytes, view}
 use Rattle.traces.specs.Alone.{call-on}
 use Rattle.traces.specs.Follow.{Agrees, open-still, over, not-running}
 use Rattle.traces.specs.Oneways.{Both, Reached₁, at-first, by-feed, Story₁, not-yet, never, cut-off, closed, closed-critical, bad-feed, second-of-type, Says, says, story₁, follows₁}

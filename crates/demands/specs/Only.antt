@@ -12,16 +12,14 @@ use Rattle.rules.specs.Numbers.{House, not-open, section-due, no-section, unrea
 use Rattle.rules.specs.Frames.{framesFrom}
 use Rattle.rules.specs.Request.{document}
 use Rattle.rules.specs.Legal.{Legal}
-use Rattle.traces.specs.Stream.{Fed, goes, faults, Given, sound, unsound, Ended, is-whole, broken, whole, freed, Own, feed, section, end, reset, Out, refuse, ofFed, ofGiven, ofEnded, ofClosed, mapOut, Machine, act, act₁, either}
-use Rattle.traces.specs.Board.{Kind, request, one-way, kindOf, Stream, asking, telling, Pair, Held, Call, on, Answer, gave, left, house, code, same, with, alive, faulted, actOn, settle, acting, find, fresh, call, run, trace}
-use Rattle.traces.specs.View.{Shown, Fate, running, View, view}
+use Rattle.rules.specs.Calls.{Fed, goes, faults, Given, sound, unsound, Ended, is-whole, broken, whole, freed, Own, feed, section, end, reset, Out, refuse, ofFed, ofGiven, ofEnded, ofClosed, mapOut, Machine, act, act₁, either, Kind, request, one-way, kindOf, Stream, asking, telling, Pair, Held, Call, on, Answer, gave, left, house, code, same, with, alive, faulted, actOn, settle, acting, find, fresh, call, run, trace}
+use Rattle.rules.specs.Shown.{Shown, Fate, running, View, view, ledger}
 use Rattle.traces.specs.Went.{Alive, Went, restarted, still-dead, by-house, barring, faulting, dying, opening, stepping, leaving, sending, went}
 use Rattle.traces.specs.Sound.{sound-run, sound-fresh}
 use Rattle.traces.specs.Alone.{call-on}
 use Rattle.traces.specs.Follow.{Tale, Agrees, open-still, over, agrees, not-running}
 use Rattle.traces.specs.Story.{story}
 use Rattle.traces.specs.Oneways.{ByItself, Says, says, Story₁, story₁}
-use Rattle.traces.specs.Ledger.{ledger}
 use Rattle.traces.specs.Opening.{tallies}
 use Rattle.traces.specs.Demands.{Verdict, is-legal, bad, waits, endAnswer}
 use Rattle.demands.specs.Streams.{streams}

@@ -17,8 +17,7 @@ use Rattle.record.specs.declared.Record.{Record}
 use Rattle.record.specs.Row.{numbersOf, placeIn, oneWayRecord, free-record}
 use Rattle.oneway.specs.Stands.{oneStateAt}
 use Rattle.requests.specs.Opens.{begins-fresh}
-use Rattle.traces.specs.Stream.{either}
-use Rattle.traces.specs.Board.{pick, Kind, request, one-way, kindOf, over, asking, held, Result, open′, house, code, nextOf, spend, barred, seat, same, with, first, seated, opening, call}
+use Rattle.rules.specs.Calls.{either, pick, Kind, request, one-way, kindOf, over, asking, held, Result, open′, house, code, nextOf, spend, barred, seat, same, with, first, seated, opening, call}
 use Rattle.traces.specs.Row.{pick-yes, pick-no}
 use Rattle.traces.specs.Refine.{IsFree, FreeAt, free-seat, full-seat}
 use Rattle.connection.specs.declared.doors.Doors.{Doors}

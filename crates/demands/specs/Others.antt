@@ -11,10 +11,9 @@ use mathlib.Core.Option.{Option, none, some, Option·none-ne-some, Option·some-
 use Rattle.rules.specs.Numbers.{not-open, not-next, no-record, section-due, no-section, unreadable, room-short, bad-value, request-rejected, ConnectionFault, of-stream, of-connection, Code}
 use Rattle.rules.specs.Block.{lines}
 use Rattle.rules.specs.OneWay.{oneWay}
-use Rattle.traces.specs.Stream.{Fed, goes, faults, Given, sound, unsound, done, freed, Own, feed, section, end, reset, Out, refuse, ofFed, ofGiven, mapOut, Machine, act, either, ofClosed, act₁}
-use Rattle.traces.specs.Board.{pick, Kind, request, kindOf, higher, goawaySize, goodGoaway, asking, held, Row, Pair, Held, Call, open′, on, goaway, Answer, gave, left, house, code, Result, nextOf, spend, limited, barred, find, seat, same, with, alive, first, seated, faulted, settle, fresh, call, run, trace, one-way, telling, actOn}
-use Rattle.traces.specs.Board as board
-use Rattle.traces.specs.View.{Shown, running, View, view}
+use Rattle.rules.specs.Calls.{Fed, goes, faults, Given, sound, unsound, done, freed, Own, feed, section, end, reset, Out, refuse, ofFed, ofGiven, mapOut, Machine, act, either, ofClosed, act₁, pick, Kind, request, kindOf, higher, goawaySize, goodGoaway, asking, held, Row, Pair, Held, Call, open′, on, goaway, Answer, gave, left, house, code, Result, nextOf, spend, limited, barred, find, seat, same, with, alive, first, seated, faulted, settle, fresh, call, run, trace, one-way, telling, actOn}
+use Rattle.rules.specs.Calls as board
+use Rattle.rules.specs.Shown.{Shown, running, View, view, Ledger, ledger, nextIn, barredIn}
 use Rattle.traces.specs.Row.{seat-is, seat-room, room-before}
 use Rattle.traces.specs.Sound.{Sound, sound-run, sound-fresh}
 use Rattle.traces.specs.Alone.{Aside, NoStart, Later, own, asked, call-on, call-on-asking}
@@ -22,7 +21,6 @@ use Rattle.traces.specs.Alone as A
 use Rattle.traces.specs.Follow.{Agrees, open-still, over, agrees, not-running}
 use Rattle.traces.specs.Story.{Reached, Asks, asks, Story, story, shut as shut-fate}
 use Rattle.traces.specs.Oneways.{Both, Reached₁, Story₁, Says, says, story₁}
-use Rattle.traces.specs.Ledger.{Ledger, ledger, nextIn, barredIn}
 use Rattle.traces.specs.Opening.{Tallies, tallies, next-same, barred-same}
 use Rattle.traces.specs.Demands.{Verdict, waits, endAnswer}
 use Rattle.demands.specs.Streams.{isReadable, streams}

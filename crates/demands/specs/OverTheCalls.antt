@@ -11,9 +11,8 @@ use Rattle.rules.specs.Numbers.{House, section-due, houseNumber, Code}
 use Rattle.rules.specs.Frames.{framesFrom}
 use Rattle.rules.specs.Request.{document}
 use Rattle.rules.specs.Legal.{Legal}
-use Rattle.traces.specs.Stream.{whole, end}
-use Rattle.traces.specs.Board.{request, kindOf, Call, on, Answer, left, house, code, call, run, fresh, trace}
-use Rattle.traces.specs.View.{View, running, view}
+use Rattle.rules.specs.Calls.{whole, end, request, kindOf, Call, on, Answer, left, house, code, call, run, fresh, trace}
+use Rattle.rules.specs.Shown.{View, running, view}
 use Rattle.traces.specs.Demands.{Verdict, is-legal, bad, waits, Tells, endAnswer}
 use Rattle.record.specs.declared.Record.{Record}
 use Rattle.connection.specs.declared.Connection.{Connection}

@@ -18,8 +18,7 @@ use Rattle.meaning.specs.Machine.{State, Outcome}
 use Rattle.meaning.specs.Feed as F
 use Rattle.meaning.specs.OneWayFeed as O
 use Rattle.meaning.specs.OneWayFeed.{OneState, OneOutcome, OneEvent, OneFeeding}
-use Rattle.traces.specs.Stream.{Own, fed, Out, step, fault, ofFed, ofClosed, mapOut, act₁}
-use Rattle.traces.specs.Board.{telling, held, Held, keeping, actOn}
+use Rattle.rules.specs.Calls.{Own, fed, Out, step, fault, ofFed, ofClosed, mapOut, act₁, telling, held, Held, keeping, actOn}
 use Rattle.streams.specs.declared.Cells.{Cells}
 use Rattle.record.specs.declared.Record.{Record}
 use Rattle.record.specs.Row.{lengthOf, placeIn, oneWayRecord, free-record}

@@ -29,10 +29,9 @@ use Rattle.meaning.specs.EveryFeed as E
 use Rattle.meaning.specs.EveryFeed.{feed-stops, feed-allows}
 use Rattle.meaning.specs.OneWayFeed as O
 use Rattle.meaning.specs.OneWays.{one-allows, OneStops, one-stops}
-use Rattle.traces.specs.Stream.{qpack-bytes, settings, client-goaway, max-push-id, Event, quiet, section-bytes, content-bytes, notice, Fed, goes, faults, Ended, is-whole, broken, done, fed, feed, ofFed, mapOut, Machine, act, act₁, either}
-use Rattle.traces.specs.Stream as stream
-use Rattle.traces.specs.Board.{request, kindOf, Stream, asking, telling, Pair, Held, Call, on, Answer, gave, left, house, code, same, with, alive, faulted, actOn, settle, acting, find, fresh, call, run, trace, one-way}
-use Rattle.traces.specs.View.{Shown, running, View, plusFeed, view}
+use Rattle.rules.specs.Calls.{qpack-bytes, settings, client-goaway, max-push-id, Event, quiet, section-bytes, content-bytes, notice, Fed, goes, faults, Ended, is-whole, broken, done, fed, feed, ofFed, mapOut, Machine, act, act₁, either, request, kindOf, Stream, asking, telling, Pair, Held, Call, on, Answer, gave, left, house, code, same, with, alive, faulted, actOn, settle, acting, find, fresh, call, run, trace, one-way}
+use Rattle.rules.specs.Calls as stream
+use Rattle.rules.specs.Shown.{Shown, running, View, plusFeed, view}
 use Rattle.traces.specs.Alone.{call-on-asking, no-code, no-house, call-on}
 use Rattle.traces.specs.Follow.{Agrees, open-still, over, agrees, not-running}
 use Rattle.traces.specs.Oneways.{Both, Story₁, Says, says, story₁}

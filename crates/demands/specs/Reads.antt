@@ -19,8 +19,8 @@ use Rattle.meaning.specs.Feed as F
 use Rattle.meaning.specs.Feeds.{unheaded, headersIn, Within, feed-runs, Call, feed-call, give-call, takes, Done, calls, Came, calls-come, verdict-of, CallsRead, calls-read}
 use Rattle.meaning.specs.EveryFeed.{feed-silent}
 use Rattle.meaning.specs.First.{Inside, placeOf, last-word, first-fault, end-rule, early-inside}
-use Rattle.traces.specs.Stream.{Event, part, contentIn, sectionIn, noticesIn, qpackIn, Fed, goes, faults, Given, sound, unsound, is-whole, broken}
-use Rattle.traces.specs.View.{Shown, nothing, plusFeed, plusBytes, plusSection}
+use Rattle.rules.specs.Calls.{Event, part, contentIn, sectionIn, noticesIn, qpackIn, Fed, goes, faults, Given, sound, unsound, is-whole, broken}
+use Rattle.rules.specs.Shown.{Shown, nothing, plusFeed, plusBytes, plusSection}
 use Rattle.traces.specs.Story.{Reached, at-first, by-feed, by-section}
 use Rattle.traces.specs.Demands.{is-legal, bad, waits, Shows, verdictOf, Struck, NoFault, Reads}
 use Rattle.demands.specs.Streams.{streamCode, isDue, eventOf, fedBy, isReadable, sectionOf, givenBy, endedBy, streams}

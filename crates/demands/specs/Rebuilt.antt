@@ -11,11 +11,9 @@ use lib.Dec.{eqb}
 use lib.ListN.{length, length-append}
 use Rattle.rules.specs.Numbers.{ConnectionFault, not-open, not-24, Code, of-stream, of-connection}
 use Rattle.rules.specs.Reading.{header-section, trailers, content, skipped, section as for-section, kept, Saying, header, refused as refused-header, section-byte, content-byte, frame-kept, sectionBytes, headerBytes}
-use Rattle.traces.specs.Stream.{qpack-bytes, settings, client-goaway, max-push-id, Event, quiet, section-bytes, content-bytes, notice, part, contentIn, sectionIn, done, fed, whole, freed, Own, feed, section, end, reset}
-use Rattle.traces.specs.Board.{pick, Kind, request, one-way, kindOf, Pair, Call, start, open′, on, goaway, Answer, gave, left, house, code, same, call, run, fresh, trace}
-use Rattle.traces.specs.View as shown-by
-use Rattle.traces.specs.View.{Shown, Fate, unopened, spent, running, ended, dropped, refused, lost, View, nothing, plusFeed, plusBytes, plusSection, fedly, mine, ifRunning, elsewhere, opened, restarted, unseen, viewFrom, view}
-use Rattle.traces.specs.Ledger.{ledger}
+use Rattle.rules.specs.Calls.{qpack-bytes, settings, client-goaway, max-push-id, Event, quiet, section-bytes, content-bytes, notice, part, contentIn, sectionIn, done, fed, whole, freed, Own, feed, section, end, reset, pick, Kind, request, one-way, kindOf, Pair, Call, start, open′, on, goaway, Answer, gave, left, house, code, same, call, run, fresh, trace}
+use Rattle.rules.specs.Shown as shown-by
+use Rattle.rules.specs.Shown.{Shown, Fate, unopened, spent, running, ended, dropped, refused, lost, View, nothing, plusFeed, plusBytes, plusSection, fedly, mine, ifRunning, elsewhere, opened, restarted, unseen, viewFrom, view, ledger}
 use Rattle.traces.specs.Lowest.{Used, lowest-exactly}
 use Rattle.traces.specs.Follow.{Agrees, open-still, over, agrees, not-running}
 use Rattle.traces.specs.Story.{Asks, Story, story}

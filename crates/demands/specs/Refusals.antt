@@ -16,11 +16,10 @@ use Rattle.rules.specs.Numbers.{House, houseNumber, StreamFault, request-reject
 use Rattle.meaning.specs.NumberLaws.{refusal-named, fault-named}
 use Rattle.meaning.specs.Machine.{need, State, in-type, in-length, in-payload, due, finish}
 use Rattle.meaning.specs.Machine as machine
-use Rattle.traces.specs.Stream.{Event, quiet, Own, Gave, done, fed, Left}
-use Rattle.traces.specs.Board.{Kind, kindOf, free, Row, Pair, Call, open′, on, Answer, gave, left, house, code, spend, killed, fresh, call, lent, run, trace}
+use Rattle.rules.specs.Calls.{Event, quiet, Own, Gave, done, fed, Left, Kind, kindOf, free, Row, Pair, Call, open′, on, Answer, gave, left, house, code, spend, killed, fresh, call, lent, run, trace}
 use Rattle.traces.specs.Row.{Replaced}
 use Rattle.traces.specs.Went.{pair}
-use Rattle.traces.specs.Ledger.{ledger, nextIn, MayOpen}
+use Rattle.rules.specs.Shown.{ledger, nextIn, MayOpen}
 use Rattle.traces.specs.Leaves as L
 use Rattle.traces.specs.Leaves.{Leaves}
 use Rattle.traces.specs.Alone as A

@@ -15,8 +15,7 @@ use Rattle.rules.specs.Numbers.{request-incomplete, REQUEST-INCOMPLETE, FRAME-U
 use Rattle.meaning.specs.Machine.{State, between, after, fed, typed, with-left, finish}
 use Rattle.meaning.specs.Machine as machine
 use Rattle.meaning.specs.Feed as F
-use Rattle.traces.specs.Stream.{feed, end}
-use Rattle.traces.specs.Board.{Call, open′, on, trace, fresh}
+use Rattle.rules.specs.Calls.{feed, end, Call, open′, on, trace, fresh}
 use Rattle.record.specs.declared.Record.{Record}
 use Rattle.record.specs.Row.{requestRecord, free-record}
 use Rattle.requests.specs.Reply.{frees, freedIf, saidBy, unlessDue, endedBy, stateIn}

@@ -27,9 +27,8 @@ use Rattle.meaning.specs.Machine.{State, Outcome}
 use Rattle.meaning.specs.Feed as F
 use Rattle.meaning.specs.OneWayFeed as O
 use Rattle.meaning.specs.OneWayFeed.{OneState, OneOutcome, OneEvent}
-use Rattle.traces.specs.Stream as trace
-use Rattle.traces.specs.Stream.{qpack-bytes, settings, client-goaway, max-push-id, Event, quiet, section-bytes, content-bytes, notice, Own, feed, section, end, reset, Gave, done, fed, Out, refuse, step, leave, ofFed, ofGiven, ofEnded, ofClosed, mapOut, either, act, act₁}
-use Rattle.traces.specs.Board.{Stream, asking, telling, Pair, Held, Call, start, open′, on, goaway, Answer, gave, left, house, code, keeping, call, same, actOn, run, Entry, trace, fresh}
+use Rattle.rules.specs.Calls as trace
+use Rattle.rules.specs.Calls.{qpack-bytes, settings, client-goaway, max-push-id, Event, quiet, section-bytes, content-bytes, notice, Own, feed, section, end, reset, Gave, done, fed, Out, refuse, step, leave, ofFed, ofGiven, ofEnded, ofClosed, mapOut, either, act, act₁, Stream, asking, telling, Pair, Held, Call, start, open′, on, goaway, Answer, gave, left, house, code, keeping, call, same, actOn, run, Entry, trace, fresh}
 use Rattle.traces.specs.Went as went
 use Rattle.traces.specs.Went.{Went}
 use Rattle.traces.specs.Alone.{Later}

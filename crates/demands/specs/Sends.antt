@@ -14,8 +14,7 @@ use Rattle.rules.specs.Numbers.{houseNumber, room-short, bad-value, ConnectionF
 use Rattle.rules.specs.Integers.{row, rows, inRow, inFirst, written, largest}
 use Rattle.rules.specs.Writer.{Write, refused, wrote, into, both, header-bytes, integer-frame, write-integer-frame, isHigher, badGoaway, write-goaway}
 use Rattle.meaning.specs.IntegerLaws.{length-row}
-use Rattle.traces.specs.Stream.{done, either}
-use Rattle.traces.specs.Board.{pick, higher, goawaySize, goodGoaway, Pair, Result, goaway, gave, house, code, limited, same, with, alive, sending, call}
+use Rattle.rules.specs.Calls.{done, either, pick, higher, goawaySize, goodGoaway, Pair, Result, goaway, gave, house, code, limited, same, with, alive, sending, call}
 use Rattle.traces.specs.Row.{pick-yes, pick-no}
 use Rattle.record.specs.declared.Record.{Record}
 use Rattle.connection.specs.Goaway as doors

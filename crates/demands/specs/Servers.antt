@@ -9,11 +9,9 @@ use mathlib.Core.Option.{Option, none, some}
 use mathlib.Core.Logic.{_↔_}
 use lib.ListN.{length}
 use Rattle.rules.specs.Numbers.{House, not-open, section-due, StreamFault, request-incomplete, ConnectionFault, frame-unexpected, Code, of-stream, of-connection}
-use Rattle.traces.specs.Stream.{Event, quiet, contentIn, sectionIn, Gave, done, fed, Left, whole, Own, feed, section, end, reset}
+use Rattle.rules.specs.Calls.{Event, quiet, contentIn, sectionIn, Gave, done, fed, Left, whole, Own, feed, section, end, reset, pick, over, Kind, request, kindOf, Call, start, open′, on, goaway, Answer, gave, left, house, code, Entry, Pair, fresh, call, run, trace}
 use native.Mathlib.Decide.{ℕ-discrete}
-use Rattle.traces.specs.Board.{pick, over, Kind, request, kindOf, Call, start, open′, on, goaway, Answer, gave, left, house, code, Entry, Pair, fresh, call, run, trace}
-use Rattle.traces.specs.View.{Shown, View, running, ended, refused, nothing, fedly, plusFeed, mine, ifRunning, unseen, view, viewFrom, seen, opened}
-use Rattle.traces.specs.Ledger.{ledger, ledgerFrom, blank, nextIn, barredIn, MayOpen}
+use Rattle.rules.specs.Shown.{Shown, View, running, ended, refused, nothing, fedly, plusFeed, mine, ifRunning, unseen, view, viewFrom, seen, opened, ledger, ledgerFrom, blank, nextIn, barredIn, MayOpen}
 use Rattle.traces.specs.Demands.{Verdict, is-legal, bad, waits, Tells, endAnswer}
 use Rattle.traces.specs.Progress.{Moves, awaits, faulty, moved, Takes}
 use Rattle.rules.specs.Worked.{answer}

@@ -7,8 +7,7 @@ use mathlib.Core.Option.{some}
 use lib.ListN.{getD, set}
 use lib.Seq.{set-getD}
 use Rattle.rules.specs.Numbers.{House, houseNumber, StreamFault, ConnectionFault, stream-creation-error, closed-critical-stream, frame-unexpected, frame-error, excessive-load, id-error, settings-error, missing-settings, of-stream, of-connection, codeNumber, coded}
-use Rattle.traces.specs.Stream.{Own, Gave, Left, Out, refuse, step, leave, fault}
-use Rattle.traces.specs.Board.{Stream, free, held, Row, Conn, Pair, Held, Call, on, gave, left, code, Result, killed, keeping, find, put, same, with, alive, faulted, actOn, settle, acting, call}
+use Rattle.rules.specs.Calls.{Own, Gave, Left, Out, refuse, step, leave, fault, Stream, free, held, Row, Conn, Pair, Held, Call, on, gave, left, code, Result, killed, keeping, find, put, same, with, alive, faulted, actOn, settle, acting, call}
 use Rattle.traces.specs.Went.{pair}
 use Rattle.traces.specs.Refine.{FoundAt, found-find, found-put-as, found-put}
 use Rattle.record.specs.declared.Record.{Record}

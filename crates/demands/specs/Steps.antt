@@ -9,8 +9,8 @@ use mathlib.Core.Option.{some}
 use lib.ListN.{length, getD, set, replicate}
 use lib.Seq.{set-getD}
 use Rattle.rules.specs.Numbers.{not-open, houseNumber, ConnectionFault, of-connection, coded}
-use Rattle.traces.specs.Board as Board
-use Rattle.traces.specs.Board.{Stream, asking, telling, free, held, Pair, open′, on, house, code, find, same, alive, acting, fresh, call}
+use Rattle.rules.specs.Calls as Board
+use Rattle.rules.specs.Calls.{Stream, asking, telling, free, held, Pair, open′, on, house, code, find, same, alive, acting, fresh, call}
 use Rattle.traces.specs.Refine.{Whose, FoundAt, found-find, absent-find}
 use Rattle.record.specs.declared.Record.{Record}
 use Rattle.record.specs.Row.{free-record}

@@ -14,7 +14,7 @@ use Rattle.rules.specs.OneWay.{Qpack, encoder, decoder}
 use Rattle.meaning.specs.Machine as M
 use Rattle.meaning.specs.Feed as F
 use Rattle.meaning.specs.OneWayFeed as O
-use Rattle.traces.specs.Stream.{Notice, qpack-bytes, settings, client-goaway, max-push-id, Event, quiet, section-bytes, content-bytes, notice, Fed, goes, faults, Given, sound, unsound, Ended, is-whole, broken, Machine}
+use Rattle.rules.specs.Calls.{Notice, qpack-bytes, settings, client-goaway, max-push-id, Event, quiet, section-bytes, content-bytes, notice, Fed, goes, faults, Given, sound, unsound, Ended, is-whole, broken, Machine}
 
 -- ---- codes
 

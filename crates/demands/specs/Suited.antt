@@ -16,10 +16,9 @@ use Rattle.meaning.specs.Machine as M
 use Rattle.meaning.specs.Machine.{State, Outcome}
 use Rattle.meaning.specs.Feed as F
 use Rattle.meaning.specs.OneWayFeed as O
-use Rattle.traces.specs.Stream as trace
-use Rattle.traces.specs.Stream.{Own, feed, section, end, reset, Out, refuse, step, leave, ofFed, ofGiven, ofEnded, ofClosed, mapOut, either, act, act₁}
-use Rattle.traces.specs.Board.{pick, Kind, one-way, Stream, asking, telling, Slot, free, held, Row, Pair, Held, Call, Answer, find, put, fresh, first, actOn, call}
-use Rattle.traces.specs.Board as board
+use Rattle.rules.specs.Calls as trace
+use Rattle.rules.specs.Calls.{Own, feed, section, end, reset, Out, refuse, step, leave, ofFed, ofGiven, ofEnded, ofClosed, mapOut, either, act, act₁, pick, Kind, one-way, Stream, asking, telling, Slot, free, held, Row, Pair, Held, Call, Answer, find, put, fresh, first, actOn, call}
+use Rattle.rules.specs.Calls as board
 use Rattle.traces.specs.Row.{Seated, lowest, behind-one}
 use Rattle.traces.specs.Went.{Went, restarted, still-dead, by-house, barring, faulting, dying, opening, stepping, leaving, sending, went}
 use Rattle.demands.specs.Streams.{Keeps, typesIn, isDue, fedBy, isReadable, sectionOf, givenBy, endedBy, heardBy, closeOf, streams}

@@ -15,9 +15,8 @@ use Rattle.rules.specs.Request.{document, request}
 use Rattle.meaning.specs.Machine as M
 use Rattle.meaning.specs.OneWayFeed as O
 use Rattle.meaning.specs.OneWays.{ReadsOnOne, one-moves}
-use Rattle.traces.specs.Stream.{Event, Fed, goes, faults, Given, sound, unsound, Own, feed, section, Gave, done, fed, Left, Out, refuse, step, leave, fault, ofFed, ofGiven, mapOut, Machine, act, act₁, either}
-use Rattle.traces.specs.Board.{request as a-request, one-way, kindOf, Stream, asking, telling, Pair, Held, Call, start, open′, on, goaway, Answer, gave, left, house, code, keeping, find, same, with, faulted, settle, actOn, fresh, call, run, trace}
-use Rattle.traces.specs.View.{Shown, View, running, plusFeed, view}
+use Rattle.rules.specs.Calls.{Event, Fed, goes, faults, Given, sound, unsound, Own, feed, section, Gave, done, fed, Left, Out, refuse, step, leave, fault, ofFed, ofGiven, mapOut, Machine, act, act₁, either, request as a-request, one-way, kindOf, Stream, asking, telling, Pair, Held, Call, start, open′, on, goaway, Answer, gave, left, house, code, keeping, find, same, with, faulted, settle, actOn, fresh, call, run, trace}
+use Rattle.rules.specs.Shown.{Shown, View, running, plusFeed, view}
 use Rattle.traces.specs.Row.{find-put-same}
 use Rattle.traces.specs.Went.{Alive}
 use Rattle.traces.specs.Alone.{Aside, Later, call-on, others-untouched, dead-stays}

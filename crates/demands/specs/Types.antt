@@ -18,9 +18,8 @@ use Rattle.meaning.specs.Machine as M
 use Rattle.meaning.specs.Feed as F
 use Rattle.meaning.specs.OneWayFeed as O
 use Rattle.meaning.specs.OneWayFirst.{Struck}
-use Rattle.traces.specs.Stream.{Fed, goes, faults, Own, feed, section, end, reset, Out, refuse, step, leave, fault, ofFed, ofClosed, mapOut, act, act₁}
-use Rattle.traces.specs.Board.{Kind, request, one-way, kindOf, Stream, asking, telling, free, held, Pair, Held, Call, start, open′, on, goaway, Answer, code, Entry, spend, keeping, killed, limited, find, put, same, with, faulted, settle, actOn, fresh, first, call, run, trace}
-use Rattle.traces.specs.View.{running, View, view}
+use Rattle.rules.specs.Calls.{Fed, goes, faults, Own, feed, section, end, reset, Out, refuse, step, leave, fault, ofFed, ofClosed, mapOut, act, act₁, Kind, request, one-way, kindOf, Stream, asking, telling, free, held, Pair, Held, Call, start, open′, on, goaway, Answer, code, Entry, spend, keeping, killed, limited, find, put, same, with, faulted, settle, actOn, fresh, first, call, run, trace}
+use Rattle.rules.specs.Shown.{running, View, view}
 use Rattle.traces.specs.Row.{find-put-same, find-put-other, find-free-other, find-free-same, find-seat-same, find-seat-other, find-empty}
 use Rattle.traces.specs.Went.{Alive, pair, Went, restarted, still-dead, by-house, barring, faulting, dying, opening, stepping, leaving, sending, went}
 use Rattle.traces.specs.Sound.{Sound, next-absent, sound-call, sound-run, sound-fresh}

@@ -10,9 +10,8 @@ use mathlib.Core.Option.{Option, none, some}
 use lib.ListN.{length, take}
 use Rattle.rules.specs.Worked.{answer}
 use Rattle.meaning.specs.OneWayFeed as O
-use Rattle.traces.specs.Stream.{qpack-bytes, settings, client-goaway, max-push-id, Event, quiet, section-bytes, content-bytes, notice, Gave, done, fed, Own, feed, section, end, reset, act₁}
-use Rattle.traces.specs.Board.{Kind, request, one-way, kindOf, Pair, Call, start, open′, on, goaway, Answer, gave, left, house, code, fresh, call, run, trace}
-use Rattle.traces.specs.View.{running, view}
+use Rattle.rules.specs.Calls.{qpack-bytes, settings, client-goaway, max-push-id, Event, quiet, section-bytes, content-bytes, notice, Gave, done, fed, Own, feed, section, end, reset, act₁, Kind, request, one-way, kindOf, Pair, Call, start, open′, on, goaway, Answer, gave, left, house, code, fresh, call, run, trace}
+use Rattle.rules.specs.Shown.{running, view}
 use Rattle.demands.specs.Streams.{typesIn, came, oneEvent, framesEvent, heardBy, typeOf, streams}
 use Rattle.demands.specs.Reading.{sectionsOf, readingOf}
 use Rattle.demands.specs.Becomes.{as-encoder}

@@ -12,9 +12,8 @@ use Rattle.rules.specs.OneWay.{oneWay}
 use Rattle.rules.specs.Worked.{answer}
 use Rattle.meaning.specs.OneWayFeed as O
 use Rattle.meaning.specs.OneWayFirst.{verdictOn, Struck}
-use Rattle.traces.specs.Stream.{quiet, fed, Fed, goes, faults, feed, section, end, reset, ofFed, mapOut}
-use Rattle.traces.specs.Board.{one-way, kindOf, Stream, asking, telling, Pair, Call, start, open′, on, goaway, gave, code, Entry, Result, alive, find, settle, fresh, call}
-use Rattle.traces.specs.View.{Shown, running, view}
+use Rattle.rules.specs.Calls.{quiet, fed, Fed, goes, faults, feed, section, end, reset, ofFed, mapOut, one-way, kindOf, Stream, asking, telling, Pair, Call, start, open′, on, goaway, gave, code, Entry, Result, alive, find, settle, fresh, call}
+use Rattle.rules.specs.Shown.{Shown, running, view}
 use Rattle.traces.specs.Oneways.{Both}
 use Rattle.demands.specs.Streams.{Keeps, streams}
 use Rattle.demands.specs.Becomes.{Once}

@@ -10,6 +10,8 @@ pub mod Request
 pub mod Control
 pub mod OneWay
 pub mod Numbers
+pub mod Calls
+pub mod Shown
 pub mod Events
 pub mod Writer
 pub mod Legal

@@ -6,8 +6,7 @@ use native.Mathlib.Omega.{arith}
 use mathlib.Core.List.{List, [], _∷_, _++_}
 use mathlib.Core.Option.{Option, none, some, Option·none-ne-some, Option·some-ne-none, Option·some-injective}
 use Rattle.rules.specs.Numbers.{ConnectionFault, Code, of-stream, of-connection}
-use Rattle.traces.specs.Stream.{Gave, done, Left, Own, Out, refuse, step, leave, fault, Machine, act, mapOut}
-use Rattle.traces.specs.Board.{pick, Kind, request, one-way, kindOf, Stream, asking, telling, Slot, free, held, Row, Conn, Pair, Held, Call, start, open′, on, goaway, Answer, gave, left, house, code, Result, nextOf, spend, killed, keeping, limited, find, put, same, with, alive, faulted, actOn, settle, acting, fresh, first, call, run}
+use Rattle.rules.specs.Calls.{Gave, done, Left, Own, Out, refuse, step, leave, fault, Machine, act, mapOut, pick, Kind, request, one-way, kindOf, Stream, asking, telling, Slot, free, held, Row, Conn, Pair, Held, Call, start, open′, on, goaway, Answer, gave, left, house, code, Result, nextOf, spend, killed, keeping, limited, find, put, same, with, alive, faulted, actOn, settle, acting, fresh, first, call, run}
 use Rattle.traces.specs.Row.{Distinct, Seated, find-seat-same, find-put-same, find-put-other, find-free-other, find-free-same, find-seat-other, pick-yes, pick-no}
 use Rattle.traces.specs.Went.{Alive, pair, Went, restarted, still-dead, by-house, barring, faulting, dying, opening, stepping, leaving, sending, went}
 use Rattle.traces.specs.Sound.{Sound, Spent, next-absent, next-spent, spent-spend, spent-as, next-keeping, next-limited, next-killed, sound-call, sound-run, sound-fresh}

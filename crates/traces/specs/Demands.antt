@@ -8,9 +8,8 @@ use mathlib.Core.Bool.{Bool, true, false}
 use mathlib.Core.Option.{Option, none, some}
 use lib.ListN.{length, length-append, take}
 use Rattle.rules.specs.Numbers.{StreamFault, Code, of-stream, of-connection, section-due}
-use Rattle.traces.specs.Stream.{Fed, goes, faults, Given, sound, unsound, Ended, is-whole, broken, Own, end, Out, refuse, leave, fault, ofEnded, mapOut, whole, Machine, act, either}
-use Rattle.traces.specs.Board.{Kind, request, kindOf, asking, Pair, Call, on, Answer, gave, left, house, code, same, with, faulted, settle, find, fresh, call, run, trace}
-use Rattle.traces.specs.View.{Shown, Fate, unopened, spent, running, ended, dropped, refused, lost, View, plusFeed, plusBytes, plusSection, nothing, view}
+use Rattle.rules.specs.Calls.{Fed, goes, faults, Given, sound, unsound, Ended, is-whole, broken, Own, end, Out, refuse, leave, fault, ofEnded, mapOut, whole, Machine, act, either, Kind, request, kindOf, asking, Pair, Call, on, Answer, gave, left, house, code, same, with, faulted, settle, find, fresh, call, run, trace}
+use Rattle.rules.specs.Shown.{Shown, Fate, unopened, spent, running, ended, dropped, refused, lost, View, plusFeed, plusBytes, plusSection, nothing, view}
 use Rattle.traces.specs.Went.{Alive}
 use Rattle.traces.specs.Alone.{call-on-asking}
 use Rattle.traces.specs.Story.{Reached, at-first, Story, not-yet, never, to-the-end, given-up, cut-off, bad-feed, bad-section, bad-end, Asks, asks, story, shut}

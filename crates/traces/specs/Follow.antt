@@ -6,9 +6,8 @@ use native.Mathlib.Decide.{ℕ-discrete}
 use mathlib.Core.List.{List, [], _∷_}
 use mathlib.Core.Option.{Option, none, some, Option·none-ne-some, Option·some-ne-none, Option·some-injective}
 use Rattle.rules.specs.Numbers.{House, ConnectionFault, Code, of-stream, of-connection}
-use Rattle.traces.specs.Stream.{Own, feed, section, end, reset, Out, refuse, step, leave, fault, Machine}
-use Rattle.traces.specs.Board.{pick, Kind, kindOf, Stream, held, Conn, Pair, Held, Call, start, open′, on, goaway, Answer, gave, left, house, code, spend, killed, keeping, limited, find, same, with, fresh, first, faulted, actOn, settle, call, run, trace}
-use Rattle.traces.specs.View.{Shown, Fate, unopened, spent, running, ended, dropped, refused, lost, View, nothing, struck, elsewhere, mine, ifRunning, opened, unseen, restarted as anew, seen, viewFrom, view}
+use Rattle.rules.specs.Calls.{Own, feed, section, end, reset, Out, refuse, step, leave, fault, Machine, pick, Kind, kindOf, Stream, held, Conn, Pair, Held, Call, start, open′, on, goaway, Answer, gave, left, house, code, spend, killed, keeping, limited, find, same, with, fresh, first, faulted, actOn, settle, call, run, trace}
+use Rattle.rules.specs.Shown.{Shown, Fate, unopened, spent, running, ended, dropped, refused, lost, View, nothing, struck, elsewhere, mine, ifRunning, opened, unseen, restarted as anew, seen, viewFrom, view}
 use Rattle.traces.specs.Row.{Seated, find-put-same, find-free-same, find-seat-same, find-empty}
 use Rattle.traces.specs.Went.{Alive, pair, Went, restarted, still-dead, by-house, barring, faulting, dying, opening, stepping, leaving, sending, went}
 use Rattle.traces.specs.Sound.{Sound, next-absent, sound-call, sound-fresh}

@@ -8,8 +8,7 @@ use mathlib.Core.List.{List, [], _∷_}
 use mathlib.Core.Bool.{Bool, true, false, true≢false}
 use mathlib.Core.Option.{Option, none, some, Option·none-ne-some, Option·some-ne-none, Option·some-injective}
 use Rattle.rules.specs.Numbers.{ConnectionFault, Code}
-use Rattle.traces.specs.Stream.{Event, Fed, goes, faults, Own, feed, section, end, reset, Gave, Out, refuse, step, leave, fault, ofFed, ofClosed, mapOut, Machine, act, act₁}
-use Rattle.traces.specs.Board.{Kind, request, one-way, Stream, asking, telling, Slot, free, held, Row, Conn, Pair, Held, Call, Answer, spend, killed, keeping, limited, find, put, fresh, first, actOn, call, run}
+use Rattle.rules.specs.Calls.{Event, Fed, goes, faults, Own, feed, section, end, reset, Gave, Out, refuse, step, leave, fault, ofFed, ofClosed, mapOut, Machine, act, act₁, Kind, request, one-way, Stream, asking, telling, Slot, free, held, Row, Conn, Pair, Held, Call, Answer, spend, killed, keeping, limited, find, put, fresh, first, actOn, call, run}
 use Rattle.traces.specs.Row.{find-put-same, find-put-other, find-free-other, find-free-same, find-seat-same, find-seat-other, find-empty}
 use Rattle.traces.specs.Went.{Alive, pair, Went, restarted, still-dead, by-house, barring, faulting, dying, opening, stepping, leaving, sending, went}
 use Rattle.traces.specs.Sound.{Sound, next-absent, sound-call, sound-run, sound-fresh}

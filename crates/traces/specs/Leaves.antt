@@ -5,8 +5,7 @@ use native.Mathlib.Decide.{ℕ-discrete}
 use mathlib.Core.Option.{Option, none, some}
 use lib.ListN.{length}
 use Rattle.rules.specs.Numbers.{House, other-row, StreamFault, request-rejected, ConnectionFault, Code, of-stream, of-connection}
-use Rattle.traces.specs.Stream.{Gave, Left, Own, Machine}
-use Rattle.traces.specs.Board.{pick, Kind, kindOf, Slot, free, Row, Conn, Pair, Call, start, open′, on, goaway, Answer, gave, left, house, code, same, spend, killed, call, rowed, lent}
+use Rattle.rules.specs.Calls.{Gave, Left, Own, Machine, pick, Kind, kindOf, Slot, free, Row, Conn, Pair, Call, start, open′, on, goaway, Answer, gave, left, house, code, same, spend, killed, call, rowed, lent}
 use Rattle.traces.specs.Row.{Replaced, put-replaces, pick-yes, pick-no}
 use Rattle.traces.specs.Went.{Alive, pair, Went, restarted, still-dead, by-house, barring, faulting, dying, opening, stepping, leaving, sending, went}
 

@@ -1,6 +1,3 @@
-pub mod Stream
-pub mod Board
-pub mod View
 pub mod Row
 pub mod Went
 pub mod Sound
@@ -13,7 +10,6 @@ pub mod Demands
 pub mod Progress
 pub mod Why
 pub mod Leaves
-pub mod Ledger
 pub mod Opening
 pub mod Lowest
 pub mod Refine

@@ -8,13 +8,11 @@ use mathlib.Core.List.{List, [], _∷_}
 use mathlib.Core.Logic.{_↔_}
 use mathlib.Core.Option.{Option, none, some, Option·none-ne-some, Option·some-injective}
 use Rattle.rules.specs.Numbers.{StreamFault, ConnectionFault, Code, of-stream, of-connection}
-use Rattle.traces.specs.Stream.{Gave, Left, whole, freed, Own, feed, section, end, reset, Machine}
-use Rattle.traces.specs.Board.{pick, Kind, request, one-way, kindOf, Conn, Pair, Call, start, open′, on, goaway, Answer, gave, left, house, code, nextOf, spend, killed, keeping, limited, fresh, same, call, run, Entry, trace}
-use Rattle.traces.specs.View.{Shown, Fate, unopened, spent, running, ended, dropped, refused, lost, View, struck, elsewhere, mine, ifRunning, opened, unseen, restarted as anew, seen, viewFrom, view}
+use Rattle.rules.specs.Calls.{Gave, Left, whole, freed, Own, feed, section, end, reset, Machine, pick, Kind, request, one-way, kindOf, Conn, Pair, Call, start, open′, on, goaway, Answer, gave, left, house, code, nextOf, spend, killed, keeping, limited, fresh, same, call, run, Entry, trace}
+use Rattle.rules.specs.Shown.{Shown, Fate, unopened, spent, running, ended, dropped, refused, lost, View, struck, elsewhere, mine, ifRunning, opened, unseen, restarted as anew, seen, viewFrom, view, Ledger, ledger, nextIn}
 use Rattle.traces.specs.Row.{pick-yes, pick-no}
 use Rattle.traces.specs.Went.{Alive, pair, Went, restarted, still-dead, by-house, barring, faulting, dying, opening, stepping, leaving, sending, went}
 use Rattle.traces.specs.Sound.{next-grows, next-spent, next-keeping, next-limited, next-killed}
-use Rattle.traces.specs.Ledger.{Ledger, ledger, nextIn}
 use Rattle.traces.specs.Opening.{next-told}
 
 -- an opening was accepted, or refused as barred

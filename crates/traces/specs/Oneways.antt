@@ -5,9 +5,8 @@ use Prim.Native.Nat.{ℕ}
 use mathlib.Core.List.{List, [], _∷_}
 use mathlib.Core.Option.{Option, none, some}
 use Rattle.rules.specs.Numbers.{ConnectionFault, stream-creation-error, Code, of-stream, of-connection, no-section}
-use Rattle.traces.specs.Stream.{Event, Fed, goes, faults, Own, feed, section, end, reset, Out, refuse, step, leave, fault, ofFed, ofClosed, mapOut, Left, freed, Machine, act₁}
-use Rattle.traces.specs.Board.{Kind, one-way, kindOf, Stream, telling, first, actOn, Call, fresh, run, trace}
-use Rattle.traces.specs.View.{Shown, Fate, unopened, spent, running, ended, dropped, refused, lost, nothing, plusFeed, plusBytes, fedly, mine, view}
+use Rattle.rules.specs.Calls.{Event, Fed, goes, faults, Own, feed, section, end, reset, Out, refuse, step, leave, fault, ofFed, ofClosed, mapOut, Left, freed, Machine, act₁, Kind, one-way, kindOf, Stream, telling, first, actOn, Call, fresh, run, trace}
+use Rattle.rules.specs.Shown.{Shown, Fate, unopened, spent, running, ended, dropped, refused, lost, nothing, plusFeed, plusBytes, fedly, mine, view}
 use Rattle.traces.specs.Follow.{Shut, GoesOn, goes-on, Next, Tale, Agrees, agrees}
 
 abbrev pub Both : Machine → Type 0

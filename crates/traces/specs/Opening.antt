@@ -9,13 +9,12 @@ use mathlib.Core.Logic.{_↔_}
 use mathlib.Core.Option.{Option, none, some, Option·none-ne-some}
 use lib.ListN.{length}
 use Rattle.rules.specs.Numbers.{House, not-next, no-record, request-rejected, ConnectionFault, Code, of-stream, of-connection}
-use Rattle.traces.specs.Stream.{Gave, done, Own, Machine, either}
-use Rattle.traces.specs.Board.{pick, Kind, request, one-way, kindOf, over, Slot, free, held, Row, Conn, Pair, Call, start, open′, on, goaway, Answer, gave, left, house, code, Result, Entry, nextOf, spend, killed, keeping, limited, barred, find, put, seat, same, with, alive, fresh, first, seated, opening as opening-at, call, run, trace}
+use Rattle.rules.specs.Calls.{Gave, done, Own, Machine, either, pick, Kind, request, one-way, kindOf, over, Slot, free, held, Row, Conn, Pair, Call, start, open′, on, goaway, Answer, gave, left, house, code, Result, Entry, nextOf, spend, killed, keeping, limited, barred, find, put, seat, same, with, alive, fresh, first, seated, opening as opening-at, call, run, trace}
 use Rattle.traces.specs.Row.{Seated, Replaced, put-replaces, taken, taken-seat, taken-held, taken-free, taken-empty, room-before, seat-room, pick-yes}
 use Rattle.traces.specs.Went.{Alive, pair, Went, restarted, still-dead, by-house, barring, faulting, dying, opening, stepping, leaving, sending, went}
 use Rattle.traces.specs.Sound.{Sound, next-absent, sound-call, sound-run, sound-fresh}
 use Rattle.traces.specs.Alone.{no-code, no-house}
-use Rattle.traces.specs.Ledger.{Ledger, blank, opens, counts, dies, limits, noted, ledgerFrom, ledger, nextIn, barredIn, MayOpen}
+use Rattle.rules.specs.Shown.{Ledger, blank, opens, counts, dies, limits, noted, ledgerFrom, ledger, nextIn, barredIn, MayOpen}
 
 -- the ledger of a trace and the pair that it left
 pub record Tallies {M : Machine} (p : Pair M) (l : Ledger) : Type 0 where

@@ -8,9 +8,8 @@ use mathlib.Core.Bool.{Bool, true, false}
 use mathlib.Core.Option.{some}
 use lib.ListN.{length, take}
 use Rattle.rules.specs.Numbers.{StreamFault, Code, of-stream, of-connection, section-due, no-section, unreadable}
-use Rattle.traces.specs.Stream.{Event, Fed, goes, faults, Given, sound, unsound, Ended, is-whole, broken, Own, feed, section, refuse, ofFed, ofGiven, mapOut, done, fed, Machine, act, either}
-use Rattle.traces.specs.Board.{request, kindOf, asking, Pair, Call, on, Answer, gave, house, code, same, with, faulted, settle, fresh, call, run, trace}
-use Rattle.traces.specs.View.{Shown, View, Fate, running, refused, plusFeed, plusBytes, plusSection, mine, fedly, view}
+use Rattle.rules.specs.Calls.{Event, Fed, goes, faults, Given, sound, unsound, Ended, is-whole, broken, Own, feed, section, refuse, ofFed, ofGiven, mapOut, done, fed, Machine, act, either, request, kindOf, asking, Pair, Call, on, Answer, gave, house, code, same, with, faulted, settle, fresh, call, run, trace}
+use Rattle.rules.specs.Shown.{Shown, View, Fate, running, refused, plusFeed, plusBytes, plusSection, mine, fedly, view}
 use Rattle.traces.specs.Alone.{call-on-asking}
 use Rattle.traces.specs.Story.{Reached, by-feed, by-section, Asks, asks, Story, story, shut}
 use Rattle.traces.specs.Follow.{Agrees, open-still, over, agrees, not-running}

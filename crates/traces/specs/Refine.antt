@@ -6,8 +6,7 @@ use native.Mathlib.Omega.{arith}
 use mathlib.Core.List.{List, [], _∷_, map}
 use mathlib.Core.Option.{Option, none, some}
 use lib.ListN.{length, getD, set}
-use Rattle.traces.specs.Stream.{Machine}
-use Rattle.traces.specs.Board.{Stream, Slot, free, held, Row, find, put, behind, seat}
+use Rattle.rules.specs.Calls.{Machine, Stream, Slot, free, held, Row, find, put, behind, seat}
 use Rattle.traces.specs.Row.{find-here, find-there, put-here, put-there}
 
 module _ {M : Machine} where

@@ -6,8 +6,7 @@ use native.Mathlib.Omega.{arith}
 use mathlib.Core.List.{List, [], _∷_}
 use mathlib.Core.Option.{Option, none, some, Option·none-ne-some, Option·some-injective}
 use lib.ListN.{length}
-use Rattle.traces.specs.Stream.{Machine}
-use Rattle.traces.specs.Board.{Kind, request, one-way, kindOf, Stream, Slot, free, held, Row, Conn, Pair, Call, Answer, Held, nextOf, spend, killed, keeping, limited, find, put, fresh, first, call, run}
+use Rattle.rules.specs.Calls.{Machine, Kind, request, one-way, kindOf, Stream, Slot, free, held, Row, Conn, Pair, Call, Answer, Held, nextOf, spend, killed, keeping, limited, find, put, fresh, first, call, run}
 use Rattle.traces.specs.Row.{Distinct, Seated, find-put-same, find-put-other, find-free-other, find-free-same, distinct-held, distinct-free, length-put, find-seat-same, find-seat-other, distinct-seat, length-seat, find-empty, distinct-empty}
 use Rattle.traces.specs.Went.{Alive, pair, Went, restarted, still-dead, by-house, barring, faulting, dying, opening, stepping, leaving, sending, went}
 

@@ -5,9 +5,8 @@ use Prim.Native.Nat.{ℕ}
 use mathlib.Core.List.{List, [], _∷_}
 use mathlib.Core.Bool.{Bool, true, false}
 use Rattle.rules.specs.Numbers.{StreamFault, Code, of-stream, of-connection, section-due, no-section, unreadable}
-use Rattle.traces.specs.Stream.{Event, Fed, goes, faults, Given, sound, unsound, Ended, is-whole, broken, Own, feed, section, end, reset, Out, refuse, step, leave, fault, ofFed, ofGiven, ofEnded, mapOut, Gave, done, Left, whole, freed, Machine, act, either}
-use Rattle.traces.specs.Board.{Kind, request, Stream, asking, first, actOn}
-use Rattle.traces.specs.View.{Shown, Fate, unopened, spent, running, ended, dropped, refused, lost, nothing, plusFeed, plusBytes, plusSection, fedly, mine}
+use Rattle.rules.specs.Calls.{Event, Fed, goes, faults, Given, sound, unsound, Ended, is-whole, broken, Own, feed, section, end, reset, Out, refuse, step, leave, fault, ofFed, ofGiven, ofEnded, mapOut, Gave, done, Left, whole, freed, Machine, act, either, Kind, request, Stream, asking, first, actOn}
+use Rattle.rules.specs.Shown.{Shown, Fate, unopened, spent, running, ended, dropped, refused, lost, nothing, plusFeed, plusBytes, plusSection, fedly, mine}
 use Rattle.traces.specs.Follow.{Shut, GoesOn, goes-on, Next, Tale}
 
 -- accepted feeds and sections lead a fresh request stream to r, showing s

@@ -6,9 +6,8 @@ use mathlib.Core.List.{List, [], _∷_}
 use mathlib.Core.Bool.{Bool, true, false}
 use mathlib.Core.Option.{Option, none, some}
 use Rattle.rules.specs.Numbers.{House, StreamFault, request-rejected, ConnectionFault, Code, of-stream, of-connection}
-use Rattle.traces.specs.Stream.{Gave, done, Left, Own, Out, refuse, step, leave, fault, Machine, either}
-use Rattle.traces.specs.Board.{pick, Kind, kindOf, Stream, Slot, free, held, Row, Conn, Pair, Held, Call, start, open′, on, goaway, Answer, gave, left, house, code, Result, nextOf, spend, killed, keeping, limited, barred, find, put, seat, same, with, alive, fresh, first, seated, faulted, actOn, settle, acting, goodGoaway, goawaySize, call}
-use Rattle.traces.specs.Board
+use Rattle.rules.specs.Calls.{Gave, done, Left, Own, Out, refuse, step, leave, fault, Machine, either, pick, Kind, kindOf, Stream, Slot, free, held, Row, Conn, Pair, Held, Call, start, open′, on, goaway, Answer, gave, left, house, code, Result, nextOf, spend, killed, keeping, limited, barred, find, put, seat, same, with, alive, fresh, first, seated, faulted, actOn, settle, acting, goodGoaway, goawaySize, call}
+use Rattle.rules.specs.Calls
 use Rattle.traces.specs.Row.{Seated, seat-is}
 
 abbrev pub Alive : {M : Machine} → Pair M → Type 0
@@ -50,8 +49,8 @@ module _ {M : Machine} where
       go none e = w e
       go (some k) e = still-dead e
 
-  went-opening : (id : ℕ) (p : Pair M) → Alive p → Goes p (open′ id) (Board.opening id (kindOf id) p)
-  unfolding Board.opening same with pick either seated
+  went-opening : (id : ℕ) (p : Pair M) → Alive p → Goes p (open′ id) (Calls.opening id (kindOf id) p)
+  unfolding Calls.opening same with pick either seated
   went-opening id p a = go (kindOf id) refl
     where
       last : (k : Kind) → kindOf id ≡ some k → id ≡ nextOf k (p .conn) → id < 2 ^ 62 → barred k (p .conn) id ≡ false
@@ -74,7 +73,7 @@ module _ {M : Machine} where
       next k e (yes n) = low k e n (decLt id (2 ^ 62))
       next k e (no n) = by-house a
 
-      go : (o : Option Kind) → kindOf id ≡ o → Goes p (open′ id) (Board.opening id o p)
+      go : (o : Option Kind) → kindOf id ≡ o → Goes p (open′ id) (Calls.opening id o p)
       go none e = by-house a
       go (some k) e = next k e (ℕ-discrete id (nextOf k (p .conn)))
 
@@ -91,8 +90,8 @@ module _ {M : Machine} where
   went-acting id o p a none e = by-house a
   went-acting id o p a (some s) e = went-settle id o p s a e (actOn (p .conn .kept) s o) refl
 
-  went-sending : (id room : ℕ) (p : Pair M) → Alive p → Goes p (goaway id room) (Board.sending id room p)
-  unfolding Board.sending same with either pick
+  went-sending : (id room : ℕ) (p : Pair M) → Alive p → Goes p (goaway id room) (Calls.sending id room p)
+  unfolding Calls.sending same with either pick
   went-sending id room p a = go (goodGoaway (p .conn .limit) id) refl (decLe (goawaySize id) room)
     where
       go : (b : Bool) → goodGoaway (p .conn .limit) id ≡ b → (d : Dec (goawaySize id ≤ room))
@@ -104,6 +103,6 @@ module _ {M : Machine} where
   pub went : (c : Call M) (p : Pair M) → Went p c (call c p .answer) (call c p .after)
   unfolding call same
   went start p = restarted
-  went (open′ id) p = went-alive p (open′ id) (Board.opening id (kindOf id) p) (went-opening id p)
+  went (open′ id) p = went-alive p (open′ id) (Calls.opening id (kindOf id) p) (went-opening id p)
   went (on id o) p = went-alive p (on id o) (acting id o p (find id (p .row))) (λ a. went-acting id o p a (find id (p .row)) refl)
-  went (goaway id room) p = went-alive p (goaway id room) (Board.sending id room p) (went-sending id room p)
+  went (goaway id room) p = went-alive p (goaway id room) (Calls.sending id room p) (went-sending id room p)
