@@ -4,7 +4,7 @@ use Prim.Native.Nat.{ℕ}
 use mathlib.Core.List.{List, [], _∷_, _++_}
 use mathlib.Core.Option.{some}
 use lib.ListN.{length}
-use Rattle.rules.specs.Numbers.{not-24}
+use Rattle.rules.specs.Numbers.{other-row}
 use Rattle.rules.specs.Calls.{request, kindOf, house}
 use Rattle.demands.specs.LongerStreams.{headerOf}
 use Rattle.demands.specs.Demands.{Calls}
@@ -30,7 +30,7 @@ demand-1-stream-fault w = every w FreesOne (λ c rows k x c′ rows′ m a. stre
 
 -- A ROW OF ANOTHER LENGTH: 9, and neither record altered, so a run goes on as if the call had not been
 abbrev pub AnswersNine : CallSays
-AnswersNine c rows k x c′ rows′ = LentRow k → ¬ (length rows ≡ 24) → (c′ ≡ c) × (rows′ ≡ rows) × (x ≡ seenOf k (house not-24))
+AnswersNine c rows k x c′ rows′ = LentRow k → ¬ (length rows ≡ 24) → (c′ ≡ c) × (rows′ ≡ rows) × (x ≡ seenOf k (house other-row))
 
 pub demand-1-nine : (w : World) → Every w AnswersNine
 demand-1-nine w = every w AnswersNine (λ c rows k x c′ rows′ m l n. nine-so l n m)

@@ -135,11 +135,11 @@ house-small table.not-open = omega arith
 house-small table.not-next = omega arith
 house-small table.no-record = omega arith
 house-small table.section-due = omega arith
-house-small table.none-due = omega arith
+house-small table.no-section = omega arith
 house-small table.unreadable = omega arith
-house-small table.short-room = omega arith
+house-small table.room-short = omega arith
 house-small table.bad-value = omega arith
-house-small table.not-24 = omega arith
+house-small table.other-row = omega arith
 
 small-none : {X : Type 0} (n : ℕ) → n ≤ 9 → IsStreamFault n → X
 small-none n l (f, e) = let h = code-high (of-stream f) in absurd (omega arith)
@@ -235,7 +235,7 @@ module _ (c : Connection) (call allow : ℕ) (piece : List ℕ) (alive : c .door
       let f = F.feed (asking-rules document) allow s piece in
       by-own Replies call
       (λ z. due-answers _ _ s (of-house table.section-due) (said-answers r (f .used) (f .heads) (f .event) (f .after) z (feed-runs (asking-rules document) allow 0 s piece .fits) (feed-allows (asking-rules document) allow s piece)))
-      (due-answers _ _ s (read-answers r s (lines piece)) (of-house table.none-due))
+      (due-answers _ _ s (read-answers r s (lines piece)) (of-house table.no-section))
       (end-answers r (M.finish (asking-rules document) 0 s))
       accepts
 
@@ -261,7 +261,7 @@ module _ (c : Connection) (call allow : ℕ) (piece : List ℕ) (alive : c .door
   one-way-answers r d s =
       let seen = typesOf (d .control) (d .encoder) (d .decoder) in
       let f = O.feed seen allow s piece in
-      by-own Hears call (λ z. heard-answers r d (f .used) (f .heads) (f .event) (f .after) z (one-fits seen allow s piece .fits) (one-allows seen allow s piece)) (of-house table.none-due) (close-answers r d s) (close-answers r d s)
+      by-own Hears call (λ z. heard-answers r d (f .used) (f .heads) (f .event) (f .after) z (one-fits seen allow s piece .fits) (one-allows seen allow s piece)) (of-house table.no-section) (close-answers r d s) (close-answers r d s)
 
 -- ---- an opening
 
@@ -314,7 +314,7 @@ Reports c call allow piece r = Answers c call allow piece (r .number) (r .event)
 
 module _ {c : Connection} {f : Found} {call id allow : ℕ} {piece : List ℕ} {t : Turn} where
   turned-answers : Turned c f call id allow piece t → Reports c call allow piece (t .report)
-  turned-answers (other-row x q) = subst (Reports c call allow piece) (sym (ap (λ y. y .report) q)) (of-house table.not-24)
+  turned-answers (other-row x q) = subst (Reports c call allow piece) (sym (ap (λ y. y .report) q)) (of-house table.other-row)
   turned-answers (dead l x q) = subst (Reports c call allow piece) (sym (ap (λ y. y .report) q)) dead-already
   turned-answers (opens v e q) = subst (Reports c call allow piece) (sym (ap (λ y. y .report) q))
       (opening-goes (λ o. Answers c call allow piece (o .number) 0 0 0 0 0 0) (c .doors) id (λ next. accepts) (of-house table.not-next) (of-house table.no-record) (λ x. elsewhere (of-stream request-rejected)) (c .doors .code) (freeAt (f .at)) (v .alive))
@@ -366,7 +366,7 @@ module _ (c : Connection) (id room : ℕ) where
   into-sends (some bytes) = by (ltb room (length bytes))
     where
       by : (x : Bool) → Sends (elim x [ true ↦ refused 7 | false ↦ wrote bytes ])
-      by true = writes-none table.short-room
+      by true = writes-none table.room-short
       by false = writes
 
   goaway-sends : (code : ℕ) → code ≡ c .doors .code → Sends (writeOf code (doorsIn c) id room)
@@ -391,7 +391,7 @@ written-facts dead-writes z = (refl, inr refl)
 -- EVERY REFUSAL of every call, whatever memory is lent
 pub refused-in-memory : {c : Connection} {rows : List Record} {k : Call streams} {x : Seen} {c′ : Connection} {rows′ : List Record} → Does c rows k x c′ rows′ → ¬ (numberIn x ≡ 0) → Refused c k x
 unfolding numberIn
-refused-in-memory {c} {rows} (starts m) z = record { hands-nothing = tt; counts = tt; numbered = inl (subst InTable (sym (m .answered)) (begun-goes (λ n. ¬ (n ≡ 0) → InTable n) c (length rows) (λ x. absurd (x refl)) (λ x. house-row table.not-24) (λ e. z (m .answered ∙ e)))) }
+refused-in-memory {c} {rows} (starts m) z = record { hands-nothing = tt; counts = tt; numbered = inl (subst InTable (sym (m .answered)) (begun-goes (λ n. ¬ (n ≡ 0) → InTable n) c (length rows) (λ x. absurd (x refl)) (λ x. house-row table.other-row) (λ e. z (m .answered ∙ e)))) }
 refused-in-memory (opens-one {id = id} m) z = refused-other m (open′ id) (λ x. x) (λ e. omega arith) z
 refused-in-memory (feeds {id = id} m) z = refused-feed m id z
 refused-in-memory (gives {id = id} {block = block} m) z = refused-other m (on id (section block)) (λ x. x) (λ e. omega arith) z

@@ -12,7 +12,7 @@ use lib.ListN.{length}
 use Rattle.rules.specs.Numbers.{not-open, not-next, section-due, bad-value, message-error, frame-unexpected, closed-critical-stream, of-stream, of-connection}
 use Rattle.rules.specs.Text.{ascii, hex}
 use Rattle.rules.specs.Frames.{frame, framesFrom}
-use Rattle.rules.specs.Writer.{into, both, header-bytes, write-header}
+use Rattle.rules.specs.Writer.{into, both, header-bytes, write-header, integer-frame, isHigher, badGoaway}
 use Rattle.rules.specs.Integers.{rows, low, inRow, inFirst, written}
 use Rattle.rules.specs.Worked as worked
 use Rattle.varint.specs.Write.{wroteOf, leftIn}
@@ -21,7 +21,7 @@ use Rattle.meaning.specs.Feed as F
 use Rattle.meaning.specs.OneWayFeed as O
 use Rattle.meaning.specs.FrameLaws.{head}
 use Rattle.meaning.specs.Feeds.{headersIn}
-use Rattle.rules.specs.Calls.{settings, section-bytes, content-bytes, part, contentIn, sectionIn, noticesIn, qpackIn, done, fed, whole, freed, feed, section, end, reset, ofFed, ofGiven, ofEnded, mapOut, toldBy, act, act₁, either, pick, kindOf, over, Call, open′, on, gave, left, house, code, nextOf, spend, keeping, killed, barred, find, put, behind, seat, same, with, alive, fresh, first, seated, opening, faulted, actOn, settle, acting, higher, goodGoaway, goawaySize, sending, call, run, trace}
+use Rattle.rules.specs.Calls.{settings, section-bytes, content-bytes, part, contentIn, sectionIn, noticesIn, qpackIn, done, fed, whole, freed, feed, section, end, reset, ofFed, ofGiven, ofEnded, mapOut, toldBy, act, act₁, either, pick, kindOf, over, Call, open′, on, gave, left, house, code, nextOf, spend, keeping, killed, barred, find, put, behind, seat, same, with, alive, fresh, first, seated, opening, faulted, actOn, settle, acting, sizeIn, goawaySize, sending, call, run, trace}
 use Rattle.rules.specs.Shown.{ended, refused, View, nothing, plusFeed, plusBytes, plusSection, fedly, mine, ifRunning, opened, unseen, seen, viewFrom, view, ledger, ledgerFrom, noted, dies, opens, counts, blank}
 use Rattle.traces.specs.Demands.{endAnswer, Struck, SameOutput, is-ended}
 use Rattle.traces.specs.Progress.{Moves, Takes, a-feed}
@@ -187,11 +187,11 @@ unfolding shows just-open
 other-opens = opens-exactly just-open 8
 
 pub goaway-goes : Sends (ledger (trace fresh just-open)) 0 3 (gave done)
-unfolding shows just-open sending goodGoaway higher goawaySize
+unfolding shows just-open sending badGoaway isHigher goawaySize sizeIn integer-frame
 goaway-goes = sends-exactly just-open 0 3
 
 pub no-such-goaway : Sends (ledger (trace fresh just-open)) 2 3 (house bad-value)
-unfolding shows just-open sending goodGoaway
+unfolding shows just-open sending badGoaway
 no-such-goaway = sends-exactly just-open 2 3
 
 -- ---- a control stream: its type, and SETTINGS with 6: 5

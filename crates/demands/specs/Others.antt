@@ -11,7 +11,9 @@ use mathlib.Core.Option.{Option, none, some, Option·none-ne-some, Option·some-
 use Rattle.rules.specs.Numbers.{not-open, not-next, no-record, section-due, no-section, unreadable, room-short, bad-value, request-rejected, ConnectionFault, of-stream, of-connection, Code}
 use Rattle.rules.specs.Block.{lines}
 use Rattle.rules.specs.OneWay.{oneWay}
-use Rattle.rules.specs.Calls.{Fed, goes, faults, Given, sound, unsound, done, freed, Own, feed, section, end, reset, Out, refuse, ofFed, ofGiven, mapOut, Machine, act, either, ofClosed, act₁, pick, Kind, request, kindOf, higher, goawaySize, goodGoaway, asking, held, Row, Pair, Held, Call, open′, on, goaway, Answer, gave, left, house, code, Result, nextOf, spend, limited, barred, find, seat, same, with, alive, first, seated, faulted, settle, fresh, call, run, trace, one-way, telling, actOn}
+use Rattle.rules.specs.Writer.{badGoaway}
+use Rattle.meaning.specs.WriterLaws.{MaySend, may-send}
+use Rattle.rules.specs.Calls.{Fed, goes, faults, Given, sound, unsound, done, freed, Own, feed, section, end, reset, Out, refuse, ofFed, ofGiven, mapOut, Machine, act, either, ofClosed, act₁, pick, Kind, request, kindOf, goawaySize, asking, held, Row, Pair, Held, Call, open′, on, goaway, Answer, gave, left, house, code, Result, nextOf, spend, limited, barred, find, seat, same, with, alive, first, seated, faulted, settle, fresh, call, run, trace, one-way, telling, actOn}
 use Rattle.rules.specs.Calls as board
 use Rattle.rules.specs.Shown.{Shown, running, View, view, Ledger, ledger, nextIn, barredIn}
 use Rattle.traces.specs.Row.{seat-is, seat-room, room-before}
@@ -156,63 +158,27 @@ one-opening (is-opened d n b f) (is-opened e m c g) = refl
 
 -- ---- our GOAWAY
 
--- a request ID, below 2^62, not higher than our last
-pub record MaySend (l : Ledger) (id : ℕ) : Type 0 where
-  pub asks : id % 4 ≡ 0
-  pub low : id < 2 ^ 62
-  pub falls : (m : ℕ) → l .limit ≡ some m → id ≤ m
-
 -- the code of a dead connection; 8; 7; accepted
 pub data Sends (l : Ledger) (id room : ℕ) : Answer → Type 0 where
   is-dead : {k : ConnectionFault} → l .dead ≡ some k → Sends l id room (code (of-connection k) 0 0)
-  wrong-id : l .dead ≡ none → (MaySend l id → ⊥) → Sends l id room (house bad-value)
-  too-long : l .dead ≡ none → MaySend l id → room < goawaySize id → Sends l id room (house room-short)
-  is-sent : l .dead ≡ none → MaySend l id → goawaySize id ≤ room → Sends l id room (gave done)
-
-not-higher : (o : Option ℕ) (id : ℕ) → higher o id ≡ false → (m : ℕ) → o ≡ some m → id ≤ m
-unfolding higher
-not-higher none id h m e = absurd (Option·none-ne-some m e)
-not-higher (some j) id h m e = let q : j ≡ m = Option·some-injective j m e in by (decLt j id) h q
-  where
-    by : (d : Dec (j < id)) → pick d true false ≡ false → j ≡ m → id ≤ m
-    by (yes w) h q = absurd (true≢false (unfold pick in h))
-    by (no w) h q = omega arith
-
-is-higher : (o : Option ℕ) (id : ℕ) → higher o id ≡ true → ((m : ℕ) → o ≡ some m → id ≤ m) → ⊥
-unfolding higher
-is-higher none id h f = true≢false (sym h)
-is-higher (some j) id h f = by (decLt j id) h (f j refl)
-  where
-    by : (d : Dec (j < id)) → pick d true false ≡ true → id ≤ j → ⊥
-    by (yes w) h q = omega arith
-    by (no w) h q = true≢false (sym (unfold pick in h))
-
-may : (l : Ledger) (id : ℕ) (m : Dec (id % 4 ≡ 0)) (s : Dec (id < 2 ^ 62)) (h : Bool) → higher (l .limit) id ≡ h → let g = pick m (pick s (either h false true) false) false in
-    (g ≡ true → MaySend l id) × (g ≡ false → MaySend l id → ⊥)
-unfolding pick either
-may l id (yes m) (yes s) false e = (λ q. record { asks = m; low = s; falls = not-higher (l .limit) id e }, λ q w. true≢false q)
-may l id (yes m) (yes s) true e = (λ q. absurd (true≢false (sym q)), λ q w. is-higher (l .limit) id e (w .falls))
-may l id (yes m) (no s) h e = (λ q. absurd (true≢false (sym q)), λ q w. s (w .low))
-may l id (no m) s h e = (λ q. absurd (true≢false (sym q)), λ q w. m (w .asks))
-
-may-send : (l : Ledger) (id : ℕ) → (goodGoaway (l .limit) id ≡ true → MaySend l id) × (goodGoaway (l .limit) id ≡ false → MaySend l id → ⊥)
-unfolding goodGoaway
-may-send l id = may l id (ℕ-discrete (id % 4) 0) (decLt id (2 ^ 62)) (higher (l .limit) id) refl
+  wrong-id : l .dead ≡ none → ¬ MaySend (l .limit) id → Sends l id room (house bad-value)
+  too-long : l .dead ≡ none → MaySend (l .limit) id → room < goawaySize id → Sends l id room (house room-short)
+  is-sent : l .dead ≡ none → MaySend (l .limit) id → goawaySize id ≤ room → Sends l id room (gave done)
 
 module _ {M : Machine} (p : Pair M) (l : Ledger) (t : Tallies p l) (id room : ℕ) where
-  sends : l .dead ≡ none → (g : Bool) → goodGoaway (l .limit) id ≡ g → (s : Dec (goawaySize id ≤ room))
-      → Sends l id room (either g (pick s (with (gave done) (limited id (p .conn)) (p .row)) (same (house room-short) p)) (same (house bad-value) p) .answer)
+  sends : l .dead ≡ none → (b : Bool) → badGoaway (l .limit) id ≡ b → (s : Dec (goawaySize id ≤ room))
+      → Sends l id room (either b (same (house bad-value) p) (pick s (with (gave done) (limited id (p .conn)) (p .row)) (same (house room-short) p)) .answer)
   unfolding either pick same with
-  sends d true g (yes s) = is-sent d (may-send l id .0 g) s
-  sends d true g (no s) = too-long d (may-send l id .0 g) (omega arith)
-  sends d false g s = wrong-id d (may-send l id .1 g)
+  sends d true b s = wrong-id d (may-send (l .limit) id .1 b)
+  sends d false b (yes s) = is-sent d (may-send (l .limit) id .0 b) s
+  sends d false b (no s) = too-long d (may-send (l .limit) id .0 b) (omega arith)
 
   at-sending : Sends l id room (call (goaway id room) p .answer)
   unfolding call alive same board.sending
   at-sending = by (p .conn .dead) refl
     where
       by : (d : Option ConnectionFault) → p .conn .dead ≡ d → Sends l id room (alive d p (board.sending id room p) .answer)
-      by none e = sends (t .dead ∙ e) (goodGoaway (p .conn .limit) id) (ap (λ x. goodGoaway x id) (t .limit)) (decLe (goawaySize id) room)
+      by none e = sends (t .dead ∙ e) (badGoaway (p .conn .limit) id) (ap (λ x. badGoaway x id) (t .limit)) (decLe (goawaySize id) room)
       by (some k) e = is-dead (t .dead ∙ e)
 
 -- OUR GOAWAY, by the trace

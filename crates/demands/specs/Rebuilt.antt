@@ -9,7 +9,7 @@ use mathlib.Core.Bool.{Bool, true, false, _||_}
 use mathlib.Core.Option.{Option, none, some}
 use lib.Dec.{eqb}
 use lib.ListN.{length, length-append}
-use Rattle.rules.specs.Numbers.{ConnectionFault, not-open, not-24, Code, of-stream, of-connection}
+use Rattle.rules.specs.Numbers.{ConnectionFault, not-open, other-row, Code, of-stream, of-connection}
 use Rattle.rules.specs.Reading.{header-section, trailers, content, skipped, section as for-section, kept, Saying, header, refused as refused-header, section-byte, content-byte, frame-kept, sectionBytes, headerBytes}
 use Rattle.rules.specs.Calls.{qpack-bytes, settings, client-goaway, max-push-id, Event, quiet, section-bytes, content-bytes, notice, part, contentIn, sectionIn, done, fed, whole, freed, Own, feed, section, end, reset, pick, Kind, request, one-way, kindOf, Pair, Call, start, open′, on, goaway, Answer, gave, left, house, code, same, call, run, fresh, trace}
 use Rattle.rules.specs.Shown as shown-by
@@ -354,7 +354,7 @@ LentRow (goaway id room) = ⊥
 
 -- NINE: lent such a row, a call answers 9 and alters neither record
 pub nine-so : {c : Connection} {rows : List Record} {k : Call streams} {x : Seen} {c′ : Connection} {rows′ : List Record} → LentRow k → ¬ (length rows ≡ 24) → Does c rows k x c′ rows′
-    → (c′ ≡ c) × (rows′ ≡ rows) × (x ≡ seenOf k (house not-24))
+    → (c′ ≡ c) × (rows′ ≡ rows) × (x ≡ seenOf k (house other-row))
 unfolding seenOf
 nine-so l n (starts m) = let u = start-nine n m in (u .0, u .1, ap a-number (u .2))
 nine-so l n (opens-one m) = let u = nine n m in (u .0, u .1, ap a-report (u .2))

@@ -8,14 +8,12 @@ use mathlib.Core.Bool.{Bool, true, false, not}
 use mathlib.Core.Logic.{inl, inr}
 use mathlib.Core.Option.{Option, none, some}
 use lib.Dec.{ltb}
-use lib.ListN.{length, length-append}
-use borrow.Author.Tests.{eq-eqb, ne-eqb, lt-ltb, le-ltb, le-leb, lt-leb}
+use lib.ListN.{length}
+use borrow.Author.Tests.{lt-ltb, le-ltb}
 use Rattle.rules.specs.Numbers.{houseNumber, room-short, bad-value, ConnectionFault, of-connection, codeNumber, coded}
-use Rattle.rules.specs.Integers.{row, rows, inRow, inFirst, written, largest}
-use Rattle.rules.specs.Writer.{Write, refused, wrote, into, both, header-bytes, integer-frame, write-integer-frame, isHigher, badGoaway, write-goaway}
-use Rattle.meaning.specs.IntegerLaws.{length-row}
-use Rattle.rules.specs.Calls.{done, either, pick, higher, goawaySize, goodGoaway, Pair, Result, goaway, gave, house, code, limited, same, with, alive, sending, call}
-use Rattle.traces.specs.Row.{pick-yes, pick-no}
+use Rattle.rules.specs.Integers.{written, largest}
+use Rattle.rules.specs.Writer.{Write, refused, wrote, into, integer-frame, write-integer-frame, badGoaway, write-goaway}
+use Rattle.rules.specs.Calls.{done, either, pick, sizeIn, goawaySize, Pair, Result, goaway, gave, house, code, limited, same, with, alive, sending, call}
 use Rattle.record.specs.declared.Record.{Record}
 use Rattle.connection.specs.Goaway as doors
 use Rattle.connection.specs.Goaway.{sentAs, sendingOf, writeOf}
@@ -27,101 +25,12 @@ use Rattle.connection.specs.Pair.{goaway-pair}
 use Rattle.board.specs.Promises.{SaidGoaway}
 use Rattle.demands.specs.Streams.{streams}
 use Rattle.meaning.specs.NumberLaws.{code-high}
+use Rattle.meaning.specs.WriterLaws.{may-send}
 use Rattle.demands.specs.Means.{rowOf, deadBy, connOf, pairOf, writtenOf}
 use Rattle.demands.specs.Settles.{dead-by, alive-call}
 use Rattle.demands.specs.Suited.{RowSuits, suits-call}
 use Rattle.demands.specs.Stands.{Coded, Stands, goaway-coded}
-
--- ---- which IDs it may have
-
-higher-same : (l : Option ℕ) (id : ℕ) → isHigher id l ≡ higher l id
-unfolding isHigher higher
-higher-same none id = refl
-higher-same (some s) id = by (decLt s id)
-  where
-    by : (x : Dec (s < id)) → ltb s id ≡ pick x true false
-    by (yes h) = lt-ltb s id h ∙ sym (pick-yes (yes h) true false h)
-    by (no h) = le-ltb s id (omega arith) ∙ sym (pick-no (no h) true false h)
-
-either-not : (b : Bool) → either b false true ≡ not b
-unfolding either
-either-not true = refl
-either-not false = refl
-
-good-same : (l : Option ℕ) (id : ℕ) → goodGoaway l id ≡ not (badGoaway l id)
-unfolding goodGoaway badGoaway largest
-good-same l id = by (ℕ-discrete (id % 4) 0) (decLt id (2 ^ 62))
-  where
-    by : Dec (id % 4 ≡ 0) → Dec (id < 2 ^ 62) → goodGoaway l id ≡ not (badGoaway l id)
-    by (no n) b = let x = ne-eqb (id % 4) 0 n in pick-no (ℕ-discrete (id % 4) 0) _ _ n ∙ rw (x, badGoaway) refl
-    by (yes m) (no n) = let x = eq-eqb (id % 4) 0 m in let y = lt-ltb 4_611_686_018_427_387_903 id (omega arith) in
-        pick-yes (ℕ-discrete (id % 4) 0) _ _ m ∙ pick-no (decLt id (2 ^ 62)) _ _ n ∙ rw (x, y, badGoaway) refl
-    by (yes m) (yes b) = let x = eq-eqb (id % 4) 0 m in let y = le-ltb 4_611_686_018_427_387_903 id (omega arith) in let z = higher-same l id in
-        pick-yes (ℕ-discrete (id % 4) 0) _ _ m ∙ pick-yes (decLt id (2 ^ 62)) _ _ b ∙ rw (x, y, z, badGoaway) (either-not (higher l id))
-
-good-below : (l : Option ℕ) (id : ℕ) → goodGoaway l id ≡ true → id < 2 ^ 62
-unfolding goodGoaway
-good-below l id e = by (ℕ-discrete (id % 4) 0) (decLt id (2 ^ 62))
-  where
-    by : Dec (id % 4 ≡ 0) → Dec (id < 2 ^ 62) → id < 2 ^ 62
-    by a (yes b) = b
-    by (no n) (no b) = let q = sym (pick-no (ℕ-discrete (id % 4) 0) _ _ n) ∙ e in let z : _≡_ {A = ℕ} 0 1 = cc in absurd (omega arith)
-    by (yes m) (no b) = let q = sym (pick-yes (ℕ-discrete (id % 4) 0) _ _ m ∙ pick-no (decLt id (2 ^ 62)) _ _ b) ∙ e in let z : _≡_ {A = ℕ} 0 1 = cc in absurd (omega arith)
-
--- ---- how long the frame is
-
--- an integer in a size
-small : (v : ℕ) → v ≤ 63 → written v ≡ some (inRow (row 0 1 63) v)
-unfolding written rows inFirst
-small v h = let x = le-leb v 63 h in rw (x, inFirst) refl
-
-pub record Long (o : Option (List ℕ)) (n : ℕ) : Type 0 where
-  pub bytes : List ℕ
-  pub is : o ≡ some bytes
-  pub long : length bytes ≡ n
-
-frame-long : {o : Option (List ℕ)} {n : ℕ} → Long o n → n ≤ 63 → Long (integer-frame 7 o) (2 + n)
-unfolding integer-frame header-bytes both
-frame-long {o} {n} w h =
-    let a = inRow (row 0 1 63) 7 in
-    let b = inRow (row 0 1 63) n in
-    let x = small 7 (omega arith) in
-    let y = small n h in
-    let i = w .is in
-    let l = w .long in
-    let c = length-append (a ++ b) (w .bytes) in
-    let d = length-append a b in
-    let e = length-row (row 0 1 63) 7 in
-    let f = length-row (row 0 1 63) n in
-    record { bytes = (a ++ b) ++ w .bytes; is = rw i (rw l (rw (x, y) refl)); long = omega arith }
-
--- whichever size it has
-integer-long : (v : ℕ) → v < 2 ^ 62 → Long (written v) (goawaySize v - 2) × (2 ≤ goawaySize v) × (goawaySize v ≤ 10)
-unfolding written rows inFirst goawaySize pick
-integer-long v h = by (decLt v (2 ^ 6)) (decLt v (2 ^ 14)) (decLt v (2 ^ 30))
-  where
-    by : (a : Dec (v < 2 ^ 6)) (b : Dec (v < 2 ^ 14)) (c : Dec (v < 2 ^ 30)) → let n : ℕ = pick a 3 (pick b 4 (pick c 6 10)) in Long (inFirst rows v) (n - 2) × (2 ≤ n) × (n ≤ 10)
-    by (yes a) b c = let x = le-leb v 63 (omega arith) in let r = row 0 1 63 in
-        (record { bytes = inRow r v; is = rw (x, inFirst) refl; long = length-row r v }, omega arith, omega arith)
-    by (no a) (yes b) c = let x = lt-leb v 63 (omega arith) in let y = le-leb v 16_383 (omega arith) in let r = row 1 2 16_383 in
-        (record { bytes = inRow r v; is = rw (x, inFirst) (rw (y, inFirst) refl); long = length-row r v }, omega arith, omega arith)
-    by (no a) (no b) (yes c) =
-        let x = lt-leb v 63 (omega arith) in
-        let y = lt-leb v 16_383 (omega arith) in
-        let z = le-leb v 1_073_741_823 (omega arith) in
-        let r = row 2 4 1_073_741_823 in
-        (record { bytes = inRow r v; is = rw (x, inFirst) (rw (y, inFirst) (rw (z, inFirst) refl)); long = length-row r v }, omega arith, omega arith)
-    by (no a) (no b) (no c) =
-        let x = lt-leb v 63 (omega arith) in
-        let y = lt-leb v 16_383 (omega arith) in
-        let z = lt-leb v 1_073_741_823 (omega arith) in
-        let w = le-leb v 4_611_686_018_427_387_903 (omega arith) in
-        let r = row 3 8 4_611_686_018_427_387_903 in
-        (record { bytes = inRow r v; is = rw (x, inFirst) (rw (y, inFirst) (rw (z, inFirst) (rw (w, inFirst) refl))); long = length-row r v }, omega arith, omega arith)
-
-goaway-long : (id : ℕ) → id < 2 ^ 62 → Long (integer-frame 7 (written id)) (goawaySize id)
-goaway-long id h = let r = integer-long id h in let low = r .1 in let high = r .2 in let w = frame-long (r .0) (omega arith) in
-    record { bytes = w .bytes; is = w .is; long = (let l = w .long in omega arith) }
+use Rattle.demands.specs.Writes.{EitherAbove, frame-above}
 
 -- ---- the call
 
@@ -155,18 +64,26 @@ module _ (c : Connection) (rows : List Record) (id room : ℕ) where
   unfolding sendingOf same writtenOf
   dead-so k = record { after = refl; answer = refl }
 
-  room-so : {o : Option (List ℕ)} → Long o (goawaySize id) → (d : Dec (goawaySize id ≤ room)) → Writes (into room o) (pick d (with (gave done) (limited id (connOf c)) (rowOf (sideIn c) rows)) (same (house room-short) p))
-  unfolding into pick
-  room-so w (yes h) = let i = w .is in let l = w .long in let x = le-ltb room (length (w .bytes)) (omega arith) in rw (i, into) (rw x (wrote-so (w .bytes) l))
-  room-so w (no h) = let i = w .is in let l = w .long in let x = lt-ltb room (length (w .bytes)) (omega arith) in rw (i, into) (rw x short-so)
+  -- a frame whose ID is below 2^62 can be written
+  room-so : id < 2 ^ 62 → (o : Option (List ℕ)) → integer-frame 7 (written id) ≡ o → (d : Dec (goawaySize id ≤ room))
+      → Writes (into room o) (pick d (with (gave done) (limited id (connOf c)) (rowOf (sideIn c) rows)) (same (house room-short) p))
+  unfolding into pick goawaySize sizeIn largest
+  room-so h none e d = by (frame-above 7 id (written id) refl e)
+    where
+      by : EitherAbove 7 id → Writes (into room none) (pick d (with (gave done) (limited id (connOf c)) (rowOf (sideIn c) rows)) (same (house room-short) p))
+      by (inl l) = absurd (omega arith)
+      by (inr l) = absurd (omega arith)
+  room-so h (some bytes) e (yes l) = let n : goawaySize id ≡ length bytes = ap sizeIn e in let x = le-ltb room (length bytes) (omega arith) in rw x (wrote-so bytes (sym n))
+  room-so h (some bytes) e (no l) = let n : goawaySize id ≡ length bytes = ap sizeIn e in let x = lt-ltb room (length bytes) (omega arith) in rw x short-so
 
   live-so : Writes (write-goaway (connOf c .limit) room id) (sending id room p)
   unfolding write-goaway write-integer-frame sending either
   live-so = by (badGoaway (connOf c .limit) id) refl
     where
-      by : (b : Bool) → badGoaway (connOf c .limit) id ≡ b → Writes (elim b [ true ↦ refused 8 | false ↦ write-integer-frame room 7 id ]) (sending id room p)
-      by true e = let g = good-same (connOf c .limit) id ∙ ap not e in rw g bad-so
-      by false e = let g = good-same (connOf c .limit) id ∙ ap not e in rw g (room-so (goaway-long id (good-below (connOf c .limit) id g)) (decLe (goawaySize id) room))
+      by : (b : Bool) → badGoaway (connOf c .limit) id ≡ b → Writes (elim b [ true ↦ refused 8 | false ↦ write-integer-frame room 7 id ])
+          (either b (same (house bad-value) p) (pick (decLe (goawaySize id) room) (with (gave done) (limited id (connOf c)) (rowOf (sideIn c) rows)) (same (house room-short) p)))
+      by true e = bad-so
+      by false e = room-so (may-send (connOf c .limit) id .0 e .low) (integer-frame 7 (written id)) refl (decLe (goawaySize id) room)
 
   writes-so : Coded (c .doors .code) → Writes (writeOf (c .doors .code) (doorsIn c) id room) (call (goaway id room) p)
   unfolding call writeOf

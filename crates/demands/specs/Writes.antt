@@ -314,7 +314,7 @@ header-within type len bytes e =
     (neither (x .0) (y .0), omega (arith, t .long, x .1, y .1))
 
 -- a frame of one integer: the length of its payload takes one byte
-frame-above : (type v : ℕ) (o : Option (List ℕ)) → written v ≡ o → integer-frame type o ≡ none → EitherAbove type v
+pub frame-above : (type v : ℕ) (o : Option (List ℕ)) → written v ≡ o → integer-frame type o ≡ none → EitherAbove type v
 unfolding integer-frame
 frame-above type v none w e = inr (above-none v w)
 frame-above type v (some p) w e = by (either-none (header-bytes type (length p)) (some p) e)

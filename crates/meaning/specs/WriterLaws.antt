@@ -1,19 +1,21 @@
 -- What the writer writes (rules, Writer) reads back as those same frames, before any type is judged. Assumes nothing.
-use mathlib.Core.Path.{_≡_, refl, ap, _∙_}
-use Prim.Native.Nat.{ℕ, _+_, _≤_}
+use mathlib.Core.Path.{_≡_, refl, sym, ap, _∙_}
+use Prim.Native.Nat.{ℕ, _+_, _%_, _^_, _≤_, _<_}
+use native.Mathlib.Decide.{ℕ-discrete, decLt}
 use native.Mathlib.Omega.{arith}
 use mathlib.Core.List.{List, [], _∷_, _++_, append-assoc, append-nil}
-use mathlib.Core.Bool.{Bool, true, false}
-use mathlib.Core.Option.{Option, none, some}
+use mathlib.Core.Bool.{Bool, true, false, true≢false}
+use mathlib.Core.Option.{Option, none, some, Option·none-ne-some, Option·some-injective}
 use lib.Dec.{ltb, nltb→le}
 use lib.ListN.{length, length-append}
+use borrow.Author.Tests.{eq-eqb, ne-eqb, lt-ltb, le-ltb, ltb-true, ltb-false}
 use Rattle.rules.specs.Numbers.{of-connection, closed-critical-stream}
-use Rattle.rules.specs.Integers.{got, integer, written}
+use Rattle.rules.specs.Integers.{got, integer, written, largest}
 use Rattle.rules.specs.Frames.{frame, framesFrom}
 use Rattle.rules.specs.Reading.{header, frame-kept, settings, kept, fault}
 use Rattle.rules.specs.Control.{told-settings, tells}
 use Rattle.rules.specs.OneWay.{of-control, oneWay}
-use Rattle.rules.specs.Writer.{Write, wrote, refused, into, both, write-integer, header-bytes, write-header, integer-frame, write-integer-frame, opening, badGoaway, write-goaway}
+use Rattle.rules.specs.Writer.{Write, wrote, refused, into, both, write-integer, header-bytes, write-header, integer-frame, write-integer-frame, opening, isHigher, badGoaway, write-goaway}
 use Rattle.rules.specs.Worked.{answer}
 use Rattle.meaning.specs.IntegerLaws.{written-reads}
 use Rattle.meaning.specs.FrameLaws.{head, frame-back}
@@ -108,3 +110,33 @@ pub opening-back : (payload : List ℕ)
     × (tells settings payload ≡ told-settings (record { section-size = some 16_384; table-capacity = 0; blocked-streams = 0 }))
 unfolding answer opening
 opening-back = (0x01 ∷ 0x00 ∷ 0x06 ∷ 0x80 ∷ 0x00 ∷ 0x40 ∷ 0x00 ∷ 0x07 ∷ 0x00 ∷ [], refl, refl)
+
+-- ---- which IDs our GOAWAY may have: a request's, below 2^62, no higher than the last
+
+pub record MaySend (sent : Option ℕ) (id : ℕ) : Type 0 where
+  pub asks : id % 4 ≡ 0
+  pub low : id < 2 ^ 62
+  pub falls : (m : ℕ) → sent ≡ some m → id ≤ m
+
+not-higher : (sent : Option ℕ) (id : ℕ) → isHigher id sent ≡ false → (m : ℕ) → sent ≡ some m → id ≤ m
+unfolding isHigher
+not-higher none id h m e = absurd (Option·none-ne-some m e)
+not-higher (some j) id h m e = let q : j ≡ m = Option·some-injective j m e in let l = ltb-false j id h in omega arith
+
+is-higher : (sent : Option ℕ) (id : ℕ) → isHigher id sent ≡ true → ¬ ((m : ℕ) → sent ≡ some m → id ≤ m)
+unfolding isHigher
+is-higher none id h f = true≢false (sym h)
+is-higher (some j) id h f = let l = ltb-true j id h in let k = f j refl in omega arith
+
+pub may-send : (sent : Option ℕ) (id : ℕ) → (badGoaway sent id ≡ false → MaySend sent id) × (badGoaway sent id ≡ true → ¬ MaySend sent id)
+unfolding badGoaway largest
+may-send sent id = by (ℕ-discrete (id % 4) 0) (decLt id (2 ^ 62)) (isHigher id sent) refl
+  where
+    by : Dec (id % 4 ≡ 0) → Dec (id < 2 ^ 62) → (h : Bool) → isHigher id sent ≡ h → (badGoaway sent id ≡ false → MaySend sent id) × (badGoaway sent id ≡ true → ¬ MaySend sent id)
+    by (no n) b h e = let x = ne-eqb (id % 4) 0 n in let t : badGoaway sent id ≡ true = rw (x, badGoaway) refl in (λ q. absurd (true≢false (sym t ∙ q)), λ q w. n (w .asks))
+    by (yes m) (no n) h e = let x = eq-eqb (id % 4) 0 m in let y = lt-ltb 4_611_686_018_427_387_903 id (omega arith) in
+        let t : badGoaway sent id ≡ true = rw (x, y, badGoaway) refl in (λ q. absurd (true≢false (sym t ∙ q)), λ q w. n (w .low))
+    by (yes m) (yes b) h e =
+        let x = eq-eqb (id % 4) 0 m in let y = le-ltb 4_611_686_018_427_387_903 id (omega arith) in
+        let t : badGoaway sent id ≡ isHigher id sent = rw (x, y, badGoaway) refl in
+        (λ q. record { asks = m; low = b; falls = not-higher sent id (sym t ∙ q) }, λ q w. is-higher sent id (sym t ∙ q) (w .falls))

@@ -6,6 +6,8 @@ use mathlib.Core.Bool.{Bool, true, false}
 use mathlib.Core.Option.{Option, none, some}
 use lib.ListN.{take, drop, length, replicate}
 use Rattle.rules.specs.Numbers.{House, section-due, no-section, unreadable, StreamFault, ConnectionFault, Code, of-stream, of-connection, not-open, not-next, no-record, room-short, bad-value, other-row, request-rejected}
+use Rattle.rules.specs.Integers.{written}
+use Rattle.rules.specs.Writer.{integer-frame, badGoaway}
 use native.Mathlib.Decide.{ℕ-discrete, decLe, decLt}
 use mathlib.Core.Path.{_≡_}
 
@@ -190,16 +192,13 @@ unfoldable pub over : Option ℕ → ℕ → Bool
 over none id = false
 over (some l) id = pick (decLe l id) true false
 
-unfoldable pub higher : Option ℕ → ℕ → Bool
-higher none id = false
-higher (some l) id = pick (decLt l id) true false
+-- how many bytes the writer makes of it
+unfoldable pub sizeIn : Option (List ℕ) → ℕ
+sizeIn none = 0
+sizeIn (some bytes) = length bytes
 
--- the bytes of the frame: type, length, and the integer
 unfoldable pub goawaySize : ℕ → ℕ
-goawaySize id = pick (decLt id (2 ^ 6)) 3 (pick (decLt id (2 ^ 14)) 4 (pick (decLt id (2 ^ 30)) 6 10))
-
-unfoldable pub goodGoaway : Option ℕ → ℕ → Bool
-goodGoaway l id = pick (ℕ-discrete (id % 4) 0) (pick (decLt id (2 ^ 62)) (either (higher l id) false true) false) false
+goawaySize id = sizeIn (integer-frame 7 (written id))
 
 -- ---- the two records
 
@@ -361,9 +360,9 @@ module _ {M : Machine} where
 
   unfoldable pub sending : (id room : ℕ) → Pair M → Result M
   sending id room p =
-      either (goodGoaway (p .conn .limit) id)
-      (pick (decLe (goawaySize id) room) (with (gave done) (limited id (p .conn)) (p .row)) (same (house room-short) p))
+      either (badGoaway (p .conn .limit) id)
       (same (house bad-value) p)
+      (pick (decLe (goawaySize id) room) (with (gave done) (limited id (p .conn)) (p .row)) (same (house room-short) p))
 
   -- ---- every call
 

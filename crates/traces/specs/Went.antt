@@ -6,7 +6,8 @@ use mathlib.Core.List.{List, [], _∷_}
 use mathlib.Core.Bool.{Bool, true, false}
 use mathlib.Core.Option.{Option, none, some}
 use Rattle.rules.specs.Numbers.{House, StreamFault, request-rejected, ConnectionFault, Code, of-stream, of-connection}
-use Rattle.rules.specs.Calls.{Gave, done, Left, Own, Out, refuse, step, leave, fault, Machine, either, pick, Kind, kindOf, Stream, Slot, free, held, Row, Conn, Pair, Held, Call, start, open′, on, goaway, Answer, gave, left, house, code, Result, nextOf, spend, killed, keeping, limited, barred, find, put, seat, same, with, alive, fresh, first, seated, faulted, actOn, settle, acting, goodGoaway, goawaySize, call}
+use Rattle.rules.specs.Calls.{Gave, done, Left, Own, Out, refuse, step, leave, fault, Machine, either, pick, Kind, kindOf, Stream, Slot, free, held, Row, Conn, Pair, Held, Call, start, open′, on, goaway, Answer, gave, left, house, code, Result, nextOf, spend, killed, keeping, limited, barred, find, put, seat, same, with, alive, fresh, first, seated, faulted, actOn, settle, acting, goawaySize, call}
+use Rattle.rules.specs.Writer.{badGoaway}
 use Rattle.rules.specs.Calls
 use Rattle.traces.specs.Row.{Seated, seat-is}
 
@@ -34,7 +35,7 @@ pub data Went {M : Machine} (p : Pair M) : Call M → Answer → Pair M → Type
       → Went p (on id o) (gave g) (pair (keeping (x .kept) (p .conn)) (put id (held id (x .stream)) (p .row)))
   leaving : {id : ℕ} {o : Own M} {s : Stream M} {l : Left} → Alive p → find id (p .row) ≡ some s
       → Went p (on id o) (left l) (pair (p .conn) (put id free (p .row)))
-  sending : {id room : ℕ} → Alive p → goodGoaway (p .conn .limit) id ≡ true → goawaySize id ≤ room
+  sending : {id room : ℕ} → Alive p → badGoaway (p .conn .limit) id ≡ false → goawaySize id ≤ room
       → Went p (goaway id room) (gave done) (pair (limited id (p .conn)) (p .row))
 
 module _ {M : Machine} where
@@ -92,13 +93,13 @@ module _ {M : Machine} where
 
   went-sending : (id room : ℕ) (p : Pair M) → Alive p → Goes p (goaway id room) (Calls.sending id room p)
   unfolding Calls.sending same with either pick
-  went-sending id room p a = go (goodGoaway (p .conn .limit) id) refl (decLe (goawaySize id) room)
+  went-sending id room p a = go (badGoaway (p .conn .limit) id) refl (decLe (goawaySize id) room)
     where
-      go : (b : Bool) → goodGoaway (p .conn .limit) id ≡ b → (d : Dec (goawaySize id ≤ room))
-          → Goes p (goaway id room) (either b (pick d (with (gave done) (limited id (p .conn)) (p .row)) (same (house House.room-short) p)) (same (house House.bad-value) p))
-      go true e (yes l) = sending a e l
-      go true e (no l) = by-house a
-      go false e d = by-house a
+      go : (b : Bool) → badGoaway (p .conn .limit) id ≡ b → (d : Dec (goawaySize id ≤ room))
+          → Goes p (goaway id room) (either b (same (house House.bad-value) p) (pick d (with (gave done) (limited id (p .conn)) (p .row)) (same (house House.room-short) p)))
+      go true e d = by-house a
+      go false e (yes l) = sending a e l
+      go false e (no l) = by-house a
 
   pub went : (c : Call M) (p : Pair M) → Went p c (call c p .answer) (call c p .after)
   unfolding call same
