@@ -73,8 +73,8 @@ module _ (c : Connection) (rows : List Record) (id room : ℕ) where
       by : EitherAbove 7 id → Writes (into room none) (pick d (with (gave done) (limited id (connOf c)) (rowOf (sideIn c) rows)) (same (house room-short) p))
       by (inl l) = absurd (omega arith)
       by (inr l) = absurd (omega arith)
-  room-so h (some bytes) e (yes l) = let n : goawaySize id ≡ length bytes = ap sizeIn e in let x = le-ltb room (length bytes) (omega arith) in rw x (wrote-so bytes (sym n))
-  room-so h (some bytes) e (no l) = let n : goawaySize id ≡ length bytes = ap sizeIn e in let x = lt-ltb room (length bytes) (omega arith) in rw x short-so
+  room-so h (some bytes) e (yes l) = let n : goawaySize id ≡ length bytes = ap sizeIn e in let x = le-ltb room (length bytes) (omega arith) in rw (x, into) (wrote-so bytes (sym n))
+  room-so h (some bytes) e (no l) = let n : goawaySize id ≡ length bytes = ap sizeIn e in let x = lt-ltb room (length bytes) (omega arith) in rw (x, into) short-so
 
   live-so : Writes (write-goaway (connOf c .limit) room id) (sending id room p)
   unfolding write-goaway write-integer-frame sending either

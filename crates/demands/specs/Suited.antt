@@ -18,7 +18,6 @@ use Rattle.meaning.specs.Feed as F
 use Rattle.meaning.specs.OneWayFeed as O
 use Rattle.rules.specs.Calls as trace
 use Rattle.rules.specs.Calls.{Own, feed, section, end, reset, Out, refuse, step, leave, ofFed, ofGiven, ofEnded, ofClosed, mapOut, either, act, act₁, pick, Kind, one-way, Stream, asking, telling, Slot, free, held, Row, Pair, Held, Call, Answer, find, put, fresh, first, actOn, call}
-use Rattle.rules.specs.Calls as board
 use Rattle.traces.specs.Row.{Seated, lowest, behind-one}
 use Rattle.traces.specs.Went.{Went, restarted, still-dead, by-house, barring, faulting, dying, opening, stepping, leaving, sending, went}
 use Rattle.demands.specs.Streams.{Keeps, typesIn, isDue, fedBy, isReadable, sectionOf, givenBy, endedBy, heardBy, closeOf, streams}
@@ -141,7 +140,7 @@ act-suits k (telling w) f o = tell-suits k w f o
 
 first-suits : (k : Kind) → StreamSuits (first k)
 unfolding first
-first-suits board.request = tt
+first-suits trace.request = tt
 first-suits one-way = tt
 
 empty-suits : (n : ℕ) → RowSuits (replicate n free)
