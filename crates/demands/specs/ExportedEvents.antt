@@ -14,6 +14,7 @@ use Rattle.demands.specs.Exports.{FeedSays, World, OfFeed, of-feed}
 use Rattle.demands.specs.Faults.{Moves₁, one-way-progress}
 use Rattle.demands.specs.Events.{RequestEvent, OneWayEvent, shownBy, request-events, one-way-events}
 use Rattle.demands.specs.Allowed.{NoFurther, no-further-header}
+use Rattle.demands.specs.OneWayAllowed.{NoFurther₁, no-further-header₁}
 
 -- a request stream that runs: where the report is that of a feed accepted, its event is one that a request may have, and no header byte was read once the
 -- allowance was reached
@@ -32,13 +33,14 @@ demand-2-events w = of-feed w RequestReports (λ c rows id piece allow r c′ ro
 -- and a one-way stream that runs
 abbrev pub OneWayReports : FeedSays
 OneWayReports c rows id piece allow r c′ rows′ = (ks : Calls) (xs : List Seen) → Run ks xs c rows → kindOf id ≡ some one-way → shows id ks .fate ≡ running
-    → (a : Answer) × (r ≡ reportOf a) × ((used heads : ℕ) (e : Event) → a ≡ gave (fed used heads e) → OneWayEvent (shownBy (shows id ks .shown .bytes ++ take used piece)) piece e)
+    → (a : Answer) × (r ≡ reportOf a) × ((used heads : ℕ) (e : Event) → a ≡ gave (fed used heads e) → let bytes = shows id ks .shown .bytes ++ take used piece in
+    OneWayEvent (shownBy bytes) piece e × (heads ≡ allow → 1 ≤ used → NoFurther₁ bytes))
 
 pub demand-2-one-way-events : (w : World) → OfFeed w OneWayReports
 demand-2-one-way-events w = of-feed w OneWayReports (λ c rows id piece allow r c′ rows′ m ks xs s q n. (let k = on id (feed allow piece) in (
   call k (run fresh ks) .answer,
   reports s k (feeds m),
-  λ u h e z. one-way-events id q ks allow u h piece e n z,
+  λ u h e z. (one-way-events id q ks allow u h piece e n z, no-further-header₁ id q ks allow u h piece e n z),
 )))
 
 -- A FEED OF A ONE-WAY STREAM that runs: a code only for a fault that the bytes brought, or as the second of its type; else it gets on

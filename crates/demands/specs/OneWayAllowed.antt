@@ -153,7 +153,7 @@ module _ (allow : ℕ) where
 
   type-at : (piece : List ℕ) (g : Prog) (bytes : List ℕ) → Goes bytes g → AtAfter bytes piece (O.type-feed [] allow g piece)
   unfolding O.type-feed O.halt
-  type-at [] g bytes h = record { there = rw (append-nil bytes) h }
+  type-at [] g bytes h = record { there = subst (λ z. Goes z g) (sym (append-nil bytes)) h }
   type-at (b ∷ bs) g bytes h = also-at bytes b bs _ (byte-at b bs g bytes h (λ g′ bytes h. type-at bs g′ bytes h) (M.fed g b) refl)
 
   feed-at : (w : O.OneState) (bytes piece : List ℕ) → At bytes w → AtAfter bytes piece (O.feed [] allow w piece)
@@ -171,11 +171,11 @@ alone-goes u₀ h₀ e₀ (O.dies code) q = let z : _≡_ {A = ℕ} 0 1 = cc in 
 reached-at : {s : Shown streams} {w : O.OneState} → Reached₁ alone s w → At (s .bytes) w
 unfolding nothing plusFeed
 reached-at at-first = unfold resumed in (λ y. refl)
-reached-at (by-feed {s = s} {w = w} {w′ = w′} {allow = allow} {piece = piece} t q) =
+reached-at (by-feed {s = s} {w = w} {w′ = w′} {allow = allow} {u = u} {piece = piece} t q) =
     let f = O.feed [] allow w piece in
     let a = alone-goes (f .used) (f .heads) (f .event) (f .after) q in
     let x = feed-at allow w (s .bytes) piece (reached-at t) .there in
-    subst (AtBy (s .bytes ++ take _ piece)) (a .0) (subst (λ n. AtBy (s .bytes ++ take n piece) (f .after)) (a .1) x)
+    subst (AtBy (s .bytes ++ take u piece)) (a .0) (subst (λ n. AtBy (s .bytes ++ take n piece) (f .after)) (a .1) x)
 
 -- ---- a feed that finished as many headers as it was allowed stops inside none
 
