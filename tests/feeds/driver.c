@@ -1,4 +1,4 @@
-/* Makes the calls that come on standard input by the proved feeds (crates/feeds_c), a batch at a time.
+/* Makes the calls that come on standard input by the proved feeds (crates/tried_c), a batch at a time.
    A batch: how many calls, how many bytes; then the calls. A call: what, four numbers, and for a play's bytes or a block those bytes.
    An answer: six numbers. All are 64 bits wide, as the machine has them.
    It is a program of its own since the feeds are compiled for x86-64 alone. */

@@ -1,4 +1,4 @@
-/* The calls of crates/feeds_c. */
+/* The calls of crates/tried_c. */
 typedef unsigned char u8;
 typedef unsigned long u64;
 typedef unsigned long usize;

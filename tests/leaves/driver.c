@@ -1,4 +1,4 @@
-/* Answers questions from standard input by the proved leaves (crates/leaves_c), a batch at a time.
+/* Answers questions from standard input by the proved leaves (crates/tried_c), a batch at a time.
    A batch: how many questions, how many bytes; then the questions. A question: the call, how many bytes, a place, the bytes.
    An answer: the number, and the four numbers of out, each MARK where the call left it. All are 64 bits wide, as the machine has them.
    It is a program of its own since the leaves are compiled for x86-64 alone. */

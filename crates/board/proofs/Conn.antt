@@ -26,9 +26,9 @@ use denote.Ref.{MutRef}
 use denote.Steps.{only, opens, closes, owned, peeks}
 use denote.Struct.Steps.{spelt}
 use denote.Struct.Laws as LL
-use Rattle.doors.specs.declared.Doors.{Doors}
-use Rattle.doors.proofs.Doors as D
-use Rattle.doors.proofs.Doors.Laws as D′
+use Rattle.connection.specs.declared.doors.Doors.{Doors}
+use Rattle.connection.proofs.doors.Doors as D
+use Rattle.connection.proofs.doors.Doors.Laws as D′
 use Rattle.connection.specs.declared.Connection.{Connection}
 use Rattle.connection.specs.Halves.{withDoors}
 use Rattle.connection.proofs.Connection as C

@@ -8,7 +8,7 @@ use mathlib.Core.Logic.{_⊎_, inl, inr}
 use mathlib.Core.Option.{Option, none, some}
 use Rattle.rules.specs.Numbers.{ConnectionFault, stream-creation-error, closed-critical-stream, frame-unexpected, frame-error, excessive-load, id-error, settings-error, missing-settings, StreamFault, of-stream, of-connection, Answer, accepted, refusal, fault, other, codeNumber, numberOf, rows, named, Leaves, nothing-altered, id-unspent, untouched, record-freed, code-kept, houseLeaves, leaves}
 use Rattle.meaning.specs.NumberLaws.{name-view, named-exact, fault-named, code-high}
-use Rattle.doors.specs.declared.Doors.{Doors}
+use Rattle.connection.specs.declared.doors.Doors.{Doors}
 use Rattle.connection.specs.declared.Connection.{Connection}
 use Rattle.connection.specs.Halves.{withDoors}
 

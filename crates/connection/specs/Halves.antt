@@ -1,8 +1,8 @@
 -- A CONNECTION IS TWO HALVES: the doors, which every call looks at, and the side, which only one-way streams' calls do. Assumes nothing.
 use Prim.Native.Nat.{ℕ}
-use Rattle.ids.specs.declared.StreamId.{StreamId}
-use Rattle.doors.specs.declared.Doors.{Doors}
-use Rattle.oneways.specs.declared.Side.{Side}
+use Rattle.wire.specs.declared.ids.StreamId.{StreamId}
+use Rattle.connection.specs.declared.doors.Doors.{Doors}
+use Rattle.oneway.specs.declared.calls.Side.{Side}
 use Rattle.connection.specs.declared.Connection.{Connection}
 
 abbrev pub stream-id : ℕ → StreamId

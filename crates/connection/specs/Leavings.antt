@@ -30,11 +30,11 @@ use Rattle.oneway.specs.declared.Seen.{Seen}
 use Rattle.oneway.specs.Types.{typesOf, kindNumber, onceOf, kind-control, kind-push, kind-encoder, kind-decoder, kind-other}
 use Rattle.oneway.specs.Stands.{oneStateAt}
 use Rattle.oneway.specs.Closed.{closes}
-use Rattle.oneways.specs.declared.Side.{Side}
-use Rattle.oneways.specs.declared.Heard.{Heard}
-use Rattle.oneways.specs.Mirror.{sideAfter}
-use Rattle.oneways.specs.Heard as heard
-use Rattle.oneways.specs.Heard.{Heeds, feeding, closedBy}
+use Rattle.oneway.specs.declared.calls.Side.{Side}
+use Rattle.oneway.specs.declared.calls.Heard.{Heard}
+use Rattle.oneway.specs.Mirror.{sideAfter}
+use Rattle.oneway.specs.Heard as heard
+use Rattle.oneway.specs.Heard.{Heeds, feeding, closedBy}
 use Rattle.connection.specs.Whose.{Vacant}
 use Rattle.connection.specs.Turned.{byCall, requestAs, oneWayAs}
 

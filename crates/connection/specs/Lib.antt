@@ -1,3 +1,7 @@
+pub mod Openings
+pub mod Exactly
+pub mod Goaway
+pub mod OpeningWays
 pub mod Whose
 pub mod Halves
 pub mod Faults

@@ -6,9 +6,9 @@ use mathlib.Core.List.{List}
 use mathlib.Core.Bool.{Bool, true, false}
 use Rattle.record.specs.Body.{said-no}
 use Rattle.requests.specs.declared.Reply.{Reply}
-use Rattle.doors.specs.declared.Doors.{Doors}
-use Rattle.oneways.specs.declared.Side.{Side}
-use Rattle.oneways.specs.Mirror.{fresh-side}
+use Rattle.connection.specs.declared.doors.Doors.{Doors}
+use Rattle.oneway.specs.declared.calls.Side.{Side}
+use Rattle.oneway.specs.Mirror.{fresh-side}
 use Rattle.connection.specs.declared.Connection.{Connection}
 use Rattle.connection.specs.declared.Found.{Found}
 use Rattle.connection.specs.declared.Near.{Near}

@@ -6,10 +6,10 @@ use mathlib.Core.List.{List}
 use mathlib.Core.Logic.{_⊎_, inl, inr}
 use Rattle.record.specs.declared.Record.{Record}
 use Rattle.requests.specs.Reply.{Open, stateIn}
-use Rattle.doors.specs.declared.Doors.{Doors}
-use Rattle.doors.specs.Goaway.{sends-one}
-use Rattle.oneways.specs.Heard.{Heeds, stateHere}
-use Rattle.oneways.specs.Feeds.{one-heard}
+use Rattle.connection.specs.declared.doors.Doors.{Doors}
+use Rattle.connection.specs.Goaway.{sends-one}
+use Rattle.oneway.specs.Heard.{Heeds, stateHere}
+use Rattle.oneway.specs.Feeds.{one-heard}
 use Rattle.connection.specs.declared.Connection.{Connection}
 use Rattle.connection.specs.declared.Found.{Found}
 use Rattle.connection.specs.declared.Turn.{Turn}

@@ -21,15 +21,15 @@ use Rattle.record.specs.Sound.{cellsIn}
 use Rattle.requests.specs.declared.Reply.{Reply}
 use Rattle.requests.specs.Reply.{Open, stateIn}
 use Rattle.requests.specs.Opens.{begins-open}
-use Rattle.doors.specs.declared.Opening.{Opening}
-use Rattle.doors.specs.Openings.{nextRequest, nextOneWay}
-use Rattle.doors.specs.Ways.{Went, barred, a-request, a-one-way, went}
-use Rattle.doors.specs.Ways as doors
-use Rattle.doors.specs.Goaway.{sendingOf, writeOf}
-use Rattle.oneways.specs.declared.Side.{Side}
-use Rattle.oneways.specs.declared.Heard.{Heard}
-use Rattle.oneways.specs.Mirror.{sideAfter}
-use Rattle.oneways.specs.Heard.{Heeds, placeHere, sofarHere, stateHere, feeding}
+use Rattle.connection.specs.declared.doors.Opening.{Opening}
+use Rattle.connection.specs.Openings.{nextRequest, nextOneWay}
+use Rattle.connection.specs.OpeningWays.{Went, barred, a-request, a-one-way, went}
+use Rattle.connection.specs.OpeningWays as doors
+use Rattle.connection.specs.Goaway.{sendingOf, writeOf}
+use Rattle.oneway.specs.declared.calls.Side.{Side}
+use Rattle.oneway.specs.declared.calls.Heard.{Heard}
+use Rattle.oneway.specs.Mirror.{sideAfter}
+use Rattle.oneway.specs.Heard.{Heeds, placeHere, sofarHere, stateHere, feeding}
 use Rattle.connection.specs.declared.Connection.{Connection}
 use Rattle.connection.specs.declared.Found.{Found}
 use Rattle.connection.specs.declared.Turn.{Turn}

@@ -13,15 +13,15 @@ use Rattle.record.specs.declared.Record.{Record}
 use Rattle.record.specs.Row.{requestRecord, oneWayRecord, free-record}
 use Rattle.requests.specs.declared.Reply.{Reply}
 use Rattle.requests.specs.Reply.{Open, stateIn, fedAs, givenAs, endedAs, resetAs, Answered}
-use Rattle.doors.specs.declared.Doors.{Doors}
-use Rattle.doors.specs.declared.Opening.{Opening}
-use Rattle.doors.specs.declared.Goaway.{Goaway}
-use Rattle.doors.specs.Openings.{fresh-doors, openedOf}
-use Rattle.doors.specs.Goaway.{Sends}
-use Rattle.oneways.specs.declared.Side.{Side}
-use Rattle.oneways.specs.declared.Heard.{Heard}
-use Rattle.oneways.specs.Mirror.{fresh-side}
-use Rattle.oneways.specs.Heard.{Heeds, stateHere, feeding, fedHere, Stays, givenHere, closedHere, HeardAs}
+use Rattle.connection.specs.declared.doors.Doors.{Doors}
+use Rattle.connection.specs.declared.doors.Opening.{Opening}
+use Rattle.connection.specs.declared.doors.Goaway.{Goaway}
+use Rattle.connection.specs.Openings.{fresh-doors, openedOf}
+use Rattle.connection.specs.Goaway.{Sends}
+use Rattle.oneway.specs.declared.calls.Side.{Side}
+use Rattle.oneway.specs.declared.calls.Heard.{Heard}
+use Rattle.oneway.specs.Mirror.{fresh-side}
+use Rattle.oneway.specs.Heard.{Heeds, stateHere, feeding, fedHere, Stays, givenHere, closedHere, HeardAs}
 use Rattle.connection.specs.declared.Connection.{Connection}
 use Rattle.connection.specs.declared.Report.{Report}
 use Rattle.connection.specs.declared.Found.{Found}

@@ -18,17 +18,17 @@ use Rattle.record.specs.declared.Record.{Record}
 use Rattle.record.specs.Row.{phaseOf, statedIn, isStated, lengthOf, sumIn, numbersOf, placeIn, recordAt, oneWayRecord, no-cells, free-record}
 use Rattle.requests.specs.declared.Reply.{Reply}
 use Rattle.requests.specs.Reply.{Open, stateIn, fedAs, givenAs, endedAs, endedBy, resetAs, frees, freedIf, Answered, shut, opened, Keeps}
-use Rattle.doors.specs.declared.Doors.{Doors}
-use Rattle.doors.specs.declared.Opening.{Opening}
-use Rattle.doors.specs.declared.Goaway.{Goaway}
-use Rattle.doors.specs.Openings.{openedOf}
-use Rattle.doors.specs.Ways as doors
-use Rattle.doors.specs.Ways.{Went, barred, a-request, a-one-way, went}
-use Rattle.doors.specs.Goaway.{Sends}
-use Rattle.oneways.specs.declared.Side.{Side}
-use Rattle.oneways.specs.declared.Heard.{Heard}
-use Rattle.oneways.specs.Heard as side
-use Rattle.oneways.specs.Heard.{Heeds, HeardAs, FedAs, stateHere, givenHere, closedHere}
+use Rattle.connection.specs.declared.doors.Doors.{Doors}
+use Rattle.connection.specs.declared.doors.Opening.{Opening}
+use Rattle.connection.specs.declared.doors.Goaway.{Goaway}
+use Rattle.connection.specs.Openings.{openedOf}
+use Rattle.connection.specs.OpeningWays as doors
+use Rattle.connection.specs.OpeningWays.{Went, barred, a-request, a-one-way, went}
+use Rattle.connection.specs.Goaway.{Sends}
+use Rattle.oneway.specs.declared.calls.Side.{Side}
+use Rattle.oneway.specs.declared.calls.Heard.{Heard}
+use Rattle.oneway.specs.Heard as side
+use Rattle.oneway.specs.Heard.{Heeds, HeardAs, FedAs, stateHere, givenHere, closedHere}
 use Rattle.connection.specs.declared.Connection.{Connection}
 use Rattle.connection.specs.declared.Report.{Report}
 use Rattle.connection.specs.declared.Found.{Found}

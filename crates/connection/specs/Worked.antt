@@ -20,12 +20,12 @@ use Rattle.meaning.specs.OneWayFeed.{OneState, in-stream-type, in-control, in-q
 use Rattle.record.specs.declared.Record.{Record}
 use Rattle.record.specs.Row.{placeIn, requestRecord, oneWayRecord, free-record}
 use Rattle.requests.specs.Reply.{frees, freedIf, saidBy, unlessDue, endedBy}
-use Rattle.doors.specs.Openings as doors
-use Rattle.doors.specs.Goaway.{sentAs, sendingOf, writeOf}
+use Rattle.connection.specs.Openings as doors
+use Rattle.connection.specs.Goaway.{sentAs, sendingOf, writeOf}
 use Rattle.oneway.specs.Types.{came, typesOf}
 use Rattle.oneway.specs.Closed.{closes}
-use Rattle.oneways.specs.Mirror.{sofarIn, keptNumbers, sideAfter}
-use Rattle.oneways.specs.Heard as heard
+use Rattle.oneway.specs.Mirror.{sofarIn, keptNumbers, sideAfter}
+use Rattle.oneway.specs.Heard as heard
 use Rattle.connection.specs.declared.Connection.{Connection}
 use Rattle.connection.specs.declared.Found.{Found}
 use Rattle.connection.specs.declared.Turn.{Turn}

@@ -1,10 +1,12 @@
 // The connection record and every call by value (document 01, "Calls and the host's memory").
+pub mod doors;
+
 use doors::Doors;
-use ids::StreamId;
-use oneways::Heard;
-use oneways::Side;
+use oneway::calls::Heard;
+use oneway::calls::Side;
 use record::Record;
 use requests::Reply;
+use wire::ids::StreamId;
 ghost use mathlib.Core.Path.{_≡_};
 ghost use lib.ListN.{length};
 ghost use Rattle.record.specs.Sound.{Decides};
@@ -82,7 +84,7 @@ pub fn fresh() -> Connection
 {
     Connection {
         doors: doors::fresh(),
-        side: oneways::fresh(),
+        side: oneway::calls::fresh(),
     }
 }
 
@@ -262,12 +264,12 @@ fn heed(r: Record, d: Side, call: u64, allow: u64, piece: &[u8]) -> Heard
     ensures { λ a. ⌜ Hears r d call allow (now (piece .entry)) a ⌝ }
 {
     if call == rules::FEED {
-        return oneways::feed(r, d, piece, allow);
+        return oneway::calls::feed(r, d, piece, allow);
     }
     if call == rules::GIVE {
-        return oneways::give(r, d);
+        return oneway::calls::give(r, d);
     }
-    oneways::close(r, d)
+    oneway::calls::close(r, d)
 }
 
 fn heard_turn(d: Doors, a: Heard) -> Turn

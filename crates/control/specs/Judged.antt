@@ -11,16 +11,16 @@ use Rattle.rules.specs.Numbers.{FRAME-UNEXPECTED, FRAME-ERROR, ID-ERROR}
 use Rattle.rules.specs.Integers.{integer}
 use Rattle.rules.specs.Reading.{Next, stop, go}
 use Rattle.rules.specs.Control.{Settings, settings-of, only}
-use Rattle.ids.specs.declared.PushId.{PushId}
-use Rattle.settings.specs.declared.SectionSize.{SectionSize}
-use Rattle.settings.specs.declared.SectionSize.the-variants.{Unlimited, AtMost}
-use Rattle.settings.specs.declared.Settings as kept-settings
-use Rattle.settings.specs.declared.Judged.{Judged}
-use Rattle.settings.specs.declared.Judged.the-variants as judgement
-use Rattle.settings.specs.declared.Single.{Single}
-use Rattle.settings.specs.declared.Single.the-variants as single
+use Rattle.wire.specs.declared.ids.PushId.{PushId}
+use Rattle.control.specs.declared.settings.SectionSize.{SectionSize}
+use Rattle.control.specs.declared.settings.SectionSize.the-variants.{Unlimited, AtMost}
+use Rattle.control.specs.declared.settings.Settings as kept-settings
+use Rattle.control.specs.declared.settings.Judged.{Judged}
+use Rattle.control.specs.declared.settings.Judged.the-variants as judgement
+use Rattle.control.specs.declared.settings.Single.{Single}
+use Rattle.control.specs.declared.settings.Single.the-variants as single
 use Rattle.meaning.specs.NumberLaws.{Numbered, stops, goes, numbered}
-use Rattle.settings.specs.Answers.{settingsIs, judgedIs, singleIs}
+use Rattle.control.specs.Answers.{settingsIs, judgedIs, singleIs}
 use Rattle.control.specs.declared.Kept.{Kept}
 use Rattle.control.specs.declared.Verdict.{Verdict}
 

@@ -1,11 +1,13 @@
 // A control stream's complete payloads (document 01, "Frames"): SETTINGS, a client's GOAWAY, MAX_PUSH_ID and CANCEL_PUSH, judged by value.
-use ids::PushId;
+pub mod settings;
+
 use settings::Judged;
 use settings::SectionSize;
 use settings::Settings;
 use settings::Single;
+use wire::ids::PushId;
 ghost use mathlib.Core.Path.{_≡_};
-ghost use Rattle.settings.specs.Answers.{settingsIs};
+ghost use Rattle.control.specs.Answers.{settingsIs};
 ghost use Rattle.rules.specs.Integers.{integer};
 ghost use Rattle.meaning.specs.NumberLaws.{numbered};
 ghost use Rattle.rules.specs.Control.{settings-of, only};

@@ -10,9 +10,9 @@ use Rattle.traces.specs.Board.{asking, telling, Slot, free, held, Row, Conn, Pa
 use Rattle.control.specs.Rules.{controlOf}
 use Rattle.record.specs.declared.Record.{Record}
 use Rattle.requests.specs.Reply.{stateIn}
-use Rattle.doors.specs.Goaway.{sentAs}
-use Rattle.oneways.specs.declared.Side.{Side}
-use Rattle.oneways.specs.Heard.{stateHere}
+use Rattle.connection.specs.Goaway.{sentAs}
+use Rattle.oneway.specs.declared.calls.Side.{Side}
+use Rattle.oneway.specs.Heard.{stateHere}
 use Rattle.connection.specs.declared.Connection.{Connection}
 use Rattle.connection.specs.declared.Report.{Report}
 use Rattle.connection.specs.declared.Written.{Written}

@@ -22,9 +22,9 @@ use Rattle.varint.specs.ByByte.{Stepped}
 use Rattle.varint.specs.Whole.{Ended, Valued, wholeIs, whole-one}
 use Rattle.varint.specs.Write.{Meets, meets-one}
 use Rattle.rules.specs.Writer.{Write}
-use Rattle.settings.specs.declared.Judged.{Judged}
-use Rattle.settings.specs.declared.Single.{Single}
-use Rattle.settings.specs.Answers.{judgedIs, judged-one, singleIs, single-one}
+use Rattle.control.specs.declared.settings.Judged.{Judged}
+use Rattle.control.specs.declared.settings.Single.{Single}
+use Rattle.control.specs.Answers.{judgedIs, judged-one, singleIs, single-one}
 use Rattle.section.specs.declared.HeaderAnswer.{HeaderAnswer}
 use Rattle.section.specs.declared.TrailerAnswer.{TrailerAnswer}
 use Rattle.section.specs.Answer.{readHeader, readTrailers, one-header-answer, one-trailer-answer}
@@ -38,8 +38,8 @@ use Rattle.record.specs.Same.{one-read, one-written}
 use Rattle.oneway.specs.declared.OneWay.{OneWay}
 use Rattle.oneway.specs.Closed.{Closes}
 use Rattle.requests.specs.Answered.{one-answer}
-use Rattle.oneways.specs.Feeds.{one-heard}
-use Rattle.doors.specs.Goaway.{sends-one}
+use Rattle.oneway.specs.Feeds.{one-heard}
+use Rattle.connection.specs.Goaway.{sends-one}
 use Rattle.connection.specs.declared.Found.{Found}
 use Rattle.connection.specs.declared.Brief.{Brief}
 use Rattle.connection.specs.Faults.{withCode}
@@ -64,10 +64,8 @@ use Rattle.varint.proofs.put as varint-put
 use Rattle.varint.proofs.put.Symbol as varint-put-is
 use Rattle.varint.proofs.write as varint-write
 use Rattle.varint.proofs.write.Symbol as varint-write-is
-use Rattle.ids.proofs.is_request as ids-is-request
-use Rattle.ids.proofs.is_request.Symbol as ids-is-request-is
-use Rattle.ids.proofs.is_one_way as ids-is-one-way
-use Rattle.ids.proofs.is_one_way.Symbol as ids-is-one-way-is
+use Rattle.wire.proofs.ids.is_request as ids-is-request
+use Rattle.wire.proofs.ids.is_request.Symbol as ids-is-request-is
 use Rattle.wire.proofs.write_header as wire-write-header
 use Rattle.wire.proofs.write_header.Symbol as wire-write-header-is
 use Rattle.wire.proofs.write_integer_frame as wire-write-integer-frame
@@ -76,10 +74,10 @@ use Rattle.wire.proofs.write_opening as wire-write-opening
 use Rattle.wire.proofs.write_opening.Symbol as wire-write-opening-is
 use Rattle.wire.proofs.write_goaway as wire-write-goaway
 use Rattle.wire.proofs.write_goaway.Symbol as wire-write-goaway-is
-use Rattle.settings.proofs.judge as settings-judge
-use Rattle.settings.proofs.judge.Symbol as settings-judge-is
-use Rattle.settings.proofs.only as settings-only
-use Rattle.settings.proofs.only.Symbol as settings-only-is
+use Rattle.control.proofs.settings.judge as settings-judge
+use Rattle.control.proofs.settings.judge.Symbol as settings-judge-is
+use Rattle.control.proofs.settings.only as settings-only
+use Rattle.control.proofs.settings.only.Symbol as settings-only-is
 use Rattle.fields.proofs.has_byte as fields-has-byte
 use Rattle.fields.proofs.has_byte.Symbol as fields-has-byte-is
 use Rattle.fields.proofs.begins_with as fields-begins-with
@@ -122,8 +120,8 @@ use Rattle.record.proofs.write.Symbol as record-write-is
 use Rattle.record.proofs.in_body.Symbol as record-in-body-is
 use Rattle.record.proofs.in_content as record-in-content
 use Rattle.record.proofs.in_content.Symbol as record-in-content-is
-use Rattle.given.proofs.give as given-give
-use Rattle.given.proofs.give.Symbol as given-give-is
+use Rattle.requests.proofs.given.give as given-give
+use Rattle.requests.proofs.given.give.Symbol as given-give-is
 use Rattle.oneway.proofs.close as oneway-close
 use Rattle.oneway.proofs.close.Symbol as oneway-close-is
 use Rattle.oneway.proofs.feed.Symbol as oneway-feed-is
@@ -138,20 +136,20 @@ use Rattle.requests.proofs.feed.Symbol as requests-feed-is
 use Rattle.requests.proofs.give as requests-give
 use Rattle.requests.proofs.give.Symbol as requests-give-is
 use Rattle.requests.proofs.brisk.Symbol as requests-brisk-is
-use Rattle.doors.proofs.fresh as doors-fresh
-use Rattle.doors.proofs.fresh.Symbol as doors-fresh-is
-use Rattle.doors.proofs.open as doors-open
-use Rattle.doors.proofs.open.Symbol as doors-open-is
-use Rattle.doors.proofs.send_goaway as doors-send-goaway
-use Rattle.doors.proofs.send_goaway.Symbol as doors-send-goaway-is
-use Rattle.oneways.proofs.fresh as oneways-fresh
-use Rattle.oneways.proofs.fresh.Symbol as oneways-fresh-is
-use Rattle.oneways.proofs.feed as oneways-feed
-use Rattle.oneways.proofs.feed.Symbol as oneways-feed-is
-use Rattle.oneways.proofs.give as oneways-give
-use Rattle.oneways.proofs.give.Symbol as oneways-give-is
-use Rattle.oneways.proofs.close as oneways-close
-use Rattle.oneways.proofs.close.Symbol as oneways-close-is
+use Rattle.connection.proofs.doors.fresh as doors-fresh
+use Rattle.connection.proofs.doors.fresh.Symbol as doors-fresh-is
+use Rattle.connection.proofs.doors.open as doors-open
+use Rattle.connection.proofs.doors.open.Symbol as doors-open-is
+use Rattle.connection.proofs.doors.send_goaway as doors-send-goaway
+use Rattle.connection.proofs.doors.send_goaway.Symbol as doors-send-goaway-is
+use Rattle.oneway.proofs.calls.fresh as oneways-fresh
+use Rattle.oneway.proofs.calls.fresh.Symbol as oneways-fresh-is
+use Rattle.oneway.proofs.calls.feed as oneways-feed
+use Rattle.oneway.proofs.calls.feed.Symbol as oneways-feed-is
+use Rattle.oneway.proofs.calls.give as oneways-give
+use Rattle.oneway.proofs.calls.give.Symbol as oneways-give-is
+use Rattle.oneway.proofs.calls.close as oneways-close
+use Rattle.oneway.proofs.calls.close.Symbol as oneways-close-is
 use Rattle.connection.proofs.fresh as connection-fresh
 use Rattle.connection.proofs.fresh.Symbol as connection-fresh-is
 use Rattle.connection.proofs.answer as connection-answer
@@ -303,7 +301,6 @@ module _ (w : World) where
   abbrev of-ids : List Function
   of-ids =
       function ids-is-request-is.name ids-is-request.ended (ids-is-request.clauses (w .𝓤) (w .H) (w .𝓖 .A) (w .𝓜 .mem) (w .𝓡 .run)) (λ κs a g r q ws vs. equal)
-      ∷ function ids-is-one-way-is.name ids-is-one-way.ended (ids-is-one-way.clauses (w .𝓤) (w .H) (w .𝓖 .A) (w .𝓜 .mem) (w .𝓡 .run)) (λ κs a g r q ws vs. equal)
       ∷ []
 
   abbrev of-wire : List Function
@@ -428,7 +425,7 @@ module _ (w : World) where
   functions = of-varint ++ (of-ids ++ (of-wire ++ (of-settings ++ (of-fields ++ (of-section ++ (of-streams ++ (of-record ++ (of-given ++ (of-oneway ++ (of-control ++ (of-requests ++ (of-doors ++ (of-oneways ++ (of-connection ++ (of-board)))))))))))))))
 
   pub listed : _≡_ {A = List Name} (map (λ (f : Function). f .name) functions)
-      ("varint::fresh" ∷ "varint::read_step" ∷ "varint::ends" ∷ "varint::value" ∷ "varint::read" ∷ "varint::size" ∷ "varint::put" ∷ "varint::write" ∷ "ids::is_request" ∷ "ids::is_one_way" ∷ "wire::write_header" ∷ "wire::write_integer_frame" ∷ "wire::write_opening" ∷ "wire::write_goaway" ∷ "settings::judge" ∷ "settings::only" ∷ "fields::has_byte" ∷ "fields::begins_with" ∷ "fields::same_bytes" ∷ "fields::any_outside" ∷ "fields::bad_line" ∷ "fields::decimal_of" ∷ "fields::line_at" ∷ "section::code" ∷ "section::header_section" ∷ "section::trailers" ∷ "streams::ruled" ∷ "streams::end" ∷ "record::cells_in" ∷ "record::free" ∷ "record::is_free" ∷ "record::read" ∷ "record::row" ∷ "record::write" ∷ "record::in_content" ∷ "given::give" ∷ "oneway::close" ∷ "control::judge" ∷ "requests::reset" ∷ "requests::end" ∷ "requests::feed" ∷ "requests::give" ∷ "doors::fresh" ∷ "doors::open" ∷ "doors::send_goaway" ∷ "oneways::fresh" ∷ "oneways::feed" ∷ "oneways::give" ∷ "oneways::close" ∷ "connection::fresh" ∷ "connection::wanted" ∷ "connection::answer" ∷ "connection::decide" ∷ "connection::begin" ∷ "connection::swept" ∷ "connection::say_goaway" ∷ "board::step" ∷ "board::eistulko_start" ∷ "board::eistulko_open" ∷ "board::eistulko_feed" ∷ "board::eistulko_give" ∷ "board::eistulko_end" ∷ "board::eistulko_reset" ∷ "board::eistulko_goaway" ∷ "board::eistulko_write_header" ∷ "board::eistulko_write_integer_frame" ∷ "board::eistulko_write_opening" ∷ "board::eistulko_connection_size" ∷ "board::eistulko_record_size" ∷ "board::eistulko_report_size" ∷ "board::eistulko_written_size" ∷ [])
+      ("varint::fresh" ∷ "varint::read_step" ∷ "varint::ends" ∷ "varint::value" ∷ "varint::read" ∷ "varint::size" ∷ "varint::put" ∷ "varint::write" ∷ "wire::ids::is_request" ∷ "wire::write_header" ∷ "wire::write_integer_frame" ∷ "wire::write_opening" ∷ "wire::write_goaway" ∷ "control::settings::judge" ∷ "control::settings::only" ∷ "fields::has_byte" ∷ "fields::begins_with" ∷ "fields::same_bytes" ∷ "fields::any_outside" ∷ "fields::bad_line" ∷ "fields::decimal_of" ∷ "fields::line_at" ∷ "section::code" ∷ "section::header_section" ∷ "section::trailers" ∷ "streams::ruled" ∷ "streams::end" ∷ "record::cells_in" ∷ "record::free" ∷ "record::is_free" ∷ "record::read" ∷ "record::row" ∷ "record::write" ∷ "record::in_content" ∷ "requests::given::give" ∷ "oneway::close" ∷ "control::judge" ∷ "requests::reset" ∷ "requests::end" ∷ "requests::feed" ∷ "requests::give" ∷ "connection::doors::fresh" ∷ "connection::doors::open" ∷ "connection::doors::send_goaway" ∷ "oneway::calls::fresh" ∷ "oneway::calls::feed" ∷ "oneway::calls::give" ∷ "oneway::calls::close" ∷ "connection::fresh" ∷ "connection::wanted" ∷ "connection::answer" ∷ "connection::decide" ∷ "connection::begin" ∷ "connection::swept" ∷ "connection::say_goaway" ∷ "board::step" ∷ "board::eistulko_start" ∷ "board::eistulko_open" ∷ "board::eistulko_feed" ∷ "board::eistulko_give" ∷ "board::eistulko_end" ∷ "board::eistulko_reset" ∷ "board::eistulko_goaway" ∷ "board::eistulko_write_header" ∷ "board::eistulko_write_integer_frame" ∷ "board::eistulko_write_opening" ∷ "board::eistulko_connection_size" ∷ "board::eistulko_record_size" ∷ "board::eistulko_report_size" ∷ "board::eistulko_written_size" ∷ [])
   listed = refl
 
   -- ---- and those that do not

@@ -21,11 +21,11 @@ use Rattle.traces.specs.Stream.{either}
 use Rattle.traces.specs.Board.{pick, Kind, request, one-way, kindOf, over, asking, held, Result, open′, house, code, nextOf, spend, barred, seat, same, with, first, seated, opening, call}
 use Rattle.traces.specs.Row.{pick-yes, pick-no}
 use Rattle.traces.specs.Refine.{IsFree, FreeAt, free-seat, full-seat}
-use Rattle.doors.specs.declared.Doors.{Doors}
-use Rattle.doors.specs.declared.Opening.{Opening}
-use Rattle.doors.specs.Openings.{refusal, barredAt, nextRequest, nextOneWay, admittedAs, requestOf, oneWayOf, openedOf, open-above, open-request, open-one-way, open-none}
-use Rattle.doors.specs.Goaway.{sentAs}
-use Rattle.oneways.specs.declared.Side.{Side}
+use Rattle.connection.specs.declared.doors.Doors.{Doors}
+use Rattle.connection.specs.declared.doors.Opening.{Opening}
+use Rattle.connection.specs.Openings.{refusal, barredAt, nextRequest, nextOneWay, admittedAs, requestOf, oneWayOf, openedOf, open-above, open-request, open-one-way, open-none}
+use Rattle.connection.specs.Goaway.{sentAs}
+use Rattle.oneway.specs.declared.calls.Side.{Side}
 use Rattle.connection.specs.declared.Connection.{Connection}
 use Rattle.connection.specs.declared.Found.{Found}
 use Rattle.connection.specs.Whose.{Vacant, Wanted, FoundIn}

@@ -29,12 +29,12 @@ use Rattle.oneway.specs.Types.{typesOf}
 use Rattle.oneway.specs.Stands.{oneStateAt}
 use Rattle.oneway.specs.Closed.{closes}
 use Rattle.control.specs.Rules.{controlAt, controlOf}
-use Rattle.oneways.specs.declared.Side.{Side}
-use Rattle.oneways.specs.declared.Heard.{Heard}
-use Rattle.oneways.specs.Mirror.{keptNumbers, sideAfter}
-use Rattle.oneways.specs.Heard as side
-use Rattle.oneways.specs.Heard.{Heeds, placeHere, sofarHere, stateHere, takenNumber, valueIn, frameEvent, frameValue, typeNumber, feeding, fedHere, closedBy}
-use Rattle.oneways.specs.Back.{set-back}
+use Rattle.oneway.specs.declared.calls.Side.{Side}
+use Rattle.oneway.specs.declared.calls.Heard.{Heard}
+use Rattle.oneway.specs.Mirror.{keptNumbers, sideAfter}
+use Rattle.oneway.specs.Heard as side
+use Rattle.oneway.specs.Heard.{Heeds, placeHere, sofarHere, stateHere, takenNumber, valueIn, frameEvent, frameValue, typeNumber, feeding, fedHere, closedBy}
+use Rattle.oneway.specs.Back.{set-back}
 use Rattle.connection.specs.declared.Connection.{Connection}
 use Rattle.connection.specs.Halves.{sideIn, withSide}
 use Rattle.connection.specs.Turned.{byCall, told, turn, oneWayAs, StaysOn, overheard}

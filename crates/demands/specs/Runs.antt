@@ -40,14 +40,14 @@ use Rattle.requests.specs.declared.Reply.{Reply}
 use Rattle.requests.specs.Reply as reply
 use Rattle.requests.specs.Reply.{leftBy, stateIn}
 use Rattle.requests.specs.Severity.{connection-leaves}
-use Rattle.doors.specs.declared.Goaway.{Goaway}
-use Rattle.doors.specs.Goaway.{sendingOf, writeOf}
+use Rattle.connection.specs.declared.doors.Goaway.{Goaway}
+use Rattle.connection.specs.Goaway.{sendingOf, writeOf}
 use Rattle.oneway.specs.Closed.{closes}
 use Rattle.control.specs.Rules.{someIf, limitsIs, controlAt, controlOf}
-use Rattle.oneways.specs.declared.Side.{Side}
-use Rattle.oneways.specs.declared.Heard.{Heard}
-use Rattle.oneways.specs.Heard as side
-use Rattle.oneways.specs.Heard.{stateHere}
+use Rattle.oneway.specs.declared.calls.Side.{Side}
+use Rattle.oneway.specs.declared.calls.Heard.{Heard}
+use Rattle.oneway.specs.Heard as side
+use Rattle.oneway.specs.Heard.{stateHere}
 use Rattle.connection.specs.declared.Connection.{Connection}
 use Rattle.connection.specs.declared.Report.{Report}
 use Rattle.connection.specs.declared.Found.{Found}

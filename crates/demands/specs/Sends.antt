@@ -18,8 +18,8 @@ use Rattle.traces.specs.Stream.{done, either}
 use Rattle.traces.specs.Board.{pick, higher, goawaySize, goodGoaway, Pair, Result, goaway, gave, house, code, limited, same, with, alive, sending, call}
 use Rattle.traces.specs.Row.{pick-yes, pick-no}
 use Rattle.record.specs.declared.Record.{Record}
-use Rattle.doors.specs.Goaway as doors
-use Rattle.doors.specs.Goaway.{sentAs, sendingOf, writeOf}
+use Rattle.connection.specs.Goaway as doors
+use Rattle.connection.specs.Goaway.{sentAs, sendingOf, writeOf}
 use Rattle.connection.specs.declared.Connection.{Connection}
 use Rattle.connection.specs.declared.Written.{Written}
 use Rattle.connection.specs.Halves.{stream-id, doorsIn, withDoors, sideIn}

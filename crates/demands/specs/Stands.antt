@@ -7,14 +7,14 @@ use mathlib.Core.List.{List}
 use mathlib.Core.Logic.{_⊎_, inl, inr}
 use lib.ListN.{length}
 use Rattle.rules.specs.Writer.{Write, refused, wrote}
-use Rattle.doors.specs.declared.Doors.{Doors}
-use Rattle.doors.specs.declared.Opening.{Opening}
-use Rattle.doors.specs.Ways.{Went, barred, a-request, a-one-way, went}
-use Rattle.doors.specs.Ways as doors
-use Rattle.doors.specs.Goaway.{sendingOf, writeOf}
+use Rattle.connection.specs.declared.doors.Doors.{Doors}
+use Rattle.connection.specs.declared.doors.Opening.{Opening}
+use Rattle.connection.specs.OpeningWays.{Went, barred, a-request, a-one-way, went}
+use Rattle.connection.specs.OpeningWays as doors
+use Rattle.connection.specs.Goaway.{sendingOf, writeOf}
 use Rattle.record.specs.declared.Record.{Record}
 use Rattle.requests.specs.Reply.{stateIn}
-use Rattle.oneways.specs.Heard.{stateHere}
+use Rattle.oneway.specs.Heard.{stateHere}
 use Rattle.connection.specs.declared.Connection.{Connection}
 use Rattle.connection.specs.declared.Found.{Found}
 use Rattle.connection.specs.declared.Turn.{Turn}

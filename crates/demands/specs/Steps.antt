@@ -15,10 +15,10 @@ use Rattle.traces.specs.Refine.{Whose, FoundAt, found-find, absent-find}
 use Rattle.record.specs.declared.Record.{Record}
 use Rattle.record.specs.Row.{free-record}
 use Rattle.requests.specs.Reply.{Open, stateIn}
-use Rattle.oneways.specs.declared.Side.{Side}
-use Rattle.oneways.specs.Heard.{Heeds, stateHere}
+use Rattle.oneway.specs.declared.calls.Side.{Side}
+use Rattle.oneway.specs.Heard.{Heeds, stateHere}
 use Rattle.control.specs.Rules.{controlAt}
-use Rattle.doors.specs.Goaway.{sentAs}
+use Rattle.connection.specs.Goaway.{sentAs}
 use Rattle.connection.specs.declared.Connection.{Connection}
 use Rattle.connection.specs.declared.Report.{Report}
 use Rattle.connection.specs.declared.Found.{Found}

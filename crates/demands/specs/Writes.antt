@@ -26,9 +26,9 @@ use Rattle.varint.specs.declared.Wrote.{Wrote}
 use Rattle.varint.specs.declared.Wrote.the-variants.{Refused, Count}
 use Rattle.varint.specs.Shortest.{bytesOf, sizeOf, size-few, size-some, size-one}
 use Rattle.varint.specs.Write.{wroteOf, leftIn, Meets}
-use Rattle.doors.specs.declared.Doors.{Doors}
-use Rattle.doors.specs.declared.Goaway.{Goaway}
-use Rattle.doors.specs.Goaway.{sentIn, sendingOf, writeOf, Sends}
+use Rattle.connection.specs.declared.doors.Doors.{Doors}
+use Rattle.connection.specs.declared.doors.Goaway.{Goaway}
+use Rattle.connection.specs.Goaway.{sentIn, sendingOf, writeOf, Sends}
 use Rattle.connection.specs.declared.Connection.{Connection}
 use Rattle.connection.specs.declared.Written.{Written}
 use Rattle.connection.specs.Halves.{stream-id, doorsIn}

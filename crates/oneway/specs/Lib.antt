@@ -5,3 +5,10 @@ pub mod Frames
 pub mod Fed
 pub mod Closed
 pub mod Row
+pub mod Mirror
+pub mod Heard
+pub mod Numbers
+pub mod Leaves
+pub mod Room
+pub mod Back
+pub mod Feeds

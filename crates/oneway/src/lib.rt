@@ -1,4 +1,6 @@
 // A client's one-way stream (document 01, "Frames"): its type, then as its type says; by value.
+pub mod calls;
+
 use streams::Cells;
 use varint::Part;
 use varint::Step;

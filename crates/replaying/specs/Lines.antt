@@ -12,7 +12,7 @@ use Rattle.listing.specs.Text.{decimal}
 use Rattle.script.specs.Words.{hexWord}
 use Rattle.record.specs.declared.Record.{Record}
 use Rattle.control.specs.declared.Kept.{Kept}
-use Rattle.doors.specs.declared.Doors.{Doors}
+use Rattle.connection.specs.declared.doors.Doors.{Doors}
 use Rattle.connection.specs.declared.Connection.{Connection}
 use Rattle.connection.specs.declared.Report.{Report}
 

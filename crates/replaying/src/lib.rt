@@ -1,8 +1,8 @@
 // The lines of `replay`: a script's calls made one by one, and a line printed for each.
 use connection::Connection;
 use connection::Report;
+use connection::doors::Doors;
 use control::Kept;
-use doors::Doors;
 use record::Record;
 use script::Line;
 use varint::Whole;

@@ -21,8 +21,8 @@ use Rattle.streams.specs.Both.{Place, of-request}
 use Rattle.streams.specs.Uses.{placeOf, Stands, a-place, any-set}
 use Rattle.streams.specs.Answers.{stateAt, stateOf, StandsIn, Sane}
 use Rattle.streams.specs.Apart.{message}
-use Rattle.given.specs.declared.Given.{Given}
-use Rattle.given.specs.Taken.{answer, headedAs, trailedAs, headerOf, trailerOf, givenOf, given-header, given-trailers, given-undue, Says, header-says, trailer-says}
+use Rattle.requests.specs.declared.given.Given.{Given}
+use Rattle.requests.specs.Taken.{answer, headedAs, trailedAs, headerOf, trailerOf, givenOf, given-header, given-trailers, given-undue, Says, header-says, trailer-says}
 use Rattle.record.specs.declared.Record.{Record}
 use Rattle.record.specs.Row.{recordOf, requestRecord}
 use Rattle.record.specs.Sound.{Fit, cellsIn, ownPlace, stream, Written}

@@ -1,3 +1,4 @@
+pub mod Taken
 pub mod Reply
 pub mod Severity
 pub mod Plain

@@ -1,4 +1,6 @@
 // The calls of one request stream over its record (document 01, "Calls and the host's memory"), by value: a number, and the record that it leaves.
+pub mod given;
+
 use record::Record;
 use record::Stream;
 use streams::Cells;

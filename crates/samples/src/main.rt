@@ -1,17 +1,17 @@
 // RFC 9000's sample integers and document 01's worked bytes, one line each; what is to come stands in the file stdout.
+use control::settings::Judged;
+use control::settings::SectionSize;
+use control::settings::Settings;
+use control::settings::Single;
 use fields::Record;
-use ids::StreamId;
 use libc::STDOUT_FILENO;
 use section::HeaderAnswer;
 use section::Stated;
 use section::TrailerAnswer;
-use settings::Judged;
-use settings::SectionSize;
-use settings::Settings;
-use settings::Single;
 use varint::Whole;
 use varint::Wrote;
 use wire::Sent;
+use wire::ids::StreamId;
 
 fn text(t: &[u8]) {
     io::write_all(STDOUT_FILENO, t);
@@ -216,7 +216,7 @@ fn settings(payload: &[u8]) {
     text(b"settings ");
     bytes(payload);
     text(b": ");
-    match settings::judge(payload) {
+    match control::settings::judge(payload) {
         Judged::Refused(code) => {
             io::print_hex(STDOUT_FILENO, code, 4);
         }
@@ -229,7 +229,7 @@ fn only(payload: &[u8]) {
     text(b"only ");
     bytes(payload);
     text(b": ");
-    match settings::only(payload) {
+    match control::settings::only(payload) {
         Single::Is(v) => number(v),
         Single::Not => text(b"not"),
     }

@@ -12,7 +12,7 @@ use Rattle.rules.specs.Writer.{badGoaway, isHigher, write-goaway, write-integer
 use Rattle.varint.specs.Write.{Meets, wroteOf, leftIn}
 use Rattle.varint.specs.declared.Wrote.{Wrote}
 use Rattle.varint.specs.declared.Wrote.the-variants.{Refused}
-use Rattle.ids.specs.declared.StreamId.{StreamId}
+use Rattle.wire.specs.declared.ids.StreamId.{StreamId}
 use Rattle.wire.specs.declared.Sent.{Sent}
 use Rattle.wire.specs.declared.Sent.the-variants.{Nothing, Up}
 

@@ -1,5 +1,7 @@
 // The frame writer (document 01, "The writer and the lister"): one frame header, one integer frame, our control opening, our GOAWAY.
 // 8 comes before 7, and all is tested before the first byte is stored.
+pub mod ids;
+
 use ids::StreamId;
 use varint::Wrote;
 ghost use mathlib.Core.Path.{_≡_};

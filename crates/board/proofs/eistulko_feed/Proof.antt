@@ -46,8 +46,8 @@ use Rattle.record.specs.declared.Record.{Record}
 use Rattle.record.specs.Row.{free-record}
 use Rattle.record.specs.Sound.{cellsIn}
 use Rattle.record.specs.Body.{contentIn}
-use Rattle.doors.proofs.Doors as D
-use Rattle.doors.proofs.Doors.Laws as D′
+use Rattle.connection.proofs.doors.Doors as D
+use Rattle.connection.proofs.doors.Doors.Laws as D′
 use Rattle.connection.specs.declared.Connection.{Connection}
 use Rattle.connection.specs.declared.Report.{Report}
 use Rattle.connection.specs.declared.Found.{Found}

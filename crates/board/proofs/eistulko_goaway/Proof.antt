@@ -40,7 +40,7 @@ use denote.Triple.Clauses.{ensured, lasts}
 use denote.Triple.Table.{entered, cited}
 use denote.Triple.Walked.{says, Stays, stay-none, stay-ref, gave-slice, walkOf, goes-none, goes-ref, goes-gave-slice, Walks, ends-at, walked, walk-meets}
 use denote.Exit.{yes}
-use Rattle.doors.proofs.Doors as D
+use Rattle.connection.proofs.doors.Doors as D
 use Rattle.connection.specs.declared.Connection.{Connection}
 use Rattle.connection.specs.Halves.{withDoors}
 use Rattle.connection.specs.declared.Gone.{Gone}

@@ -44,8 +44,8 @@ use denote.Triple.Table.{entered, cited}
 use denote.Triple.Walked.{says, Stays, stay-none, stay-none-slice, stay-ref, walkOf, goes-none, goes-none-slice, goes-ref, Walks, ends-at, walked, walk-meets}
 use denote.Exit.{yes}
 use Rattle.record.specs.declared.Record.{Record}
-use Rattle.doors.proofs.Doors as D
-use Rattle.doors.proofs.Doors.Laws as D′
+use Rattle.connection.proofs.doors.Doors as D
+use Rattle.connection.proofs.doors.Doors.Laws as D′
 use Rattle.connection.specs.declared.Connection.{Connection}
 use Rattle.connection.specs.declared.Report.{Report}
 use Rattle.connection.specs.declared.Found.{Found}

@@ -1,13 +1,13 @@
 use mathlib.Core.Path.{ap, _∙_}
-use Rattle.doors.specs.Openings.{fresh-doors}
+use Rattle.connection.specs.Openings.{fresh-doors}
 use Rattle.connection.specs.Halves.{both}
 use borrow.Author.Needs.{needs}
 use Rattle.connection.proofs.fresh.Statement.{statement}
 use Rattle.connection.proofs.fresh.Tie as tie
 use Rattle.connection.proofs.fresh.Reads as reads
 use Rattle.connection.proofs.fresh.Lts as lts
-use Rattle.doors.proofs.fresh.Reads as fresh-reads
-use Rattle.oneways.proofs.fresh.Reads as fresh-reads′
+use Rattle.connection.proofs.doors.fresh.Reads as fresh-reads
+use Rattle.oneway.proofs.calls.fresh.Reads as fresh-reads′
 
 -- src/lib.rt:83:16
 fresh-requires : tie.Need-fresh-requires

@@ -4,9 +4,9 @@ use Rattle.connection.proofs.heed.Statement.{statement}
 use Rattle.connection.proofs.heed.Tie as tie
 use Rattle.connection.proofs.heed.Reads as reads
 use Rattle.connection.proofs.heed.Lts as lts
-use Rattle.oneways.proofs.close.Reads as close-reads
-use Rattle.oneways.proofs.feed.Reads as feed-reads
-use Rattle.oneways.proofs.give.Reads as give-reads
+use Rattle.oneway.proofs.calls.close.Reads as close-reads
+use Rattle.oneway.proofs.calls.feed.Reads as feed-reads
+use Rattle.oneway.proofs.calls.give.Reads as give-reads
 
 -- src/lib.rt:375:9
 feed-requires : tie.Need-feed-requires

@@ -7,7 +7,7 @@ use Rattle.connection.proofs.open_stream.Lts as lts
 use Rattle.connection.proofs.free_at.Reads as free-at-reads
 use Rattle.connection.proofs.numbered_report.Reads as numbered-report-reads
 use Rattle.connection.proofs.taken_by.Reads as taken-by-reads
-use Rattle.doors.proofs.open.Reads as open-reads
+use Rattle.connection.proofs.doors.open.Reads as open-reads
 
 -- src/lib.rt:325:42
 free-at-requires : tie.Need-free-at-requires

@@ -4,7 +4,7 @@ use Rattle.connection.proofs.say_goaway.Statement.{statement}
 use Rattle.connection.proofs.say_goaway.Tie as tie
 use Rattle.connection.proofs.say_goaway.Reads as reads
 use Rattle.connection.proofs.say_goaway.Lts as lts
-use Rattle.doors.proofs.send_goaway.Reads as send-goaway-reads
+use Rattle.connection.proofs.doors.send_goaway.Reads as send-goaway-reads
 
 -- src/lib.rt:399:9
 send-goaway-requires : tie.Need-send-goaway-requires

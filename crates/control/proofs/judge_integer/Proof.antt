@@ -7,7 +7,7 @@ use Rattle.control.proofs.judge_integer.Reads as reads
 use Rattle.control.proofs.judge_integer.Lts as lts
 use Rattle.control.proofs.judge_id.Reads as judge-id-reads
 use Rattle.control.proofs.refused.Reads as refused-reads
-use Rattle.settings.proofs.only.Reads as only-reads
+use Rattle.control.proofs.settings.only.Reads as only-reads
 
 -- src/lib.rt:182:11
 only-requires : tie.Need-only-requires

@@ -7,7 +7,7 @@ use Rattle.control.proofs.judge_settings.Reads as reads
 use Rattle.control.proofs.judge_settings.Lts as lts
 use Rattle.control.proofs.keep_settings.Reads as keep-settings-reads
 use Rattle.control.proofs.refused.Reads as refused-reads
-use Rattle.settings.proofs.judge.Reads as judge-reads
+use Rattle.control.proofs.settings.judge.Reads as judge-reads
 
 -- src/lib.rt:77:11
 judge-requires : tie.Need-judge-requires

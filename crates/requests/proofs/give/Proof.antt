@@ -3,13 +3,13 @@ use Rattle.requests.specs.Reply.{givenAs}
 use Rattle.requests.specs.Answered.{read-open, read-shut, keeps-shut}
 use Rattle.requests.specs.Gives.{give-fit, give-taken, give-turned}
 use mathlib.Core.Path.{ap, _∙_}
-use Rattle.given.specs.Taken.{givenOf}
+use Rattle.requests.specs.Taken.{givenOf}
 use borrow.Author.Needs.{needs}
 use Rattle.requests.proofs.give.Statement.{statement}
 use Rattle.requests.proofs.give.Tie as tie
 use Rattle.requests.proofs.give.Reads as reads
 use Rattle.requests.proofs.give.Lts as lts
-use Rattle.given.proofs.give.Reads as give-reads
+use Rattle.requests.proofs.given.give.Reads as give-reads
 use Rattle.record.proofs.read.Reads as read-reads
 use Rattle.requests.proofs.kept.Reads as kept-reads
 use Rattle.requests.proofs.left.Reads as left-reads

@@ -1,4 +1,0 @@
-pub mod Openings
-pub mod Exactly
-pub mod Goaway
-pub mod Ways

@@ -1,0 +1,248 @@
+-- A section given to a stream, in numbers: the answer, and that it is the rules' own. Assumes nothing.
+use mathlib.Core.Path.{_≡_, refl, sym, ap, _∙_, subst}
+use Prim.Native.Nat.{ℕ, zero, suc, _≤_, _<_, _^_}
+use native.Mathlib.Omega.{arith}
+use mathlib.Core.List.{List}
+use mathlib.Core.Bool.{Bool, true, false}
+use mathlib.Core.Option.{Option, none, some}
+use lib.Dec.{eqb, ltb}
+use borrow.Author.Tests.{lt-ltb, le-ltb, eq-eqb, ne-eqb}
+use Rattle.rules.specs.Numbers.{FRAME-UNEXPECTED, codeNumber}
+use Rattle.rules.specs.Block.{Section, Lines, unreadable, readable, lines}
+use Rattle.rules.specs.Reading.{header-section, trailers, Next, stop, go}
+use Rattle.rules.specs.Message.{Message, opening, body, trailed, heads, trails}
+use Rattle.rules.specs.Request.{Header, Trailer, document, codeOf, next-of, headed-by, trailed-by, given}
+use Rattle.rules.specs.Request as request
+use Rattle.meaning.specs.Machine.{State, between}
+use Rattle.varint.specs.ByByte.{prog, fresh-good}
+use Rattle.rules.specs.Section.{codeOf as section-code}
+use Rattle.section.specs.declared.Reason.{Reason}
+use Rattle.section.specs.declared.Stated.{Stated}
+use Rattle.section.specs.declared.HeaderAnswer.{HeaderAnswer}
+use Rattle.section.specs.declared.HeaderAnswer.the-variants as header
+use Rattle.section.specs.declared.TrailerAnswer.{TrailerAnswer}
+use Rattle.section.specs.declared.TrailerAnswer.the-variants as trailer
+use Rattle.section.specs.Checks.{reasonOf}
+use Rattle.section.specs.Answer.{tellHeader, tellTrailers, readHeader, readTrailers, readStated}
+use Rattle.section.specs.Request.{stated-within, asHeader, asTrailer, header-is, header-unreadable, trailer-is, trailer-unreadable}
+use Rattle.streams.specs.declared.Cells.{Cells}
+use Rattle.streams.specs.Both.{Place, of-request, of-control}
+use Rattle.streams.specs.Uses.{statedOf, placeOf, Stands, a-place, any-set}
+use Rattle.streams.specs.Heads.{headState}
+use Rattle.streams.specs.Answers.{stateAt, stateOf, StandsIn, Sane}
+use Rattle.requests.specs.declared.given.Given.{Given}
+
+abbrev pub answer : (number : ℕ) → Cells → Given
+answer n c = record { number = n; cells = c }
+
+-- ---- where a stream goes on
+
+abbrev pub cellsAt : (phase has stated sum : ℕ) → Cells
+cellsAt phase has stated sum = record { mode = 0; acc = 0; due = 0; ftype = 0; phase = phase; has = has; stated = stated; sum = sum }
+
+unfoldable pub bodyCells : Option ℕ → Cells
+bodyCells none = cellsAt 1 0 0 0
+bodyCells (some n) = cellsAt 1 1 n 0
+
+abbrev pub trailedCells : Cells → Cells
+trailedCells c = cellsAt 2 (c .has) (c .stated) (c .sum)
+
+-- ---- the answer
+
+-- a section is taken in its place alone: the header section at phase 0, trailers at phase 1
+unfoldable pub inPlace : (here : Bool) → Cells → Cells → Given
+inPlace true c next = answer 0 next
+inPlace false c next = answer FRAME-UNEXPECTED c
+
+unfoldable pub headedAs : Cells → Option Header → Given
+headedAs c none = answer 6 c
+headedAs c (some (request.Header.bad code)) = answer (codeNumber code) c
+headedAs c (some (request.Header.good stated)) = inPlace (eqb (c .phase) 0) c (bodyCells stated)
+
+unfoldable pub trailedAs : Cells → Option Trailer → Given
+trailedAs c none = answer 6 c
+trailedAs c (some (request.Trailer.bad code)) = answer (codeNumber code) c
+trailedAs c (some request.Trailer.good) = inPlace (eqb (c .phase) 1) c (trailedCells c)
+
+unfoldable pub headerOf : Lines → Option Header
+headerOf (unreadable f) = none
+headerOf (readable s) = some (document .header s)
+
+unfoldable pub trailerOf : Lines → Option Trailer
+trailerOf (unreadable f) = none
+trailerOf (readable s) = some (document .trailer s)
+
+-- none is due on a control stream, nor in any other mode than 6 and 7
+unfoldable pub givenOf : Cells → List ℕ → Given
+givenOf c block = elim (ltb 2 (c .phase)) [ true ↦ answer 5 c | false ↦ elim (eqb (c .mode) 6) [ true ↦ headedAs c (headerOf (lines block)) | false ↦ elim (eqb (c .mode) 7) [ true ↦ trailedAs c (trailerOf (lines block)) | false ↦ answer 5 c ] ] ]
+
+-- ---- laws: the answer
+
+module _ (c : Cells) (block : List ℕ) where
+  pub given-control : 2 < c .phase → answer 5 c ≡ givenOf c block
+  unfolding givenOf
+  given-control h = let x = lt-ltb 2 (c .phase) h in rw (x, givenOf) refl
+
+  module _ (h : c .phase ≤ 2) where
+    pub given-header : c .mode ≡ 6 → {r : Given} → r ≡ headedAs c (headerOf (lines block)) → r ≡ givenOf c block
+    unfolding givenOf
+    given-header e q = let x = le-ltb 2 (c .phase) h in let y = eq-eqb (c .mode) 6 e in rw (x, y, givenOf) q
+
+    pub given-trailers : c .mode ≡ 7 → {r : Given} → r ≡ trailedAs c (trailerOf (lines block)) → r ≡ givenOf c block
+    unfolding givenOf
+    given-trailers e q =
+        let x = le-ltb 2 (c .phase) h in let y = ne-eqb (c .mode) 6 (λ f. omega (arith, e, f)) in let z = eq-eqb (c .mode) 7 e in rw (x, y, z, givenOf) q
+
+    pub given-undue : (c .mode ≡ 6 → ⊥) → (c .mode ≡ 7 → ⊥) → answer 5 c ≡ givenOf c block
+    unfolding givenOf
+    given-undue e f = let x = le-ltb 2 (c .phase) h in let y = ne-eqb (c .mode) 6 e in let z = ne-eqb (c .mode) 7 f in rw (x, y, z, givenOf) refl
+
+  header-lines : (a : HeaderAnswer) → readHeader block a ≡ tellHeader (lines block) → (l : Lines) → lines block ≡ l → asHeader a ≡ headerOf l
+  unfolding headerOf
+  header-lines a met (unreadable f) e = header-unreadable block a met e
+  header-lines a met (readable s) e = header-is block a met s e
+
+  trailer-lines : (a : TrailerAnswer) → readTrailers a ≡ tellTrailers (lines block) → (l : Lines) → lines block ≡ l → asTrailer a ≡ trailerOf l
+  unfolding trailerOf
+  trailer-lines a met (unreadable f) e = trailer-unreadable block a met e
+  trailer-lines a met (readable s) e = trailer-is block a met s e
+
+  pub header-met : (a : HeaderAnswer) → readHeader block a ≡ tellHeader (lines block) → headedAs c (asHeader a) ≡ headedAs c (headerOf (lines block))
+  header-met a met = ap (headedAs c) (header-lines a met (lines block) refl)
+
+  pub trailer-met : (a : TrailerAnswer) → readTrailers a ≡ tellTrailers (lines block) → trailedAs c (asTrailer a) ≡ trailedAs c (trailerOf (lines block))
+  trailer-met a met = ap (trailedAs c) (trailer-lines a met (lines block) refl)
+
+in-place : (c next : Cells) (here : Bool) → here ≡ true → answer 0 next ≡ inPlace here c next
+unfolding inPlace
+in-place c next true e = refl
+in-place c next false e = let z : _≡_ {A = ℕ} 0 1 = cc in absurd (omega arith)
+
+out-of-place : (c next : Cells) (here : Bool) → here ≡ false → answer FRAME-UNEXPECTED c ≡ inPlace here c next
+unfolding inPlace
+out-of-place c next false e = refl
+out-of-place c next true e = let z : _≡_ {A = ℕ} 0 1 = cc in absurd (omega arith)
+
+module _ (c : Cells) (block : List ℕ) (a : HeaderAnswer) (met : readHeader block a ≡ tellHeader (lines block)) where
+  abbrev Headed : Given → Type 0
+  Headed r = r ≡ headedAs c (headerOf (lines block))
+
+  header-as : {b : HeaderAnswer} → a ≡ b → headedAs c (asHeader b) ≡ headedAs c (headerOf (lines block))
+  header-as e = ap (λ x. headedAs c (asHeader x)) (sym e) ∙ header-met c block a met
+
+  pub header-unread : a ≡ header.Unreadable → Headed (answer 6 c)
+  unfolding headedAs asHeader
+  header-unread e = header-as e
+
+  pub header-refused : {r : Reason} {n : ℕ} → a ≡ header.Refused r → n ≡ codeNumber (section-code (reasonOf r)) → Headed (answer n c)
+  unfolding headedAs asHeader
+  header-refused e f = ap (λ n. answer n c) f ∙ header-as e
+
+  module _ {method end : ℕ} {s : Stated} (e : a ≡ header.Sound method end s) where
+    pub header-taken : {next : Cells} → c .phase ≡ 0 → next ≡ bodyCells (readStated s) → Headed (answer 0 next)
+    unfolding headedAs asHeader
+    header-taken f g = ap (answer 0) g ∙ in-place c (bodyCells (readStated s)) (eqb (c .phase) 0) (eq-eqb (c .phase) 0 f) ∙ header-as e
+
+    pub header-late : (c .phase ≡ 0 → ⊥) → Headed (answer FRAME-UNEXPECTED c)
+    unfolding headedAs asHeader
+    header-late f = out-of-place c (bodyCells (readStated s)) (eqb (c .phase) 0) (ne-eqb (c .phase) 0 f) ∙ header-as e
+
+module _ (c : Cells) (block : List ℕ) (a : TrailerAnswer) (met : readTrailers a ≡ tellTrailers (lines block)) where
+  abbrev Trailed : Given → Type 0
+  Trailed r = r ≡ trailedAs c (trailerOf (lines block))
+
+  trailer-as : {b : TrailerAnswer} → a ≡ b → trailedAs c (asTrailer b) ≡ trailedAs c (trailerOf (lines block))
+  trailer-as e = ap (λ x. trailedAs c (asTrailer x)) (sym e) ∙ trailer-met c block a met
+
+  pub trailer-unread : a ≡ trailer.Unreadable → Trailed (answer 6 c)
+  unfolding trailedAs asTrailer
+  trailer-unread e = trailer-as e
+
+  pub trailer-refused : {r : Reason} {n : ℕ} → a ≡ trailer.Refused r → n ≡ codeNumber (section-code (reasonOf r)) → Trailed (answer n c)
+  unfolding trailedAs asTrailer
+  trailer-refused e f = ap (λ n. answer n c) f ∙ trailer-as e
+
+  module _ (e : a ≡ trailer.Sound) where
+    pub trailer-taken : {next : Cells} → c .phase ≡ 1 → next ≡ trailedCells c → Trailed (answer 0 next)
+    unfolding trailedAs asTrailer
+    trailer-taken f g = ap (answer 0) g ∙ in-place c (trailedCells c) (eqb (c .phase) 1) (eq-eqb (c .phase) 1 f) ∙ trailer-as e
+
+    pub trailer-late : (c .phase ≡ 1 → ⊥) → Trailed (answer FRAME-UNEXPECTED c)
+    unfolding trailedAs asTrailer
+    trailer-late f = out-of-place c (trailedCells c) (eqb (c .phase) 1) (ne-eqb (c .phase) 1 f) ∙ trailer-as e
+
+-- ---- it is the rules' own
+
+-- an answer says this of the rules' next message: the code, the stream as it was; or 0, and the stream stands between two frames at that message
+unfoldable pub Says : Cells → Given → Next Message → Type 0
+Says c r (stop code) = r ≡ answer (codeNumber code) c
+Says c r (go m) = (r .number ≡ 0) × StandsIn (r .cells) (of-request m) × ((p : Place) (k : List ℕ) → stateOf (r .cells) p k ≡ between p) × Sane (r .cells)
+
+-- the messages that numbers stand for
+data Message-at (h n s : ℕ) : (phase : ℕ) → Message → Type 0 where
+  at-opening : Message-at h n s 0 opening
+  at-body : Message-at h n s 1 (body (statedOf h n) s)
+  at-trailers : Message-at h n s 2 (trailed (statedOf h n) s)
+
+of-place : (h n s phase : ℕ) (m : Message) → placeOf phase h n s ≡ of-request m → Message-at h n s phase m
+unfolding placeOf
+of-place h n s zero m e = let f : opening ≡ m = cc in subst (Message-at h n s 0) f at-opening
+of-place h n s (suc zero) m e = let f : body (statedOf h n) s ≡ m = cc in subst (Message-at h n s 1) f at-body
+of-place h n s (suc (suc zero)) m e = let f : trailed (statedOf h n) s ≡ m = cc in subst (Message-at h n s 2) f at-trailers
+of-place h n s (suc (suc (suc zero))) m e = let z : _≡_ {A = ℕ} 0 1 = cc in absurd (omega arith)
+of-place h n s (suc (suc (suc (suc k)))) m e = let z : _≡_ {A = ℕ} 0 1 = cc in absurd (omega arith)
+
+stands-at : (h n s : ℕ) {phase : ℕ} {p : Place} (m : Message) → Stands h n s phase p → p ≡ of-request m → Message-at h n s phase m
+stands-at h n s m (a-place {phase = phase}) e = of-place h n s phase m e
+stands-at h n s m (any-set {p = of-request m′} k i) e = absurd i
+stands-at h n s m (any-set {p = of-control c} k i) e = let z : _≡_ {A = ℕ} 0 1 = cc in absurd (omega arith)
+
+fresh-between : (phase h n s : ℕ) (p : Place) (k : List ℕ) → stateOf (cellsAt phase h n s) p k ≡ between p
+unfolding stateAt headState prog
+fresh-between phase h n s p k = refl
+
+sane-at : (phase h n s : ℕ) → n ≤ 2 ^ 62 → s ≤ 2 ^ 62 → Sane (cellsAt phase h n s)
+sane-at phase h n s a b = record {
+  modes = omega arith;
+  header = λ l. fresh-good;
+  small = omega arith;
+  type = omega arith;
+  some = λ x y z. absurd (omega arith);
+  sums = b;
+  stateds = a;
+}
+
+header-good : (c : Cells) (stated : Option ℕ) → ((n : ℕ) → stated ≡ some n → n ≤ 2 ^ 62) → {h n s phase : ℕ} {m : Message} → Message-at h n s phase m
+    → Says c (inPlace (eqb phase 0) c (bodyCells stated)) (next-of (heads stated m))
+unfolding Says inPlace bodyCells next-of heads codeOf placeOf statedOf
+header-good c none w at-opening = (refl, a-place, fresh-between 1 0 0 0, sane-at 1 0 0 0 (omega arith) (omega arith))
+header-good c (some n) w at-opening = (refl, a-place, fresh-between 1 1 n 0, sane-at 1 1 n 0 (w n refl) (omega arith))
+header-good c stated w at-body = refl
+header-good c stated w at-trailers = refl
+
+trailer-good : (c : Cells) {h n s phase : ℕ} {m : Message} → n ≤ 2 ^ 62 → s ≤ 2 ^ 62 → Message-at h n s phase m
+    → Says c (inPlace (eqb phase 1) c (cellsAt 2 h n s)) (next-of (trails m))
+unfolding Says inPlace next-of trails codeOf placeOf
+trailer-good c a b at-opening = refl
+trailer-good c {h} {n} {s} a b at-body = (refl, a-place, fresh-between 2 h n s, sane-at 2 h n s a b)
+trailer-good c a b at-trailers = refl
+
+module _ (c : Cells) (m : Message) (st : StandsIn c (of-request m)) where
+  by-header : (s : Section) (h : Header) → document .header s ≡ h → Says c (headedAs c (some h)) (headed-by h m)
+  unfolding Says headedAs headed-by
+  by-header s (request.Header.bad code) e = refl
+  by-header s (request.Header.good stated) e = header-good c stated (stated-within s stated e) (stands-at (c .has) (c .stated) (c .sum) m st refl)
+
+  by-trailer : Sane c → (t : Trailer) → Says c (trailedAs c (some t)) (trailed-by t m)
+  unfolding Says trailedAs trailed-by
+  by-trailer sane (request.Trailer.bad code) = refl
+  by-trailer sane request.Trailer.good = trailer-good c (sane .stateds) (sane .sums) (stands-at (c .has) (c .stated) (c .sum) m st refl)
+
+  -- A HEADER SECTION GIVEN, and TRAILERS, answer what the rules do
+  pub header-says : (s : Section) → Says c (headedAs c (headerOf (readable s))) (given document header-section m s)
+  unfolding headerOf given
+  header-says s = by-header s (document .header s) refl
+
+  pub trailer-says : Sane c → (s : Section) → Says c (trailedAs c (trailerOf (readable s))) (given document trailers m s)
+  unfolding trailerOf given
+  trailer-says sane s = by-trailer sane (document .trailer s)

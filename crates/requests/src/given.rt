@@ -1,0 +1,121 @@
+// A section given to a stream (document 01, "Requests"), by value: 5 none is due, 6 the block is unreadable, the code that refuses it, else 0.
+use section::HeaderAnswer;
+use section::Stated;
+use section::TrailerAnswer;
+use streams::Cells;
+ghost use mathlib.Core.Path.{_≡_};
+ghost use Rattle.rules.specs.Block.{lines};
+ghost use Rattle.section.specs.Answer.{readStated};
+ghost use Rattle.requests.specs.Taken.{cellsAt, bodyCells, headedAs, headerOf, trailedAs, trailerOf, givenOf};
+
+// The number, and where the stream stands then.
+pub struct Given {
+    pub number: u64,
+    pub cells: Cells,
+}
+
+// Between two frames.
+fn cells_at(phase: u64, has: u64, stated: u64, sum: u64) -> Cells
+    ensures { λ r. ⌜ r ≡ cellsAt phase has stated sum ⌝ }
+{
+    Cells {
+        mode: 0,
+        acc: 0,
+        due: 0,
+        ftype: 0,
+        phase,
+        has,
+        stated,
+        sum,
+    }
+}
+
+fn body_cells(stated: Stated) -> Cells
+    ensures { λ r. ⌜ r ≡ bodyCells (readStated stated) ⌝ }
+{
+    match stated {
+        Stated::Nothing => cells_at(1, 0, 0, 0),
+        Stated::Length(n) => cells_at(1, 1, n, 0),
+    }
+}
+
+fn give_header(c: Cells, block: &[u8]) -> Given
+    ensures { λ r. ⌜ r ≡ headedAs c (headerOf (lines (now (block .entry)))) ⌝ }
+{
+    match section::header_section(block) {
+        HeaderAnswer::Unreadable => Given {
+            number: 6,
+            cells: c,
+        },
+        HeaderAnswer::Refused(reason) => Given {
+            number: section::code(reason),
+            cells: c,
+        },
+        HeaderAnswer::Sound {
+            method: _,
+            end: _,
+            stated,
+        } => {
+            if c.phase == 0 {
+                Given {
+                    number: 0,
+                    cells: body_cells(stated),
+                }
+            } else {
+                Given {
+                    number: rules::FRAME_UNEXPECTED,
+                    cells: c,
+                }
+            }
+        }
+    }
+}
+
+fn give_trailers(c: Cells, block: &[u8]) -> Given
+    ensures { λ r. ⌜ r ≡ trailedAs c (trailerOf (lines (now (block .entry)))) ⌝ }
+{
+    match section::trailers(block) {
+        TrailerAnswer::Unreadable => Given {
+            number: 6,
+            cells: c,
+        },
+        TrailerAnswer::Refused(reason) => Given {
+            number: section::code(reason),
+            cells: c,
+        },
+        TrailerAnswer::Sound => {
+            if c.phase == 1 {
+                Given {
+                    number: 0,
+                    cells: cells_at(2, c.has, c.stated, c.sum),
+                }
+            } else {
+                Given {
+                    number: rules::FRAME_UNEXPECTED,
+                    cells: c,
+                }
+            }
+        }
+    }
+}
+
+pub fn give(c: Cells, block: &[u8]) -> Given
+    ensures { λ r. ⌜ r ≡ givenOf c (now (block .entry)) ⌝ }
+{
+    if 2 < c.phase {
+        return Given {
+            number: 5,
+            cells: c,
+        };
+    }
+    if c.mode == 6 {
+        give_header(c, block)
+    } else if c.mode == 7 {
+        give_trailers(c, block)
+    } else {
+        Given {
+            number: 5,
+            cells: c,
+        }
+    }
+}

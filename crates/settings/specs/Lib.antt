@@ -1,4 +1,0 @@
-pub mod Answers
-pub mod Walk
-pub mod WalkLaws
-pub mod OnlyLaws

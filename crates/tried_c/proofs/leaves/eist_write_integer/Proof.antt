@@ -1,0 +1,20 @@
+-- `tried_c::leaves::eist_write_integer` meets its contract: the answer is told in numbers. Assumes nothing.
+use borrow.Author.Needs.{needs}
+use Rattle.tried_c.specs.LeafNumbers.{written}
+use Rattle.tried_c.proofs.leaves.eist_write_integer.Statement.{statement}
+use Rattle.tried_c.proofs.leaves.eist_write_integer.Tie as tie
+
+write-requires : tie.Need-write-requires
+write-requires c κs = search needs
+
+told-requires : tie.Need-told-requires
+told-requires c κs = search needs
+
+same-length : tie.Need-same-length
+same-length c = search needs
+
+returns : tie.Need-returns
+returns c = written (c .before .before .before .before .write .ensures) (c .told .ensures .0) (c .told .ensures .1)
+
+pub eist-write-integer-spec : {M : Type 1} → statement M
+eist-write-integer-spec = tie.close (tie.spec write-requires told-requires same-length returns)

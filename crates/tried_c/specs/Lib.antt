@@ -1,0 +1,3 @@
+pub mod StreamNumbers
+pub mod OneWayNumbers
+pub mod LeafNumbers
