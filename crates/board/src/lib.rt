@@ -13,10 +13,9 @@ ghost use lib.ListN.{length, set, getD};
 ghost use Rattle.record.specs.Row.{free-record};
 ghost use Rattle.record.specs.Sound.{cellsIn};
 ghost use Rattle.record.specs.Body.{contentIn};
-ghost use Rattle.connection.specs.Whose.{FoundIn};
 ghost use Rattle.connection.specs.Turned.{turn, Turned, sweptOf};
 ghost use Rattle.board.specs.Layout.{connectionSize, recordSize, reportSize, writtenSize};
-ghost use Rattle.board.specs.Lent.{FirstIn};
+ghost use Rattle.board.specs.Lent.{FirstIn, foundAt, SteppedAt};
 ghost use Rattle.board.specs.Promises.{Started, Stepped, Opened, Fed, Given, Ended, Reset, SaidGoaway, writtenOf, WroteHeader, WroteIntegerFrame, WroteOpening};
 
 // ---- the row
