@@ -188,9 +188,12 @@ module _ {M : Type 1} (𝓤 : URA M) (H : Heap 𝓤) (A : Atoms 𝓤) (W : Given
       abbrev arm : Ends 𝓤 H
       arm = anyQ (afterSeq 𝓤 H (Wp 𝓤 H Cs Λ En m.t-3 (post 𝓤 H (atRet En Post))) (post 𝓤 H (atRet En Post)))
 
-      -- what is lent, and the locals, of which the parameters alone are set
+      -- the locals, of which the parameters alone are set; and before them what is lent
+      abbrev Locals : List (Item 𝓤) → List (Item 𝓤)
+      Locals Γ = ‵ (froom (sliceTy (row-ref erased)) l30 0) ∷ ‵ (fdies (sliceTy (row-ref erased)) l30) ∷ ‵ (froom (row-ref erased) l29 0) ∷ ‵ (fdies (row-ref erased) l29) ∷ ‵ (froom (conn-ref erased) l28 0) ∷ ‵ (fdies (conn-ref erased) l28) ∷ ‵ (froom (sliceTy seen-ref) l27 0) ∷ ‵ (fdies (sliceTy seen-ref) l27) ∷ ‵ (froom seen-ref l26 0) ∷ ‵ (fdies seen-ref l26) ∷ ‵ (froom (sliceTy (row-ref erased)) l25 0) ∷ ‵ (fdies (sliceTy (row-ref erased)) l25) ∷ ‵ (froom (row-ref erased) l24 0) ∷ ‵ (fdies (row-ref erased) l24) ∷ ‵ (froom (conn-ref erased) l23 0) ∷ ‵ (fdies (conn-ref erased) l23) ∷ ‵ (froom (sliceTy (row-ref erased)) l22 0) ∷ ‵ (fdies (sliceTy (row-ref erased)) l22) ∷ ‵ (froom (row-ref erased) l21 0) ∷ ‵ (fdies (row-ref erased) l21) ∷ ‵ (froom tyUnit l20 0) ∷ ‵ (fdies tyUnit l20) ∷ ‵ (froom tyBool l19 0) ∷ ‵ (fdies tyBool l19) ∷ ‵ (froom (tyInt w64) l18 0) ∷ ‵ (fdies (tyInt w64) l18) ∷ ‵ (froom (sliceTy seen-ref) l17 0) ∷ ‵ (fdies (sliceTy seen-ref) l17) ∷ ‵ (froom seen-ref l16 0) ∷ ‵ (fdies seen-ref l16) ∷ ‵ (froom (sliceTy seen-ref) l15 0) ∷ ‵ (fdies (sliceTy seen-ref) l15) ∷ ‵ (froom seen-ref l14 0) ∷ ‵ (fdies seen-ref l14) ∷ ‵ (froom tyBool l13 0) ∷ ‵ (fdies tyBool l13) ∷ ‵ (froom (tyInt w64) l12 0) ∷ ‵ (fdies (tyInt w64) l12) ∷ ‵ (froom tyBool l11 0) ∷ ‵ (fdies tyBool l11) ∷ ‵ (froom (tyInt w64) l10 0) ∷ ‵ (fdies (tyInt w64) l10) ∷ ‵ (froom B′.mir l9 0) ∷ ‵ (fdies B′.mir l9) ∷ ‵ (froom F′.mir l8 0) ∷ ‵ (fdies F′.mir l8) ∷ ‵ (froom (tyInt w64) l7 0) ∷ ‵ (fdies (tyInt w64) l7) ∷ ‵ (fat fullShare (sliceTy (tyRef (named 2) imm (tyInt w8))) l6 0 (bytes-val piece)) ∷ ‵ (fdies (sliceTy (tyRef (named 2) imm (tyInt w8))) l6) ∷ ‵ (fat fullShare (tyInt w64) l5 0 (vint w64 allow)) ∷ ‵ (fdies (tyInt w64) l5) ∷ ‵ (fat fullShare (tyInt w64) l4 0 (vint w64 id)) ∷ ‵ (fdies (tyInt w64) l4) ∷ ‵ (fat fullShare (tyInt w64) l3 0 (vint w64 k)) ∷ ‵ (fdies (tyInt w64) l3) ∷ ‵ (fat fullShare (sliceTy (row-ref (named 1))) l2 0 (rows-val x)) ∷ ‵ (fdies (sliceTy (row-ref (named 1))) l2) ∷ ‵ (fat fullShare (conn-ref (named 0)) l1 0 (conn-val cr)) ∷ ‵ (fdies (conn-ref (named 0)) l1) ∷ ‵ (froom N′.mir l0 0) ∷ ‵ (fdies N′.mir l0) ∷ Γ
+
       abbrev Lent : List (Item 𝓤)
-      Lent = ‵ (OwnRow κ₁ x) ∷ ‵ (flft κ₁ q₁) ∷ ‵ (flft κ₂ q₂) ∷ ‵ (flft κ₀ q₀) ∷ ‵ (OwnPiece κ₂ piece) ∷ ‵ (OwnConn κ₀ cr) ∷ ‵ (froom (sliceTy (row-ref erased)) l30 0) ∷ ‵ (fdies (sliceTy (row-ref erased)) l30) ∷ ‵ (froom (row-ref erased) l29 0) ∷ ‵ (fdies (row-ref erased) l29) ∷ ‵ (froom (conn-ref erased) l28 0) ∷ ‵ (fdies (conn-ref erased) l28) ∷ ‵ (froom (sliceTy seen-ref) l27 0) ∷ ‵ (fdies (sliceTy seen-ref) l27) ∷ ‵ (froom seen-ref l26 0) ∷ ‵ (fdies seen-ref l26) ∷ ‵ (froom (sliceTy (row-ref erased)) l25 0) ∷ ‵ (fdies (sliceTy (row-ref erased)) l25) ∷ ‵ (froom (row-ref erased) l24 0) ∷ ‵ (fdies (row-ref erased) l24) ∷ ‵ (froom (conn-ref erased) l23 0) ∷ ‵ (fdies (conn-ref erased) l23) ∷ ‵ (froom (sliceTy (row-ref erased)) l22 0) ∷ ‵ (fdies (sliceTy (row-ref erased)) l22) ∷ ‵ (froom (row-ref erased) l21 0) ∷ ‵ (fdies (row-ref erased) l21) ∷ ‵ (froom tyUnit l20 0) ∷ ‵ (fdies tyUnit l20) ∷ ‵ (froom tyBool l19 0) ∷ ‵ (fdies tyBool l19) ∷ ‵ (froom (tyInt w64) l18 0) ∷ ‵ (fdies (tyInt w64) l18) ∷ ‵ (froom (sliceTy seen-ref) l17 0) ∷ ‵ (fdies (sliceTy seen-ref) l17) ∷ ‵ (froom seen-ref l16 0) ∷ ‵ (fdies seen-ref l16) ∷ ‵ (froom (sliceTy seen-ref) l15 0) ∷ ‵ (fdies (sliceTy seen-ref) l15) ∷ ‵ (froom seen-ref l14 0) ∷ ‵ (fdies seen-ref l14) ∷ ‵ (froom tyBool l13 0) ∷ ‵ (fdies tyBool l13) ∷ ‵ (froom (tyInt w64) l12 0) ∷ ‵ (fdies (tyInt w64) l12) ∷ ‵ (froom tyBool l11 0) ∷ ‵ (fdies tyBool l11) ∷ ‵ (froom (tyInt w64) l10 0) ∷ ‵ (fdies (tyInt w64) l10) ∷ ‵ (froom B′.mir l9 0) ∷ ‵ (fdies B′.mir l9) ∷ ‵ (froom F′.mir l8 0) ∷ ‵ (fdies F′.mir l8) ∷ ‵ (froom (tyInt w64) l7 0) ∷ ‵ (fdies (tyInt w64) l7) ∷ ‵ (fat fullShare (sliceTy (tyRef (named 2) imm (tyInt w8))) l6 0 (bytes-val piece)) ∷ ‵ (fdies (sliceTy (tyRef (named 2) imm (tyInt w8))) l6) ∷ ‵ (fat fullShare (tyInt w64) l5 0 (vint w64 allow)) ∷ ‵ (fdies (tyInt w64) l5) ∷ ‵ (fat fullShare (tyInt w64) l4 0 (vint w64 id)) ∷ ‵ (fdies (tyInt w64) l4) ∷ ‵ (fat fullShare (tyInt w64) l3 0 (vint w64 k)) ∷ ‵ (fdies (tyInt w64) l3) ∷ ‵ (fat fullShare (sliceTy (row-ref (named 1))) l2 0 (rows-val x)) ∷ ‵ (fdies (sliceTy (row-ref (named 1))) l2) ∷ ‵ (fat fullShare (conn-ref (named 0)) l1 0 (conn-val cr)) ∷ ‵ (fdies (conn-ref (named 0)) l1) ∷ ‵ (froom N′.mir l0 0) ∷ ‵ (fdies N′.mir l0) ∷ []
+      Lent = ‵ (OwnRow κ₁ x) ∷ ‵ (flft κ₁ q₁) ∷ ‵ (flft κ₂ q₂) ∷ ‵ (flft κ₀ q₀) ∷ ‵ (OwnPiece κ₂ piece) ∷ ‵ (OwnConn κ₀ cr) ∷ Locals []
 
       -- the record is sought, and all is lent on to `step_at`
       slowly : Is (MutSlice (named 1) κ₁ R) x (rows-val x ∷ []) → Sq W Lent (runs Cs Λ En m.t-3 (atRet En Post))
@@ -288,6 +291,31 @@ module _ {M : Type 1} (𝓤 : URA M) (H : Heap 𝓤) (A : Atoms 𝓤) (W : Given
           move ! (65 ∷ 66 ∷ []) $ free1 ! $ move ! (63 ∷ 64 ∷ []) $ free1 ! $ move ! (61 ∷ 62 ∷ []) $ free1 ! $ move ! (59 ∷ 60 ∷ []) $ free1 ! $ move ! (57 ∷ 58 ∷ []) $ free1 ! $ move ! (55 ∷ 56 ∷ []) $ free1 ! $ move ! (53 ∷ 54 ∷ []) $ free1 ! $ move ! (51 ∷ 52 ∷ []) $ free1 ! $ move ! (49 ∷ 50 ∷ []) $ free1 ! $ move ! (47 ∷ 48 ∷ []) $ free1 ! $ move ! (45 ∷ 46 ∷ []) $ free1 ! $ move ! (43 ∷ 44 ∷ []) $ free1 ! $ move ! (41 ∷ 42 ∷ []) $ free1 ! $ move ! (39 ∷ 40 ∷ []) $ free1 ! $ move ! (37 ∷ 38 ∷ []) $ free1 ! $ move ! (35 ∷ 36 ∷ []) $ free1 ! $ move ! (33 ∷ 34 ∷ []) $ free1 ! $ move ! (31 ∷ 32 ∷ []) $ free1 ! $ move ! (29 ∷ 30 ∷ []) $ free1 ! $ move ! (27 ∷ 28 ∷ []) $ free1 ! $ move ! (25 ∷ 26 ∷ []) $ free1 ! $ move ! (23 ∷ 24 ∷ []) $ free1 ! $ move ! (21 ∷ 22 ∷ []) $ free1 ! $ move ! (19 ∷ 20 ∷ []) $ free1 ! $ move ! (17 ∷ 18 ∷ []) $ free1 ! $ move ! (15 ∷ 16 ∷ []) $ free1 ! $ move ! (13 ∷ 14 ∷ []) $ free1 ! $ move ! (11 ∷ 12 ∷ []) $ free1 ! $ move ! (9 ∷ 10 ∷ []) $ free1 ! $ move ! (7 ∷ 8 ∷ []) $ free1 ! $ move ! (5 ∷ 6 ∷ []) $ free1 ! $ free0 ! $
           keep ! (0 ∷ 1 ∷ 2 ∷ 3 ∷ 4 ∷ []) $ by ! (exits r w c′ zs (stepped-there k id ys e s) l))))))))))
 
+      -- a feed
+      briskly : Is (MutSlice (named 1) κ₁ R) x (rows-val x ∷ []) → Sq W Lent (runs Cs Λ En (then-of m.s-2) arm)
+      briskly p =
+          assigns ! (of-opd ! (load ! (from ! (fld ! refl (stop !))) (look-in ! 62 (sub ! 1 refl (whole !))))) (from ! (stop !)) (init ! 42 refl (tt, record { fits = p .0 .1 .0 })) $
+          assigns ! (bin ! (load ! (from ! (stop !)) (look ! 42 refl)) (lit ! tt) tt) (from ! (stop !)) (init ! 40 refl (tt, tt)) $
+          branches ! (load ! (from ! (stop !)) (look ! 40 refl))
+          (λ long. forget ! 40 refl $ forget ! 42 refl $ swiftly p)
+          (λ other. skips ! $ exec ! Cs Λ En m.t-3 (atRet En Post) $ forget ! 40 refl $ forget ! 42 refl $ slowly p)
+
+      tested : Is (MutSlice (named 1) κ₁ R) x (rows-val x ∷ []) → Sq W Lent (runs Cs Λ En (code.function .body) (atRet En Post))
+      tested p =
+          assigns ! (bin ! (load ! (from ! (stop !)) (look ! 60 refl)) (lit ! tt) tt) (from ! (stop !)) (init ! 44 refl (tt, tt)) $
+          first ! $ branches ! (load ! (from ! (stop !)) (look ! 44 refl))
+          (λ fed. forget ! 44 refl $ briskly p)
+          (λ other. skips ! $ exec ! Cs Λ En m.t-3 (atRet En Post) $ forget ! 44 refl $ slowly p)
+
+      -- what is lent is taken apart
+      wholly : Is (MutSlice (named 1) κ₁ R) x (rows-val x ∷ []) → Sq W (Locals (Toks ∷ ‵ (owns (MutRef (named 0) κ₀ C.the-row ∷ MutSlice (named 1) κ₁ R ∷ u64 ∷ u64 ∷ u64 ∷ ShrSlice (named 2) κ₂ u8 ∷ []) a at) ∷ [])) (runs Cs Λ En (code.function .body) (atRet En Post))
+      wholly p =
+          move ! (63 ∷ 62 ∷ []) $ fsplit ! $ move ! (1 ∷ []) $ fsplit ! $ move ! (1 ∷ []) $ fsplit ! $ drop ! $ fsplit ! $ drop ! $ fsplit ! $ drop ! $ fsplit ! $ move ! (1 ∷ []) $ drop ! $
+          -- [piece; row; conn; toks]
+          move ! (3 ∷ []) $ split ! $ move ! (1 ∷ []) $ split ! $ move ! (1 ∷ []) $ split ! $ move ! (1 ∷ []) $ drop ! $
+          -- [κ₂; κ₁; κ₀; piece; row; conn]
+          move ! (4 ∷ 1 ∷ []) $ tested p
+
     walk : Is (MutSlice (named 1) κ₁ R) x (rows-val x ∷ []) → Is (ShrSlice (named 2) κ₂ u8) piece (bytes-val piece ∷ []) → ent 𝓤 (onEntry 𝓤 H A self.signature κs qs a at) (WpFn 𝓤 H Cs Λ code.function (conn-val cr ∷ rows-val x ∷ vint w64 k ∷ vint w64 id ∷ vint w64 allow ∷ bytes-val piece ∷ []) Post)
     walk p p′ =
         qed W (Toks ∷ ‵ (owns (MutRef (named 0) κ₀ C.the-row ∷ MutSlice (named 1) κ₁ R ∷ u64 ∷ u64 ∷ u64 ∷ ShrSlice (named 2) κ₂ u8 ∷ []) a at) ∷ []) ∵ enter ! Cs Λ code.function (conn-val cr ∷ rows-val x ∷ vint w64 k ∷ vint w64 id ∷ vint w64 allow ∷ bytes-val piece ∷ []) _ $
@@ -299,18 +327,7 @@ module _ {M : Type 1} (𝓤 : URA M) (H : Heap 𝓤) (A : Atoms 𝓤) (W : Given
         pass1 ! (init ! 50 refl (tt, record { fits = allow-fits })) $
         pass1 ! (init ! 48 refl (shr-slice-lawful 𝓤 H A W (named 2) κ₂ u8 .typed piece (bytes-val piece ∷ []) p′ .0)) $
         pass0 ! $
-        move ! (63 ∷ []) $ fsplit ! $ move ! (1 ∷ []) $ fsplit ! $ move ! (1 ∷ []) $ fsplit ! $ move ! (1 ∷ []) $ fsplit ! $ move ! (1 ∷ []) $ fsplit ! $ move ! (1 ∷ []) $ fsplit ! $ move ! (1 ∷ []) $ drop ! $ move ! (3 ∷ []) $
-        drop ! $ move ! (2 ∷ []) $ drop ! $ move ! (1 ∷ []) $ drop ! $ move ! (65 ∷ []) $ split ! $ move ! (1 ∷ []) $ split ! $ move ! (1 ∷ []) $ split ! $ move ! (1 ∷ []) $ drop ! $ move ! (4 ∷ 1 ∷ []) $
-        -- [row; κ₁; κ₂; κ₀; piece; conn; _30; …; _0]
-        assigns ! (bin ! (load ! (from ! (stop !)) (look ! 60 refl)) (lit ! tt) tt) (from ! (stop !)) (init ! 44 refl (tt, tt)) $
-        first ! $ branches ! (load ! (from ! (stop !)) (look ! 44 refl))
-        (λ fed.
-        assigns ! (of-opd ! (load ! (from ! (fld ! refl (stop !))) (look-in ! 62 (sub ! 1 refl (whole !))))) (from ! (stop !)) (init ! 42 refl (tt, record { fits = p .0 .1 .0 })) $
-        assigns ! (bin ! (load ! (from ! (stop !)) (look ! 42 refl)) (lit ! tt) tt) (from ! (stop !)) (init ! 40 refl (tt, tt)) $
-        branches ! (load ! (from ! (stop !)) (look ! 40 refl))
-        (λ long. forget ! 40 refl $ forget ! 42 refl $ forget ! 44 refl $ swiftly l0 l1 l2 l3 l4 l5 l6 l7 l8 l9 l10 l11 l12 l13 l14 l15 l16 l17 l18 l19 l20 l21 l22 l23 l24 l25 l26 l27 l28 l29 l30 p)
-        (λ other. skips ! $ exec ! Cs Λ (En l0 l1 l2 l3 l4 l5 l6 l7 l8 l9 l10 l11 l12 l13 l14 l15 l16 l17 l18 l19 l20 l21 l22 l23 l24 l25 l26 l27 l28 l29 l30) m.t-3 (atRet (En l0 l1 l2 l3 l4 l5 l6 l7 l8 l9 l10 l11 l12 l13 l14 l15 l16 l17 l18 l19 l20 l21 l22 l23 l24 l25 l26 l27 l28 l29 l30) Post) $ forget ! 40 refl $ forget ! 42 refl $ forget ! 44 refl $ slowly l0 l1 l2 l3 l4 l5 l6 l7 l8 l9 l10 l11 l12 l13 l14 l15 l16 l17 l18 l19 l20 l21 l22 l23 l24 l25 l26 l27 l28 l29 l30 p))
-        (λ other. skips ! $ exec ! Cs Λ (En l0 l1 l2 l3 l4 l5 l6 l7 l8 l9 l10 l11 l12 l13 l14 l15 l16 l17 l18 l19 l20 l21 l22 l23 l24 l25 l26 l27 l28 l29 l30) m.t-3 (atRet (En l0 l1 l2 l3 l4 l5 l6 l7 l8 l9 l10 l11 l12 l13 l14 l15 l16 l17 l18 l19 l20 l21 l22 l23 l24 l25 l26 l27 l28 l29 l30) Post) $ forget ! 44 refl $ slowly l0 l1 l2 l3 l4 l5 l6 l7 l8 l9 l10 l11 l12 l13 l14 l15 l16 l17 l18 l19 l20 l21 l22 l23 l24 l25 l26 l27 l28 l29 l30 p))))))))))))))))))))))))))))))))
+        wholly l0 l1 l2 l3 l4 l5 l6 l7 l8 l9 l10 l11 l12 l13 l14 l15 l16 l17 l18 l19 l20 l21 l22 l23 l24 l25 l26 l27 l28 l29 l30 p)))))))))))))))))))))))))))))))
 
 module _ {M : Type 1} (𝓤 : URA M) (H : Heap 𝓤) (A : Atoms 𝓤) (W : Given 𝓤 H A) (mem : Memory → SProp 𝓤) (run : Routine → Fun 𝓤) where
   walks : (Cs : Calls 𝓤 H) (Λ : Loops 𝓤 H) → FmC 𝓤 H (W .laws) Cs → Triple 𝓤 (Cs #board·find) (FindC 𝓤 H A mem run) → Triple 𝓤 (Cs #board·pick) (PickC 𝓤 H A mem run) → Triple 𝓤 (Cs #connection·brisk) (Brisk 𝓤 H A mem run) → Triple 𝓤 (Cs #board·store-content) (Store 𝓤 H A mem run) → Triple 𝓤 (Cs #board·step-at) (StepAtC 𝓤 H A mem run)
