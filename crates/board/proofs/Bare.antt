@@ -49,9 +49,10 @@ use Rattle.connection.proofs.Connection as C
 use Rattle.connection.proofs.Connection.Laws as C′
 use Rattle.connection.proofs.Report as N
 use Rattle.connection.proofs.Report.Laws as N′
-use Rattle.board.specs.Lent.{Stepped}
+use Rattle.board.specs.Promises.{Stepped}
 use Rattle.board.proofs.Laws.{R}
-use Rattle.board.proofs.Thin.{StepC, conn-val, rows-val, OwnPiece, calls-step}
+use Rattle.board.proofs.Lends.{conn-val, rows-val, OwnPiece}
+use Rattle.board.proofs.Thin.{StepC, calls-step}
 use Rattle.board.proofs.step.Symbol.{name as #board·step}
 use Rattle.board.proofs.eistulko_end as self
 

@@ -25,7 +25,6 @@ pub mod Sends
 pub mod Runs
 pub mod Exports
 pub mod Host
-pub mod OverTheCalls
 pub mod OneAnswer
 pub mod Only
 pub mod Parts

@@ -42,9 +42,10 @@ use Rattle.connection.specs.declared.Report.{Report}
 use Rattle.connection.proofs.Connection as C
 use Rattle.connection.proofs.Report as N
 use Rattle.connection.proofs.Report.Laws as N′
-use Rattle.board.specs.Lent.{Stepped}
+use Rattle.board.specs.Promises.{Stepped}
 use Rattle.board.proofs.Laws.{R}
-use Rattle.board.proofs.Thin.{StepC, conn-val, rows-val, bytes-val, OwnPiece, handed, calls-step}
+use Rattle.board.proofs.Lends.{conn-val, rows-val, bytes-val, OwnPiece}
+use Rattle.board.proofs.Thin.{StepC, handed, calls-step}
 use Rattle.board.proofs.step.Symbol as step-def
 use Rattle.board.proofs.step.Symbol.{name as #board·step}
 use Rattle.board.proofs.step.Met as step-thm

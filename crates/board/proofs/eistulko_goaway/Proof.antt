@@ -54,7 +54,7 @@ use Rattle.connection.proofs.say_goaway as say
 use Rattle.connection.proofs.say_goaway.Symbol as say-def
 use Rattle.connection.proofs.say_goaway.Symbol.{name as #connection·say-goaway}
 use Rattle.connection.proofs.say_goaway.Met as say-thm
-use Rattle.board.specs.Lent.{SaidGoaway}
+use Rattle.board.specs.Promises.{SaidGoaway}
 use Rattle.board.proofs.Conn.{doors-vals, doors-makes, doors-typed, doors-of, with-doors, opens-conn, closes-conn, as-named}
 use Rattle.board.proofs.eistulko_goaway.Key.{name as #board·eistulko-goaway}
 use Rattle.board.proofs.eistulko_goaway as self

@@ -50,7 +50,7 @@ use Rattle.connection.proofs.begin as begin
 use Rattle.connection.proofs.begin.Symbol as begin-def
 use Rattle.connection.proofs.begin.Symbol.{name as #connection·begin}
 use Rattle.connection.proofs.begin.Met as begin-thm
-use Rattle.board.specs.Lent.{Started}
+use Rattle.board.specs.Promises.{Started}
 use Rattle.board.proofs.Laws.{R}
 use Rattle.board.proofs.Conn.{conn-vals, conn-makes, conn-typed, opens-conn, closes-conn}
 use Rattle.board.proofs.empty as empty

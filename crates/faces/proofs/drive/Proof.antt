@@ -53,7 +53,7 @@ use Rattle.connection.proofs.Connection.Laws as C′
 use Rattle.connection.specs.declared.Report.{Report}
 use Rattle.connection.proofs.Report as N
 use Rattle.connection.proofs.Report.Laws as N′
-use Rattle.board.specs.Lent.{Stepped}
+use Rattle.board.specs.Promises.{Stepped}
 use Rattle.board.proofs.step as callee
 use Rattle.board.proofs.step.Symbol as callee-def
 use Rattle.board.proofs.step.Symbol.{name as #callee}

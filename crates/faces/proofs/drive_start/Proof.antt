@@ -48,7 +48,7 @@ use Rattle.record.proofs.Record.Laws as T′
 use Rattle.connection.specs.declared.Connection.{Connection}
 use Rattle.connection.proofs.Connection as C
 use Rattle.connection.proofs.Connection.Laws as C′
-use Rattle.board.specs.Lent.{Started}
+use Rattle.board.specs.Promises.{Started}
 use Rattle.board.proofs.eistulko_start as callee
 use Rattle.board.proofs.eistulko_start.Symbol as callee-def
 use Rattle.board.proofs.eistulko_start.Symbol.{name as #callee}
