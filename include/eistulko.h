@@ -7,7 +7,7 @@
  *
  * WHAT IS PROMISED. Each call below meets a contract that is proved of its code: it returns, for every content of the memory that it is
  * lent and every number; it reads and writes no other memory; and for each input there is one answer and one content of the lent memory
- * behind it. Nobody has to check anything first but the pointers. The contracts are in crates/board/specs/Lent.antt and Writes.antt. The numbers
+ * behind it. Nobody has to check anything first but the pointers. The contracts are in crates/calls/specs/Lent.antt and Writes.antt. The numbers
  * and events that stand with each call are those of a connection and a row that had one start and that only these calls touched since; on
  * other memory a call still returns, keeps to that memory and has one answer.
  *
@@ -182,7 +182,7 @@ typedef struct {
     uint64_t count;  /* bytes written from the room's beginning, 0 on a refusal; those behind stay as they were */
 } eistulko_written;
 
-/* Held by proof in crates/board/proofs/Sizes.antt, here for the host's compiler, and by the size functions below at run time. */
+/* Held by proof in crates/calls/proofs/Sizes.antt, here for the host's compiler, and by the size functions below at run time. */
 EISTULKO_STATIC_ASSERT(sizeof(eistulko_connection) == 400, "eistulko_connection");
 EISTULKO_STATIC_ASSERT(sizeof(eistulko_record) == 48, "eistulko_record");
 EISTULKO_STATIC_ASSERT(sizeof(eistulko_report) == 56, "eistulko_report");

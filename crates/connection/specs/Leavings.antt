@@ -15,14 +15,14 @@ use Rattle.meaning.specs.Machine.{Prog, fresh, Fed, going, value, fed, State, i
 use Rattle.meaning.specs.Feed as F
 use Rattle.meaning.specs.OneWayFeed as one
 use Rattle.meaning.specs.OneWayFeed.{OneState, in-stream-type, in-control, in-qpack, in-skipped, OneOutcome, OneEvent, of-frames, qpack-bytes}
-use Rattle.streams.specs.Modes.{modeOf}
-use Rattle.streams.specs.declared.Cells.{Cells}
+use Rattle.frames.specs.Modes.{modeOf}
+use Rattle.frames.specs.declared.Cells.{Cells}
 use Rattle.record.specs.Kinds.{REQUEST, UNTYPED, CONTROL}
 use Rattle.record.specs.declared.Record.{Record}
 use Rattle.varint.specs.ByByte.{prog, partOf, fresh-good}
-use Rattle.streams.specs.Uses.{placeOf}
-use Rattle.streams.specs.Heads.{headState}
-use Rattle.streams.specs.Answers.{modeState}
+use Rattle.frames.specs.Uses.{placeOf}
+use Rattle.frames.specs.Heads.{headState}
+use Rattle.frames.specs.Answers.{modeState}
 use Rattle.record.specs.Row.{phaseOf, statedIn, isStated, lengthOf, sumIn, numbersOf, placeIn, oneWayRecord}
 use Rattle.record.specs.Tests.{bare-shape, sane-with}
 use Rattle.requests.specs.declared.Reply.{Reply}

@@ -10,8 +10,8 @@ use Rattle.rules.specs.Integers.{integer}
 use Rattle.rules.specs.Reading.{Kept as Payload, settings, goaway, max-push-id, cancel-push, Next, stop, go}
 use Rattle.rules.specs.Control.{Settings, settings-of, Control, unset, set, only, above, below, after-goaway, after-max-push, after-integer, after-settings, judged, Told, told-settings, told-goaway, told-max-push-id, told-nothing, settings-in, id-in, tells}
 use Rattle.wire.specs.declared.ids.PushId.{PushId}
-use Rattle.streams.specs.Modes.{modeOf}
-use Rattle.streams.specs.Answers.{modeKept, keptAt}
+use Rattle.frames.specs.Modes.{modeOf}
+use Rattle.frames.specs.Answers.{modeKept, keptAt}
 use Rattle.meaning.specs.NumberLaws.{numbered}
 use Rattle.control.specs.declared.Kept.{Kept}
 use Rattle.control.specs.declared.Verdict.{Verdict}

@@ -24,7 +24,7 @@ use Rattle.varint.specs.Shortest.{sizeOf}
 use Rattle.record.specs.declared.Record.{Record}
 use Rattle.connection.specs.declared.Connection.{Connection}
 use Rattle.connection.specs.declared.Report.{Report}
-use Rattle.board.specs.Promises.{Fed, Given, Ended, writtenOf}
+use Rattle.calls.specs.Promises.{Fed, Given, Ended, writtenOf}
 use Rattle.demands.specs.Streams.{streams}
 use Rattle.demands.specs.Reading.{reading}
 use Rattle.demands.specs.LongerStreams.{firstOf, statedBy, headerOf, Added}

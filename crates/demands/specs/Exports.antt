@@ -24,43 +24,43 @@ use Rattle.record.specs.declared.Record.{Record}
 use Rattle.connection.specs.declared.Connection.{Connection}
 use Rattle.connection.specs.declared.Report.{Report}
 use Rattle.connection.specs.declared.Written.{Written}
-use Rattle.board.specs.Promises as promise
-use Rattle.board.proofs.eistulko_start as Start
-use Rattle.board.proofs.eistulko_start.Symbol as Start-is
-use Rattle.board.proofs.eistulko_start.Met as Start-has
-use Rattle.board.proofs.eistulko_open as Open
-use Rattle.board.proofs.eistulko_open.Symbol as Open-is
-use Rattle.board.proofs.eistulko_open.Met as Open-has
-use Rattle.board.proofs.eistulko_feed as Feed
-use Rattle.board.proofs.eistulko_feed.Symbol as Feed-is
-use Rattle.board.proofs.eistulko_feed.Met as Feed-has
-use Rattle.board.proofs.eistulko_give as Give
-use Rattle.board.proofs.eistulko_give.Symbol as Give-is
-use Rattle.board.proofs.eistulko_give.Met as Give-has
-use Rattle.board.proofs.eistulko_end as End
-use Rattle.board.proofs.eistulko_end.Symbol as End-is
-use Rattle.board.proofs.eistulko_end.Met as End-has
-use Rattle.board.proofs.eistulko_reset as Reset
-use Rattle.board.proofs.eistulko_reset.Symbol as Reset-is
-use Rattle.board.proofs.eistulko_reset.Met as Reset-has
-use Rattle.board.proofs.eistulko_goaway as Goaway
-use Rattle.board.proofs.eistulko_goaway.Symbol as Goaway-is
-use Rattle.board.proofs.eistulko_goaway.Met as Goaway-has
-use Rattle.board.proofs.eistulko_write_header as Header
-use Rattle.board.proofs.eistulko_write_header.Symbol as Header-is
-use Rattle.board.proofs.eistulko_write_header.Met as Header-has
-use Rattle.board.proofs.eistulko_write_integer_frame as IntegerFrame
-use Rattle.board.proofs.eistulko_write_integer_frame.Symbol as IntegerFrame-is
-use Rattle.board.proofs.eistulko_write_integer_frame.Met as IntegerFrame-has
-use Rattle.board.proofs.eistulko_write_opening as Opening
-use Rattle.board.proofs.eistulko_write_opening.Symbol as Opening-is
-use Rattle.board.proofs.eistulko_write_opening.Met as Opening-has
+use Rattle.calls.specs.Promises as promise
+use Rattle.calls.proofs.eistulko_start as Start
+use Rattle.calls.proofs.eistulko_start.Symbol as Start-is
+use Rattle.calls.proofs.eistulko_start.Met as Start-has
+use Rattle.calls.proofs.eistulko_open as Open
+use Rattle.calls.proofs.eistulko_open.Symbol as Open-is
+use Rattle.calls.proofs.eistulko_open.Met as Open-has
+use Rattle.calls.proofs.eistulko_feed as Feed
+use Rattle.calls.proofs.eistulko_feed.Symbol as Feed-is
+use Rattle.calls.proofs.eistulko_feed.Met as Feed-has
+use Rattle.calls.proofs.eistulko_give as Give
+use Rattle.calls.proofs.eistulko_give.Symbol as Give-is
+use Rattle.calls.proofs.eistulko_give.Met as Give-has
+use Rattle.calls.proofs.eistulko_end as End
+use Rattle.calls.proofs.eistulko_end.Symbol as End-is
+use Rattle.calls.proofs.eistulko_end.Met as End-has
+use Rattle.calls.proofs.eistulko_reset as Reset
+use Rattle.calls.proofs.eistulko_reset.Symbol as Reset-is
+use Rattle.calls.proofs.eistulko_reset.Met as Reset-has
+use Rattle.calls.proofs.eistulko_goaway as Goaway
+use Rattle.calls.proofs.eistulko_goaway.Symbol as Goaway-is
+use Rattle.calls.proofs.eistulko_goaway.Met as Goaway-has
+use Rattle.calls.proofs.eistulko_write_header as Header
+use Rattle.calls.proofs.eistulko_write_header.Symbol as Header-is
+use Rattle.calls.proofs.eistulko_write_header.Met as Header-has
+use Rattle.calls.proofs.eistulko_write_integer_frame as IntegerFrame
+use Rattle.calls.proofs.eistulko_write_integer_frame.Symbol as IntegerFrame-is
+use Rattle.calls.proofs.eistulko_write_integer_frame.Met as IntegerFrame-has
+use Rattle.calls.proofs.eistulko_write_opening as Opening
+use Rattle.calls.proofs.eistulko_write_opening.Symbol as Opening-is
+use Rattle.calls.proofs.eistulko_write_opening.Met as Opening-has
 use Rattle.demands.specs.Streams.{streams}
 use Rattle.demands.specs.Runs.{Seen, a-number, a-report, a-written, Does, starts, opens-one, feeds, gives, ends, resets, goes-away}
 
 -- which functions they are, by the name in the source
 pub named : _≡_ {A = List Name} (Start-is.name ∷ Open-is.name ∷ Feed-is.name ∷ Give-is.name ∷ End-is.name ∷ Reset-is.name ∷ Goaway-is.name ∷ Header-is.name ∷ IntegerFrame-is.name ∷ Opening-is.name ∷ [])
-    ("board::eistulko_start" ∷ "board::eistulko_open" ∷ "board::eistulko_feed" ∷ "board::eistulko_give" ∷ "board::eistulko_end" ∷ "board::eistulko_reset" ∷ "board::eistulko_goaway" ∷ "board::eistulko_write_header" ∷ "board::eistulko_write_integer_frame" ∷ "board::eistulko_write_opening" ∷ [])
+    ("calls::eistulko_start" ∷ "calls::eistulko_open" ∷ "calls::eistulko_feed" ∷ "calls::eistulko_give" ∷ "calls::eistulko_end" ∷ "calls::eistulko_reset" ∷ "calls::eistulko_goaway" ∷ "calls::eistulko_write_header" ∷ "calls::eistulko_write_integer_frame" ∷ "calls::eistulko_write_opening" ∷ [])
 named = refl
 
 -- what may be said of a function's arguments, of its answer, and of what it leaves behind the references that it is lent

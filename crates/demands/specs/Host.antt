@@ -18,7 +18,7 @@ use Rattle.record.specs.declared.Record.{Record}
 use Rattle.connection.specs.declared.Connection.{Connection}
 use Rattle.connection.specs.declared.Report.{Report}
 use Rattle.connection.specs.declared.Written.{Written}
-use Rattle.board.specs.Promises.{SaidGoaway}
+use Rattle.calls.specs.Promises.{SaidGoaway}
 use Rattle.demands.specs.Streams.{streams}
 use Rattle.demands.specs.Demands.{Calls}
 use Rattle.demands.specs.Refusals.{numberOf, leavesOf, in-table, LeavesBy, as-the-table-says}

@@ -57,7 +57,7 @@ use Rattle.connection.specs.Faults.{codeKept, stream-keeps-none}
 use Rattle.connection.specs.Ways.{taken-none}
 use Rattle.connection.specs.Whose.{Belongs, wanted-belongs}
 use Rattle.connection.specs.Turned.{byCall, freeAt, openedAt, requestAs, oneWayAs, Turned, other-row, dead, opens, not-open, request, one-way, fresh-connection, begunOf}
-use Rattle.board.specs.Promises.{Started, Stepped, SaidGoaway}
+use Rattle.calls.specs.Promises.{Started, Stepped, SaidGoaway}
 use Rattle.demands.specs.Streams.{connCode, streams}
 use Rattle.demands.specs.Codes.{is-of-connection, one-way-listed}
 use Rattle.demands.specs.Parts.{one-fits}

@@ -1,4 +1,4 @@
--- DEFINITION: what a connection's record and the host's row mean as the pair that traces are about; which call a board call is, and how an answer
+-- BELIEVED (docs/PROOFS.md): what a connection's record and the host's row mean as the pair that traces are about; which call a lent call is, and how an answer
 -- is reported. Assumes nothing.
 use Prim.Native.Nat.{ℕ, zero, suc}
 use mathlib.Core.List.{List, map}

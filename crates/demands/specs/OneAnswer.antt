@@ -28,9 +28,9 @@ use Rattle.control.specs.Answers.{judgedIs, judged-one, singleIs, single-one}
 use Rattle.section.specs.declared.HeaderAnswer.{HeaderAnswer}
 use Rattle.section.specs.declared.TrailerAnswer.{TrailerAnswer}
 use Rattle.section.specs.Answer.{readHeader, readTrailers, one-header-answer, one-trailer-answer}
-use Rattle.streams.specs.declared.Cells.{Cells}
-use Rattle.streams.specs.Uses.{a-place}
-use Rattle.streams.specs.End.{Ends}
+use Rattle.frames.specs.declared.Cells.{Cells}
+use Rattle.frames.specs.Uses.{a-place}
+use Rattle.frames.specs.End.{Ends}
 use Rattle.record.specs.declared.Record.{Record}
 use Rattle.record.specs.declared.Stream.{Stream}
 use Rattle.record.specs.Sound.{Decides, ownPlace, Read, Written}
@@ -47,7 +47,7 @@ use Rattle.connection.specs.Turned.{fresh-connection}
 use Rattle.connection.specs.Briefly.{Briefly}
 use Rattle.connection.specs.Nearly.{one-near}
 use Rattle.connection.specs.One.{one-listens, one-turn, one-goaway}
-use Rattle.board.specs.Once as once
+use Rattle.calls.specs.Once as once
 use Rattle.varint.proofs.fresh as varint-fresh
 use Rattle.varint.proofs.fresh.Symbol as varint-fresh-is
 use Rattle.varint.proofs.read_step as varint-read-step
@@ -99,12 +99,12 @@ use Rattle.section.proofs.header_section as section-header-section
 use Rattle.section.proofs.header_section.Symbol as section-header-section-is
 use Rattle.section.proofs.trailers as section-trailers
 use Rattle.section.proofs.trailers.Symbol as section-trailers-is
-use Rattle.streams.proofs.ruled as streams-ruled
-use Rattle.streams.proofs.ruled.Symbol as streams-ruled-is
-use Rattle.streams.proofs.end as streams-end
-use Rattle.streams.proofs.end.Symbol as streams-end-is
-use Rattle.streams.proofs.feed.Symbol as streams-feed-is
-use Rattle.streams.proofs.brisk.Symbol as streams-brisk-is
+use Rattle.frames.proofs.ruled as streams-ruled
+use Rattle.frames.proofs.ruled.Symbol as streams-ruled-is
+use Rattle.frames.proofs.end as streams-end
+use Rattle.frames.proofs.end.Symbol as streams-end-is
+use Rattle.frames.proofs.feed.Symbol as streams-feed-is
+use Rattle.frames.proofs.brisk.Symbol as streams-brisk-is
 use Rattle.record.proofs.cells_in as record-cells-in
 use Rattle.record.proofs.cells_in.Symbol as record-cells-in-is
 use Rattle.record.proofs.free as record-free
@@ -165,36 +165,36 @@ use Rattle.connection.proofs.swept.Symbol as connection-swept-is
 use Rattle.connection.proofs.say_goaway as connection-say-goaway
 use Rattle.connection.proofs.say_goaway.Symbol as connection-say-goaway-is
 use Rattle.connection.proofs.brisk.Symbol as connection-brisk-is
-use Rattle.board.proofs.step as board-step
-use Rattle.board.proofs.step.Symbol as board-step-is
-use Rattle.board.proofs.eistulko_start as board-eistulko-start
-use Rattle.board.proofs.eistulko_start.Symbol as board-eistulko-start-is
-use Rattle.board.proofs.eistulko_open as board-eistulko-open
-use Rattle.board.proofs.eistulko_open.Symbol as board-eistulko-open-is
-use Rattle.board.proofs.eistulko_feed as board-eistulko-feed
-use Rattle.board.proofs.eistulko_feed.Symbol as board-eistulko-feed-is
-use Rattle.board.proofs.eistulko_give as board-eistulko-give
-use Rattle.board.proofs.eistulko_give.Symbol as board-eistulko-give-is
-use Rattle.board.proofs.eistulko_end as board-eistulko-end
-use Rattle.board.proofs.eistulko_end.Symbol as board-eistulko-end-is
-use Rattle.board.proofs.eistulko_reset as board-eistulko-reset
-use Rattle.board.proofs.eistulko_reset.Symbol as board-eistulko-reset-is
-use Rattle.board.proofs.eistulko_goaway as board-eistulko-goaway
-use Rattle.board.proofs.eistulko_goaway.Symbol as board-eistulko-goaway-is
-use Rattle.board.proofs.eistulko_write_header as board-eistulko-write-header
-use Rattle.board.proofs.eistulko_write_header.Symbol as board-eistulko-write-header-is
-use Rattle.board.proofs.eistulko_write_integer_frame as board-eistulko-write-integer-frame
-use Rattle.board.proofs.eistulko_write_integer_frame.Symbol as board-eistulko-write-integer-frame-is
-use Rattle.board.proofs.eistulko_write_opening as board-eistulko-write-opening
-use Rattle.board.proofs.eistulko_write_opening.Symbol as board-eistulko-write-opening-is
-use Rattle.board.proofs.eistulko_connection_size as board-eistulko-connection-size
-use Rattle.board.proofs.eistulko_connection_size.Symbol as board-eistulko-connection-size-is
-use Rattle.board.proofs.eistulko_record_size as board-eistulko-record-size
-use Rattle.board.proofs.eistulko_record_size.Symbol as board-eistulko-record-size-is
-use Rattle.board.proofs.eistulko_report_size as board-eistulko-report-size
-use Rattle.board.proofs.eistulko_report_size.Symbol as board-eistulko-report-size-is
-use Rattle.board.proofs.eistulko_written_size as board-eistulko-written-size
-use Rattle.board.proofs.eistulko_written_size.Symbol as board-eistulko-written-size-is
+use Rattle.calls.proofs.step as board-step
+use Rattle.calls.proofs.step.Symbol as board-step-is
+use Rattle.calls.proofs.eistulko_start as board-eistulko-start
+use Rattle.calls.proofs.eistulko_start.Symbol as board-eistulko-start-is
+use Rattle.calls.proofs.eistulko_open as board-eistulko-open
+use Rattle.calls.proofs.eistulko_open.Symbol as board-eistulko-open-is
+use Rattle.calls.proofs.eistulko_feed as board-eistulko-feed
+use Rattle.calls.proofs.eistulko_feed.Symbol as board-eistulko-feed-is
+use Rattle.calls.proofs.eistulko_give as board-eistulko-give
+use Rattle.calls.proofs.eistulko_give.Symbol as board-eistulko-give-is
+use Rattle.calls.proofs.eistulko_end as board-eistulko-end
+use Rattle.calls.proofs.eistulko_end.Symbol as board-eistulko-end-is
+use Rattle.calls.proofs.eistulko_reset as board-eistulko-reset
+use Rattle.calls.proofs.eistulko_reset.Symbol as board-eistulko-reset-is
+use Rattle.calls.proofs.eistulko_goaway as board-eistulko-goaway
+use Rattle.calls.proofs.eistulko_goaway.Symbol as board-eistulko-goaway-is
+use Rattle.calls.proofs.eistulko_write_header as board-eistulko-write-header
+use Rattle.calls.proofs.eistulko_write_header.Symbol as board-eistulko-write-header-is
+use Rattle.calls.proofs.eistulko_write_integer_frame as board-eistulko-write-integer-frame
+use Rattle.calls.proofs.eistulko_write_integer_frame.Symbol as board-eistulko-write-integer-frame-is
+use Rattle.calls.proofs.eistulko_write_opening as board-eistulko-write-opening
+use Rattle.calls.proofs.eistulko_write_opening.Symbol as board-eistulko-write-opening-is
+use Rattle.calls.proofs.eistulko_connection_size as board-eistulko-connection-size
+use Rattle.calls.proofs.eistulko_connection_size.Symbol as board-eistulko-connection-size-is
+use Rattle.calls.proofs.eistulko_record_size as board-eistulko-record-size
+use Rattle.calls.proofs.eistulko_record_size.Symbol as board-eistulko-record-size-is
+use Rattle.calls.proofs.eistulko_report_size as board-eistulko-report-size
+use Rattle.calls.proofs.eistulko_report_size.Symbol as board-eistulko-report-size-is
+use Rattle.calls.proofs.eistulko_written_size as board-eistulko-written-size
+use Rattle.calls.proofs.eistulko_written_size.Symbol as board-eistulko-written-size-is
 use Rattle.requests.proofs.brisk as requests-brisk
 use Rattle.connection.proofs.brisk as connection-brisk
 use Rattle.demands.specs.Exports.{World}
@@ -425,7 +425,7 @@ module _ (w : World) where
   functions = of-varint ++ (of-ids ++ (of-wire ++ (of-settings ++ (of-fields ++ (of-section ++ (of-streams ++ (of-record ++ (of-given ++ (of-oneway ++ (of-control ++ (of-requests ++ (of-doors ++ (of-oneways ++ (of-connection ++ (of-board)))))))))))))))
 
   pub listed : _≡_ {A = List Name} (map (λ (f : Function). f .name) functions)
-      ("varint::fresh" ∷ "varint::read_step" ∷ "varint::ends" ∷ "varint::value" ∷ "varint::read" ∷ "varint::size" ∷ "varint::put" ∷ "varint::write" ∷ "wire::ids::is_request" ∷ "wire::write_header" ∷ "wire::write_integer_frame" ∷ "wire::write_opening" ∷ "wire::write_goaway" ∷ "control::settings::judge" ∷ "control::settings::only" ∷ "fields::has_byte" ∷ "fields::begins_with" ∷ "fields::same_bytes" ∷ "fields::any_outside" ∷ "fields::bad_line" ∷ "fields::decimal_of" ∷ "fields::line_at" ∷ "section::code" ∷ "section::header_section" ∷ "section::trailers" ∷ "streams::ruled" ∷ "streams::end" ∷ "record::cells_in" ∷ "record::free" ∷ "record::is_free" ∷ "record::read" ∷ "record::row" ∷ "record::write" ∷ "record::in_content" ∷ "requests::given::give" ∷ "oneway::close" ∷ "control::judge" ∷ "requests::reset" ∷ "requests::end" ∷ "requests::feed" ∷ "requests::give" ∷ "connection::doors::fresh" ∷ "connection::doors::open" ∷ "connection::doors::send_goaway" ∷ "oneway::calls::fresh" ∷ "oneway::calls::feed" ∷ "oneway::calls::give" ∷ "oneway::calls::close" ∷ "connection::fresh" ∷ "connection::wanted" ∷ "connection::answer" ∷ "connection::overhear" ∷ "connection::begin" ∷ "connection::swept" ∷ "connection::say_goaway" ∷ "board::step" ∷ "board::eistulko_start" ∷ "board::eistulko_open" ∷ "board::eistulko_feed" ∷ "board::eistulko_give" ∷ "board::eistulko_end" ∷ "board::eistulko_reset" ∷ "board::eistulko_goaway" ∷ "board::eistulko_write_header" ∷ "board::eistulko_write_integer_frame" ∷ "board::eistulko_write_opening" ∷ "board::eistulko_connection_size" ∷ "board::eistulko_record_size" ∷ "board::eistulko_report_size" ∷ "board::eistulko_written_size" ∷ [])
+      ("varint::fresh" ∷ "varint::read_step" ∷ "varint::ends" ∷ "varint::value" ∷ "varint::read" ∷ "varint::size" ∷ "varint::put" ∷ "varint::write" ∷ "wire::ids::is_request" ∷ "wire::write_header" ∷ "wire::write_integer_frame" ∷ "wire::write_opening" ∷ "wire::write_goaway" ∷ "control::settings::judge" ∷ "control::settings::only" ∷ "fields::has_byte" ∷ "fields::begins_with" ∷ "fields::same_bytes" ∷ "fields::any_outside" ∷ "fields::bad_line" ∷ "fields::decimal_of" ∷ "fields::line_at" ∷ "section::code" ∷ "section::header_section" ∷ "section::trailers" ∷ "frames::ruled" ∷ "frames::end" ∷ "record::cells_in" ∷ "record::free" ∷ "record::is_free" ∷ "record::read" ∷ "record::row" ∷ "record::write" ∷ "record::in_content" ∷ "requests::given::give" ∷ "oneway::close" ∷ "control::judge" ∷ "requests::reset" ∷ "requests::end" ∷ "requests::feed" ∷ "requests::give" ∷ "connection::doors::fresh" ∷ "connection::doors::open" ∷ "connection::doors::send_goaway" ∷ "oneway::calls::fresh" ∷ "oneway::calls::feed" ∷ "oneway::calls::give" ∷ "oneway::calls::close" ∷ "connection::fresh" ∷ "connection::wanted" ∷ "connection::answer" ∷ "connection::overhear" ∷ "connection::begin" ∷ "connection::swept" ∷ "connection::say_goaway" ∷ "calls::step" ∷ "calls::eistulko_start" ∷ "calls::eistulko_open" ∷ "calls::eistulko_feed" ∷ "calls::eistulko_give" ∷ "calls::eistulko_end" ∷ "calls::eistulko_reset" ∷ "calls::eistulko_goaway" ∷ "calls::eistulko_write_header" ∷ "calls::eistulko_write_integer_frame" ∷ "calls::eistulko_write_opening" ∷ "calls::eistulko_connection_size" ∷ "calls::eistulko_record_size" ∷ "calls::eistulko_report_size" ∷ "calls::eistulko_written_size" ∷ [])
   listed = refl
 
   -- ---- and those that do not
@@ -443,5 +443,5 @@ module _ (w : World) where
 
 -- `fields::classes` leaves open the bits of an entry that no class reads; `record::in_body` may say no; two are feeds below a record, and three short ways
 pub excepted : _≡_ {A = List Name} (fields-classes-is.name ∷ streams-feed-is.name ∷ streams-brisk-is.name ∷ record-in-body-is.name ∷ oneway-feed-is.name ∷ requests-brisk-is.name ∷ connection-brisk-is.name ∷ [])
-    ("fields::classes" ∷ "streams::feed" ∷ "streams::brisk" ∷ "record::in_body" ∷ "oneway::feed" ∷ "requests::brisk" ∷ "connection::brisk" ∷ [])
+    ("fields::classes" ∷ "frames::feed" ∷ "frames::brisk" ∷ "record::in_body" ∷ "oneway::feed" ∷ "requests::brisk" ∷ "connection::brisk" ∷ [])
 excepted = refl

@@ -19,7 +19,7 @@ use Rattle.meaning.specs.Feed as F
 use Rattle.meaning.specs.OneWayFeed as O
 use Rattle.meaning.specs.OneWayFeed.{OneState, OneOutcome, OneEvent, OneFeeding}
 use Rattle.rules.specs.Calls.{Own, fed, Out, step, fault, ofFed, ofClosed, mapOut, act₁, telling, held, Held, keeping, actOn}
-use Rattle.streams.specs.declared.Cells.{Cells}
+use Rattle.frames.specs.declared.Cells.{Cells}
 use Rattle.record.specs.declared.Record.{Record}
 use Rattle.record.specs.Row.{lengthOf, placeIn, oneWayRecord, free-record}
 use Rattle.record.specs.Sound.{cellsIn}

@@ -1,4 +1,4 @@
--- THE BOARD'S CALLS AND THE TRACES: calls of the board on one connection and one row, from one start on, answer as the trace of the same calls does
+-- THE LENT CALLS AND THE TRACES: lent calls on one connection and one row, from one start on, answer as the trace of the same calls does
 -- and leave what it leaves. In memory a number of the house alters nothing, and where settings are told the record holds them. Assumes nothing.
 use mathlib.Core.Path.{_≡_, refl, sym, ap, _∙_, subst}
 use Prim.Native.Nat.{ℕ, zero, suc, _≤_}
@@ -56,7 +56,7 @@ use Rattle.connection.specs.Halves.{stream-id, doorsIn, withDoors, sideIn, with
 use Rattle.connection.specs.Faults.{withCode, Fault, kept-fault, kept-small}
 use Rattle.connection.specs.Turned.{byCall, unaltered, openedAt, requestAs, oneWayAs, Turned, other-row, dead, opens, not-open, request, one-way, sweptOf}
 use Rattle.connection.specs.Ways.{begun-fresh, begun-other, swept-other, opening-refused}
-use Rattle.board.specs.Promises.{Started, Stepped, Opened, Fed, Given, Ended, Reset, SaidGoaway}
+use Rattle.calls.specs.Promises.{Started, Stepped, Opened, Fed, Given, Ended, Reset, SaidGoaway}
 use Rattle.demands.specs.Streams.{Keeps, typesIn, isDue, eventOf, fedBy, isReadable, sectionOf, givenBy, endedBy, placeIn, keptBy, noticeOf, framesEvent, oneEvent, heardBy, closeOf, streams}
 use Rattle.demands.specs.Means.{pairOf, callOf, noticed, reported, reportOf, writtenOf}
 use Rattle.demands.specs.Suits.{ControlFits}
@@ -83,7 +83,7 @@ seenOf (goaway id room) a = a-written (writtenOf id a)
 abbrev pub seenIn : Entry streams → Seen
 seenIn e = seenOf (e .asked) (e .answer)
 
--- ONE CALL of the board, as its promise has it: which call of a trace it is, what the host sees, and what is left
+-- ONE LENT CALL, as its promise has it: which call of a trace it is, what the host sees, and what is left
 pub data Does (c : Connection) (rows : List Record) : Call streams → Seen → Connection → List Record → Type 0 where
   starts : {c′ : Connection} {rows′ : List Record} {n : ℕ} → Started c rows c′ rows′ n → Does c rows start (a-number n) c′ rows′
   opens-one : {c′ : Connection} {rows′ : List Record} {r : Report} {id : ℕ} → Opened c rows id c′ rows′ r → Does c rows (open′ id) (a-report r) c′ rows′

@@ -22,7 +22,7 @@ use Rattle.connection.specs.declared.Written.{Written}
 use Rattle.connection.specs.Halves.{stream-id, doorsIn, withDoors, sideIn}
 use Rattle.connection.specs.Turned.{goneBy}
 use Rattle.connection.specs.Pair.{goaway-pair}
-use Rattle.board.specs.Promises.{SaidGoaway}
+use Rattle.calls.specs.Promises.{SaidGoaway}
 use Rattle.demands.specs.Streams.{streams}
 use Rattle.meaning.specs.NumberLaws.{code-high}
 use Rattle.meaning.specs.WriterLaws.{may-send}

@@ -29,7 +29,7 @@ use Rattle.connection.specs.Turned as turned
 use Rattle.connection.specs.Turned.{fresh-connection, numbered, unaltered, requestAs, replied, oneWayAs, overheard, StaysOn, Turned, other-row, dead, opens, request, one-way, begunOf, sweptOf}
 use Rattle.connection.specs.Ways.{begun-fresh, swept-free}
 use Rattle.connection.specs.Pair.{kept-pair, found-open, start-pair}
-use Rattle.board.specs.Promises.{Stepped, Started}
+use Rattle.calls.specs.Promises.{Stepped, Started}
 use Rattle.demands.specs.Streams.{streams}
 use Rattle.demands.specs.Means.{slotAt, slotOf, rowOf, deadBy, isThere, connOf, pairOf, ownOf, callOf, reportOf}
 use Rattle.demands.specs.Settles.{Traced, Comes, pair-as, dead-by, alive-call, comes-traced}

@@ -1,4 +1,4 @@
--- DEFINITION: the streams of document 01 (rules, meaning) as the machine that traces are about. Assumes nothing.
+-- BELIEVED (docs/PROOFS.md): the streams of document 01 (rules, meaning) as the machine that traces are about. Assumes nothing.
 use Prim.Native.Nat.{ℕ, zero, suc, _-_}
 use mathlib.Core.List.{List, [], _∷_, _++_}
 use mathlib.Core.Bool.{Bool, true, false}

@@ -32,7 +32,7 @@ use Rattle.connection.specs.Goaway.{sentIn, sendingOf, writeOf, Sends}
 use Rattle.connection.specs.declared.Connection.{Connection}
 use Rattle.connection.specs.declared.Written.{Written}
 use Rattle.connection.specs.Halves.{stream-id, doorsIn}
-use Rattle.board.specs.Promises.{SaidGoaway, writtenOf, WroteInto, WroteHeader, WroteIntegerFrame, WroteOpening}
+use Rattle.calls.specs.Promises.{SaidGoaway, writtenOf, WroteInto, WroteHeader, WroteIntegerFrame, WroteOpening}
 
 -- ---- what was written
 

@@ -6,7 +6,7 @@ use record::Record;
 ghost use Prim.Native.Nat.{_≤_};
 ghost use lib.ListN.{take, drop};
 ghost use mathlib.Core.Path.{_≡_};
-ghost use Rattle.board.specs.Promises.{Stepped, Started, SaidGoaway};
+ghost use Rattle.calls.specs.Promises.{Stepped, Started, SaidGoaway};
 
 // What a call leaves of the connection's record and of the records, and what it answers.
 pub struct Driven {
@@ -29,7 +29,7 @@ pub fn drive(
 {
     let mut conn = c;
     let mut rows = rs;
-    let report = board::step(&mut conn, &mut rows[..n], call, id, allow, piece);
+    let report = calls::step(&mut conn, &mut rows[..n], call, id, allow, piece);
     Driven { conn, rows, report }
 }
 
@@ -45,7 +45,7 @@ pub fn drive_start(c: Connection, rs: [Record; 32], n: usize) -> Began
 {
     let mut conn = c;
     let mut rows = rs;
-    let number = board::eistulko_start(&mut conn, &mut rows[..n]);
+    let number = calls::eistulko_start(&mut conn, &mut rows[..n]);
     Began { conn, rows, number }
 }
 
@@ -58,6 +58,6 @@ pub fn drive_goaway(c: Connection, id: u64, room: &mut [u8]) -> Told
     ensures { λ r. ⌜ SaidGoaway c id (now (room .entry)) (r .conn) (now (room .exit)) (r .written) ⌝ }
 {
     let mut conn = c;
-    let written = board::eistulko_goaway(&mut conn, id, room);
+    let written = calls::eistulko_goaway(&mut conn, id, room);
     Told { conn, written }
 }

@@ -19,7 +19,7 @@ use Rattle.listing.specs.Lines.{place, messageOf, ruledLine, endOf, endL
 use Rattle.listing.specs.declared.Place.{Place}
 use Rattle.listing.specs.declared.Line.{Line}
 use Rattle.listing.specs.declared.Line.the-variants.{Heading, Whole, Refused, TooLong}
-use Rattle.streams.specs.Modes.{OPENING, TRAILED}
+use Rattle.frames.specs.Modes.{OPENING, TRAILED}
 
 -- ---- the first of the frames from an offset on
 

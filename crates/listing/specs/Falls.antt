@@ -22,7 +22,7 @@ use Rattle.listing.specs.declared.Place.{Place}
 use Rattle.listing.specs.declared.Usage.{Usage}
 use Rattle.listing.specs.declared.Line.{Line}
 use Rattle.listing.specs.declared.Line.the-variants.{Heading, Frame, Whole, Refused, TooLong}
-use Rattle.streams.specs.Modes.{TRAILED}
+use Rattle.frames.specs.Modes.{TRAILED}
 
 -- how much is to come: the heading, the bytes from the next frame on, the end
 unfoldable pub rank : List ℕ → Place → ℕ

@@ -25,7 +25,7 @@ use Rattle.listing.specs.Listing as lister
 use Rattle.listing.specs.Lines.{place, first, messageOf, after, usageOf, useOf, lineOf, ruledLine, endOf, endLine, lineIn, entryOf, behind as what-follows, withRest, linesFrom}
 use Rattle.listing.specs.At.{frames-none, line-too-long, line-heading, line-cut-payload, inside}
 use Rattle.listing.specs.declared.Place.{Place}
-use Rattle.streams.specs.Modes.{TRAILED}
+use Rattle.frames.specs.Modes.{TRAILED}
 
 -- payload bytes are no headers
 contents-none : (bytes : List ℕ) (xs : List Saying) → accepted (map content-byte bytes ++ xs) ≡ accepted xs

@@ -15,9 +15,9 @@ use Rattle.meaning.specs.Hom.{map-ruling}
 use Rattle.meaning.specs.FrameLaws.{head}
 use Rattle.meaning.specs.NumberLaws.{code-high}
 use Rattle.meaning.specs.RequestLaws.{RuleView, r-refused, r-skipped, r-content, r-header, r-trailers, rule-view}
-use Rattle.streams.specs.Both.{of-request}
-use Rattle.streams.specs.Both as both
-use Rattle.streams.specs.Uses.{statedOf, placeOf, useNumber, numberOf, data-lawful}
+use Rattle.frames.specs.Both.{of-request}
+use Rattle.frames.specs.Both as both
+use Rattle.frames.specs.Uses.{statedOf, placeOf, useNumber, numberOf, data-lawful}
 use Rattle.listing.specs.Lines.{place, messageOf, after, usageOf, lineOf, ruledLine}
 use Rattle.listing.specs.declared.Place.{Place}
 use Rattle.listing.specs.declared.Usage.the-variants.{Skipped, Content, HeaderSection, Trailers}

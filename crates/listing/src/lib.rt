@@ -3,7 +3,7 @@ ghost use mathlib.Core.Path.{_≡_};
 ghost use Prim.Native.Nat.{_+_, _≤_, _<_, _^_, min};
 ghost use mathlib.Core.List.{[], _∷_};
 ghost use lib.ListN.{length};
-ghost use Rattle.streams.specs.Modes.{UNSET};
+ghost use Rattle.frames.specs.Modes.{UNSET};
 ghost use Rattle.meaning.specs.FrameLaws.{head};
 ghost use Rattle.listing.specs.Listing.{frame, whole, refused};
 ghost use Rattle.listing.specs.Lines.{first, endLine, ruledLine, lineAt, useOf, entryOf};
@@ -56,7 +56,7 @@ fn least(a: u64, b: u64) -> u64
 fn end_line(p: Place, total: usize) -> Line
     ensures { λ r. ⌜ r ≡ endLine total p ⌝ }
 {
-    if p.phase == streams::OPENING {
+    if p.phase == frames::OPENING {
         Line::Refused {
             bytes: total,
             code: rules::REQUEST_INCOMPLETE,
@@ -73,9 +73,9 @@ fn ruled_line(p: Place, from: usize, ftype: u64, len: u64) -> Line
 {
     // more is past the limit on content, whatever is added
     let sum = least(p.sum, 1048577);
-    let number = streams::ruled(p.phase, 0, 0, sum, ftype, len);
+    let number = frames::ruled(p.phase, 0, 0, sum, ftype, len);
     let to = from + len as usize;
-    if number == streams::USE_SKIPPED {
+    if number == frames::USE_SKIPPED {
         return Line::Frame {
             at: p.at,
             ftype,
@@ -88,7 +88,7 @@ fn ruled_line(p: Place, from: usize, ftype: u64, len: u64) -> Line
             },
         };
     }
-    if number == streams::USE_CONTENT {
+    if number == frames::USE_CONTENT {
         return Line::Frame {
             at: p.at,
             ftype,
@@ -101,7 +101,7 @@ fn ruled_line(p: Place, from: usize, ftype: u64, len: u64) -> Line
             },
         };
     }
-    if number == streams::USE_HEADER_SECTION {
+    if number == frames::USE_HEADER_SECTION {
         return Line::Frame {
             at: p.at,
             ftype,
@@ -109,12 +109,12 @@ fn ruled_line(p: Place, from: usize, ftype: u64, len: u64) -> Line
             usage: Usage::HeaderSection,
             next: Place {
                 at: to,
-                phase: streams::BODY,
+                phase: frames::BODY,
                 sum: 0,
             },
         };
     }
-    if number == streams::USE_TRAILERS {
+    if number == frames::USE_TRAILERS {
         return Line::Frame {
             at: p.at,
             ftype,
@@ -122,7 +122,7 @@ fn ruled_line(p: Place, from: usize, ftype: u64, len: u64) -> Line
             usage: Usage::Trailers,
             next: Place {
                 at: to,
-                phase: streams::TRAILED,
+                phase: frames::TRAILED,
                 sum: p.sum,
             },
         };
@@ -152,10 +152,10 @@ pub fn next(s: &[u8], p: Place) -> Line
     if 65536 < total {
         return Line::TooLong;
     }
-    if streams::TRAILED < p.phase {
+    if frames::TRAILED < p.phase {
         return Line::Heading(Place {
             at,
-            phase: streams::OPENING,
+            phase: frames::OPENING,
             sum: p.sum,
         });
     }

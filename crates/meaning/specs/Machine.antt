@@ -1,4 +1,4 @@
--- The same reading a byte at a time: the state between two bytes, which is what an engine keeps, and one step.
+-- BELIEVED as far as Feed speaks of its states (docs/PROOFS.md). The same reading a byte at a time: the state between two bytes, which is what an engine keeps, and one step.
 -- A state holds no place. The rules are the grammar's: only where a header and a payload end is told in another way. Assumes nothing.
 use Prim.Native.Nat.{ℕ, zero, suc, _+_, _*_, _%_}
 use mathlib.Core.List.{List, [], _∷_, _++_}

@@ -14,12 +14,12 @@ use Rattle.meaning.specs.Machine.{State, in-type}
 use Rattle.meaning.specs.FeedUses.{StateWithin}
 use Rattle.meaning.specs.OneWayFeed.{OneState, in-stream-type, in-control}
 use Rattle.varint.specs.ByByte.{prog}
-use Rattle.streams.specs.Modes.{IN-TYPE, IN-SETTINGS, UNSET, SET, modeOf, at-kept, at-unkept, at-any}
-use Rattle.streams.specs.declared.Cells.{Cells}
-use Rattle.streams.specs.Both.{Place, of-control}
-use Rattle.streams.specs.Uses.{placeOf, Stands, a-place, any-set}
-use Rattle.streams.specs.Heads.{headState}
-use Rattle.streams.specs.Answers.{modeState, stateAt, stateOf, StandsIn}
+use Rattle.frames.specs.Modes.{IN-TYPE, IN-SETTINGS, UNSET, SET, modeOf, at-kept, at-unkept, at-any}
+use Rattle.frames.specs.declared.Cells.{Cells}
+use Rattle.frames.specs.Both.{Place, of-control}
+use Rattle.frames.specs.Uses.{placeOf, Stands, a-place, any-set}
+use Rattle.frames.specs.Heads.{headState}
+use Rattle.frames.specs.Answers.{modeState, stateAt, stateOf, StandsIn}
 use Rattle.record.specs.Kinds.{UNTYPED, CONTROL}
 use Rattle.record.specs.declared.Record.{Record}
 use Rattle.record.specs.Row.{isStated, lengthOf, placeIn, recordAt}

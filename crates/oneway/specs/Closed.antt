@@ -16,11 +16,11 @@ use Rattle.meaning.specs.OneWayFeed.{OneState, in-stream-type, in-control, in-q
 use Rattle.meaning.specs.EveryFeed.{ReadsOn}
 use Rattle.meaning.specs.OneWays.{Came, still-untyped, type-refused, a-control-stream, a-qpack-stream, a-skipped-stream, calls-read, ReadsOnOne, always-reads}
 use Rattle.varint.specs.ByByte.{prog}
-use Rattle.streams.specs.Modes.{modeOf}
-use Rattle.streams.specs.declared.Cells.{Cells}
-use Rattle.streams.specs.Uses.{any-set}
-use Rattle.streams.specs.Heads.{headState}
-use Rattle.streams.specs.Answers.{modeState}
+use Rattle.frames.specs.Modes.{modeOf}
+use Rattle.frames.specs.declared.Cells.{Cells}
+use Rattle.frames.specs.Uses.{any-set}
+use Rattle.frames.specs.Heads.{headState}
+use Rattle.frames.specs.Answers.{modeState}
 use Rattle.oneway.specs.declared.OneWay as numbers
 use Rattle.oneway.specs.Stands.{oneStateAt, oneState, OneStands}
 use Rattle.oneway.specs.Frames.{frameCells}

@@ -16,12 +16,12 @@ use Rattle.meaning.specs.Machine.{between}
 use Rattle.meaning.specs.Feed as F
 use Rattle.meaning.specs.OneWayFeed.{OneFeeding, OneOutcome, lives, dies, in-stream-type, in-skipped, in-qpack, of-frames, qpack-bytes, of-control, halt, qpack-feed, kind-feed, typed-feed, type-feed, feed}
 use Rattle.varint.specs.ByByte.{part, prog, Good}
-use Rattle.streams.specs.Modes.{UNSET, modeOf}
-use Rattle.streams.specs.declared.Cells.{Cells}
-use Rattle.streams.specs.Both as place
-use Rattle.streams.specs.Uses.{placeOf, Stands, a-place}
-use Rattle.streams.specs.Heads.{headState}
-use Rattle.streams.specs.Answers.{modeState, stateOf, StandsIn, Sane, Held}
+use Rattle.frames.specs.Modes.{UNSET, modeOf}
+use Rattle.frames.specs.declared.Cells.{Cells}
+use Rattle.frames.specs.Both as place
+use Rattle.frames.specs.Uses.{placeOf, Stands, a-place}
+use Rattle.frames.specs.Heads.{headState}
+use Rattle.frames.specs.Answers.{modeState, stateOf, StandsIn, Sane, Held}
 use Rattle.oneway.specs.declared.Seen.{Seen}
 use Rattle.oneway.specs.declared.OneWay.{OneWay}
 use Rattle.oneway.specs.declared.OneAnswer.{OneAnswer}

@@ -21,12 +21,12 @@ use Rattle.meaning.specs.Feed as F
 use Rattle.meaning.specs.FeedLaws.{past, kept-short}
 use Rattle.meaning.specs.OneWayFeed.{OneState, OneFeeding, OneOutcome, lives, dies, of-frames, in-control, controlled, of-control, feed}
 use Rattle.varint.specs.ByByte.{prog}
-use Rattle.streams.specs.Modes.{IN-SETTINGS, SET}
-use Rattle.streams.specs.declared.Cells.{Cells}
-use Rattle.streams.specs.Both as both
-use Rattle.streams.specs.Heads.{headState}
-use Rattle.streams.specs.Parts.{judgedAs, kept-judged}
-use Rattle.streams.specs.Answers.{kept-state, keptAt, stateOf, StandsIn, Sane}
+use Rattle.frames.specs.Modes.{IN-SETTINGS, SET}
+use Rattle.frames.specs.declared.Cells.{Cells}
+use Rattle.frames.specs.Both as both
+use Rattle.frames.specs.Heads.{headState}
+use Rattle.frames.specs.Parts.{judgedAs, kept-judged}
+use Rattle.frames.specs.Answers.{kept-state, keptAt, stateOf, StandsIn, Sane}
 use Rattle.record.specs.Kinds.{CONTROL}
 use Rattle.record.specs.declared.Record.{Record}
 use Rattle.record.specs.Row.{placeIn, oneWayRecord, free-record}

@@ -20,17 +20,17 @@ use Rattle.meaning.specs.FeedLaws.{past}
 use Rattle.meaning.specs.Hom.{map-next, map-outcome, map-feeding, map-state}
 use Rattle.meaning.specs.OneWayFeed.{OneFeeding, controlled, of-control}
 use Rattle.varint.specs.ByByte.{fresh-good}
-use Rattle.streams.specs.Modes.{IN-CONTENT, IN-SETTINGS, UNSET, SET, modeOf, at-kept}
-use Rattle.streams.specs.declared.Cells.{Cells}
-use Rattle.streams.specs.declared.Answer.{Answer}
-use Rattle.streams.specs.Both.{Place, both}
-use Rattle.streams.specs.Both as place
-use Rattle.streams.specs.Uses.{placeOf, Stands, a-place, any-set}
-use Rattle.streams.specs.Heads.{headState}
-use Rattle.streams.specs.Parts.{judgedAs}
-use Rattle.streams.specs.Answers.{modeState, keptAt, stateAt, stateOf, placeAt, placeIn, StandsIn, answerAt, answerOf, Sane, Held}
-use Rattle.streams.specs.Fed.{Fed}
-use Rattle.streams.specs.Apart.{controls, state-carried, control-fed}
+use Rattle.frames.specs.Modes.{IN-CONTENT, IN-SETTINGS, UNSET, SET, modeOf, at-kept}
+use Rattle.frames.specs.declared.Cells.{Cells}
+use Rattle.frames.specs.declared.Answer.{Answer}
+use Rattle.frames.specs.Both.{Place, both}
+use Rattle.frames.specs.Both as place
+use Rattle.frames.specs.Uses.{placeOf, Stands, a-place, any-set}
+use Rattle.frames.specs.Heads.{headState}
+use Rattle.frames.specs.Parts.{judgedAs}
+use Rattle.frames.specs.Answers.{modeState, keptAt, stateAt, stateOf, placeAt, placeIn, StandsIn, answerAt, answerOf, Sane, Held}
+use Rattle.frames.specs.Fed.{Fed}
+use Rattle.frames.specs.Apart.{controls, state-carried, control-fed}
 use Rattle.oneway.specs.declared.OneWay.{OneWay}
 use Rattle.oneway.specs.declared.OneAnswer.{OneAnswer}
 use Rattle.oneway.specs.Stands.{oneStateAt, oneState, oneAnswerAt, OneSoundAt, OneSound, cellsOf, OneShapeAt, OneShape, StandsAt, Says}
@@ -115,7 +115,7 @@ unfolding onePast of-control past
 past-from at u h f = let a : at + (u + f .used) ≡ (at + u) + f .used = omega arith in rw a
 
 module _ (at : ℕ) (s : List ℕ) (p : Control) (k : List ℕ) (start len used heads : ℕ) (c : Cells) where
-  -- what `streams` says of the rest of the piece
+  -- what `frames` says of the rest of the piece
   abbrev rest-says : (event : ℕ) → OneFeeding
   rest-says event = onePast at (of-control (map-feeding controls (answerAt event start len used heads c (place.of-control p) k (drop at s))))
 

@@ -12,9 +12,9 @@ use Rattle.rules.specs.OneWay.{Qpack, encoder, decoder}
 use Rattle.meaning.specs.Feed.{Event, quiet, section-bytes, content-bytes, taken}
 use Rattle.meaning.specs.OneWayFeed.{OneState, OneOutcome, lives, dies, OneEvent, of-frames, qpack-bytes, OneFeeding, of-control, feed}
 use Rattle.meaning.specs.FeedLaws.{past}
-use Rattle.streams.specs.Modes.{IN-SETTINGS}
-use Rattle.streams.specs.Parts.{judgedAs}
-use Rattle.streams.specs.Answers.{keptAt}
+use Rattle.frames.specs.Modes.{IN-SETTINGS}
+use Rattle.frames.specs.Parts.{judgedAs}
+use Rattle.frames.specs.Answers.{keptAt}
 use Rattle.record.specs.Kinds.{UNTYPED}
 use Rattle.record.specs.declared.Record.{Record}
 use Rattle.record.specs.Row.{oneWayRecord, free-record}

@@ -15,13 +15,13 @@ use Rattle.meaning.specs.Machine.{State, in-type, between}
 use Rattle.meaning.specs.Hom.{map-state}
 use Rattle.meaning.specs.OneWayFeed.{in-stream-type, in-control}
 use Rattle.varint.specs.ByByte.{prog, partOf}
-use Rattle.streams.specs.Modes.{IN-TYPE, IN-SETTINGS, OPENING, UNSET, SET, Mode, typing, sizing, paying, waiting, modeOf, at-kept}
-use Rattle.streams.specs.declared.Cells.{Cells}
-use Rattle.streams.specs.Both.{Place, of-request, of-control}
-use Rattle.streams.specs.Uses.{placeOf, Stands, a-place, any-set}
-use Rattle.streams.specs.Heads.{headState}
-use Rattle.streams.specs.Answers.{modeState, stateAt, stateOf, StandsIn, Sane, Held}
-use Rattle.streams.specs.Apart.{state-carried}
+use Rattle.frames.specs.Modes.{IN-TYPE, IN-SETTINGS, OPENING, UNSET, SET, Mode, typing, sizing, paying, waiting, modeOf, at-kept}
+use Rattle.frames.specs.declared.Cells.{Cells}
+use Rattle.frames.specs.Both.{Place, of-request, of-control}
+use Rattle.frames.specs.Uses.{placeOf, Stands, a-place, any-set}
+use Rattle.frames.specs.Heads.{headState}
+use Rattle.frames.specs.Answers.{modeState, stateAt, stateOf, StandsIn, Sane, Held}
+use Rattle.frames.specs.Apart.{state-carried}
 use Rattle.record.specs.Kinds.{FREE, UNTYPED, CONTROL, ENCODER, DECODER, SKIPPED, UNSOUND}
 use Rattle.record.specs.declared.Record.{Record}
 use Rattle.record.specs.declared.Stream.{Stream}

@@ -16,7 +16,7 @@ use Rattle.control.specs.declared.Kept.{Kept}
 use Rattle.control.specs.Judged.{push-id}
 use Rattle.control.specs.Rules.{someIf, limitsIs, controlAt, controlOf}
 use Rattle.oneway.specs.declared.calls.Side.{Side}
-use Rattle.streams.specs.Modes.{IN-SETTINGS, UNSET}
+use Rattle.frames.specs.Modes.{IN-SETTINGS, UNSET}
 
 -- ---- what a control stream has said
 

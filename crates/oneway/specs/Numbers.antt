@@ -13,8 +13,8 @@ use Rattle.rules.specs.Reading.{settings, goaway, max-push-id, cancel-push}
 use Rattle.rules.specs.OneWay.{encoder, decoder}
 use Rattle.record.specs.Kinds.{CONTROL, ENCODER, DECODER}
 use Rattle.record.specs.Row.{isStated, lengthOf}
-use Rattle.streams.specs.Modes.{IN-SETTINGS, IN-GOAWAY, IN-MAX-PUSH-ID, UNSET, modeOf}
-use Rattle.streams.specs.Answers.{modeKept, keptAt}
+use Rattle.frames.specs.Modes.{IN-SETTINGS, IN-GOAWAY, IN-MAX-PUSH-ID, UNSET, modeOf}
+use Rattle.frames.specs.Answers.{modeKept, keptAt}
 use Rattle.oneway.specs.Stands.{qpackOf}
 use Rattle.control.specs.declared.Kept.{Kept}
 use Rattle.control.specs.Judged.{push-id}

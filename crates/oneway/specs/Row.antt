@@ -3,9 +3,9 @@ use mathlib.Core.Path.{_≡_, refl}
 use Prim.Native.Nat.{ℕ, zero, suc, _%_, _≤_, _<_, _^_}
 use native.Mathlib.Omega.{arith}
 use Rattle.varint.specs.ByByte.{part, Good, small, fresh-good}
-use Rattle.streams.specs.Modes.{IN-CONTENT, IN-SETTINGS, OPENING, UNSET, SET}
-use Rattle.streams.specs.declared.Cells.{Cells}
-use Rattle.streams.specs.Answers.{Sane}
+use Rattle.frames.specs.Modes.{IN-CONTENT, IN-SETTINGS, OPENING, UNSET, SET}
+use Rattle.frames.specs.declared.Cells.{Cells}
+use Rattle.frames.specs.Answers.{Sane}
 use Rattle.record.specs.Kinds.{UNTYPED, CONTROL, ENCODER, SKIPPED}
 use Rattle.record.specs.Sound.{Shaped, Fit}
 use Rattle.oneway.specs.declared.OneWay.{OneWay}

@@ -13,11 +13,11 @@ use Rattle.meaning.specs.Feed.{Event, quiet, section-bytes, content-bytes}
 use Rattle.meaning.specs.FeedLaws.{past}
 use Rattle.meaning.specs.OneWayFeed.{OneState, in-stream-type, in-control, in-qpack, in-skipped, OneOutcome, lives, dies, OneEvent, of-frames, qpack-bytes, OneFeeding, of-control, feed}
 use Rattle.varint.specs.ByByte.{part, prog, Good}
-use Rattle.streams.specs.Modes.{IN-TYPE, IN-CONTENT, IN-SETTINGS, OPENING, UNSET, SET}
-use Rattle.streams.specs.declared.Cells.{Cells}
-use Rattle.streams.specs.Both as both
-use Rattle.streams.specs.Parts.{judgedAs}
-use Rattle.streams.specs.Answers.{keptAt, stateOf, StandsIn, Sane, Held}
+use Rattle.frames.specs.Modes.{IN-TYPE, IN-CONTENT, IN-SETTINGS, OPENING, UNSET, SET}
+use Rattle.frames.specs.declared.Cells.{Cells}
+use Rattle.frames.specs.Both as both
+use Rattle.frames.specs.Parts.{judgedAs}
+use Rattle.frames.specs.Answers.{keptAt, stateOf, StandsIn, Sane, Held}
 use Rattle.oneway.specs.declared.Seen.{Seen}
 use Rattle.oneway.specs.declared.OneWay.{OneWay}
 use Rattle.oneway.specs.declared.OneAnswer.{OneAnswer}

@@ -3,9 +3,9 @@
 use crate::OneWay;
 use crate::Seen;
 use control::Kept;
+use frames::Cells;
 use record::Record;
 use record::Stream;
-use streams::Cells;
 use wire::ids::PushId;
 ghost use mathlib.Core.Path.{_≡_};
 ghost use Prim.Native.Nat.{ℕ, _+_, _-_, _%_, _≤_, _<_, _^_, min};
@@ -13,8 +13,8 @@ ghost use mathlib.Core.List.{_++_};
 ghost use lib.ListN.{length, take, drop};
 ghost use lib.Seq.{sets};
 ghost use Rattle.rules.specs.Events.{NOTHING};
-ghost use Rattle.streams.specs.Modes.{IN-SETTINGS, SET};
-ghost use Rattle.streams.specs.Answers.{keptAt};
+ghost use Rattle.frames.specs.Modes.{IN-SETTINGS, SET};
+ghost use Rattle.frames.specs.Answers.{keptAt};
 ghost use Rattle.record.specs.Sound.{Decides, Fit, cellsIn, stream, Written};
 ghost use Rattle.control.specs.Rules.{controlOf};
 ghost use Rattle.oneway.specs.Stands.{cellsOf, qpackOf};
@@ -99,7 +99,7 @@ fn kept_in(phase: u64, k: Kept) -> Kept
     let goaway = k.goaway;
     let push = k.push;
     Kept {
-        set: if streams::UNSET < phase { 1 } else { 0 },
+        set: if frames::UNSET < phase { 1 } else { 0 },
         limited: k.limited,
         size: k.size,
         capacity: k.capacity,
@@ -181,11 +181,11 @@ fn behind_settings() -> Cells
     ensures { λ r. ⌜ r ≡ cellsOf 0 0 4 ⌝ }
 {
     Cells {
-        mode: streams::IN_TYPE,
+        mode: frames::IN_TYPE,
         acc: 0,
         due: 0,
         ftype: 0,
-        phase: streams::SET,
+        phase: frames::SET,
         has: 0,
         stated: 0,
         sum: 0,
@@ -441,7 +441,7 @@ fn heeds(r: Record) -> bool
     if record::SKIPPED < s.kind {
         return false;
     }
-    if c.mode < streams::IN_SETTINGS {
+    if c.mode < frames::IN_SETTINGS {
         return true;
     }
     if 256 < c.acc { false } else { true }
@@ -454,7 +454,7 @@ pub fn feed(r: Record, d: Side, piece: &[u8], allow: u64) -> Heard
     if heeds(r) {
         let s = record::read(r);
         let c = s.cells;
-        if c.mode < streams::IN_SETTINGS {
+        if c.mode < frames::IN_SETTINGS {
             on(r, c, d, piece, allow)
         } else {
             on_kept(r, c, d, piece, allow)

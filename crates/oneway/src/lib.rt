@@ -1,7 +1,7 @@
 // A client's one-way stream (document 01, "Frames"): its type, then as its type says; by value.
 pub mod calls;
 
-use streams::Cells;
+use frames::Cells;
 use varint::Part;
 use varint::Step;
 ghost use mathlib.Core.Path.{_≡_};
@@ -12,8 +12,8 @@ ghost use Rattle.varint.specs.ByByte.{part, Good};
 ghost use Rattle.oneway.specs.Types.{seenOf, onceOf, kindNumber};
 ghost use Rattle.oneway.specs.Stands.{OneSound, cellsOf, OneFed};
 ghost use Rattle.oneway.specs.Typed.{TypeRead};
-ghost use Rattle.streams.specs.Modes.{UNSET};
-ghost use Rattle.streams.specs.Answers.{Sane};
+ghost use Rattle.frames.specs.Modes.{UNSET};
+ghost use Rattle.frames.specs.Answers.{Sane};
 ghost use Rattle.record.specs.Kinds.{ENCODER};
 ghost use Rattle.oneway.specs.Frames.{Controlled};
 ghost use Rattle.oneway.specs.Fed.{untyped, quietAt, Bare};
@@ -27,7 +27,7 @@ pub struct Seen {
     pub decoder: u64,
 }
 
-// A kind of crate record, but a request. The cells are those of `streams`; before the
+// A kind of crate record, but a request. The cells are those of `frames`; before the
 // type is whole acc and due hold what was read of it.
 #[repr(C)]
 pub struct OneWay {
@@ -123,7 +123,7 @@ fn cells(acc: u64, due: u64, phase: u64) -> Cells
     ensures { λ r. ⌜ r ≡ cellsOf acc due phase ⌝ }
 {
     Cells {
-        mode: streams::IN_TYPE,
+        mode: frames::IN_TYPE,
         acc,
         due,
         ftype: 0,
@@ -140,7 +140,7 @@ fn control(s: &[u8], at: usize, w: OneWay, c: Cells, allow: u64) -> OneAnswer
     ensures { λ r. ⌜ Controlled (now (s .entry)) at w c allow r ⌝ }
 {
     let rest = &s[at..];
-    let a = streams::feed(rest, c, allow);
+    let a = frames::feed(rest, c, allow);
     let left = a.cells;
     if a.event < rules::FAULT {
         OneAnswer {
@@ -175,7 +175,7 @@ fn control(s: &[u8], at: usize, w: OneWay, c: Cells, allow: u64) -> OneAnswer
             payload: left.mode,
             stream: OneWay {
                 kind: record::CONTROL,
-                cells: cells(0, 0, streams::SET),
+                cells: cells(0, 0, frames::SET),
             },
         }
     } else {
@@ -244,7 +244,7 @@ fn typed(s: &[u8], c: Cells, seen: Seen, allow: u64) -> OneAnswer
             s.len(),
             OneWay {
                 kind: record::UNTYPED,
-                cells: cells(e.acc, e.due, streams::OPENING),
+                cells: cells(e.acc, e.due, frames::OPENING),
             },
         );
     }
@@ -271,7 +271,7 @@ fn typed(s: &[u8], c: Cells, seen: Seen, allow: u64) -> OneAnswer
                 kind: record::UNTYPED,
                 cells: c,
             },
-            cells(0, 0, streams::UNSET),
+            cells(0, 0, frames::UNSET),
             allow,
         );
     }
@@ -280,7 +280,7 @@ fn typed(s: &[u8], c: Cells, seen: Seen, allow: u64) -> OneAnswer
         e.next,
         OneWay {
             kind,
-            cells: cells(0, 0, streams::OPENING),
+            cells: cells(0, 0, frames::OPENING),
         },
     )
 }

@@ -6,9 +6,9 @@ use mathlib.Core.Bool.{true, false}
 use lib.Dec.{lit≤, lit<}
 use Rattle.varint.specs.ByByte.{part, Good}
 use Rattle.rules.specs.Events.{CONTENT}
-use Rattle.streams.specs.Modes.{IN-TYPE, IN-CONTENT, TRAILERS-DUE, BODY}
-use Rattle.streams.specs.declared.Cells.{Cells}
-use Rattle.streams.specs.Answers.{Sane, Content, goes-on, is-over}
+use Rattle.frames.specs.Modes.{IN-TYPE, IN-CONTENT, TRAILERS-DUE, BODY}
+use Rattle.frames.specs.declared.Cells.{Cells}
+use Rattle.frames.specs.Answers.{Sane, Content, goes-on, is-over}
 use Rattle.record.specs.Kinds.{REQUEST}
 use Rattle.record.specs.declared.Record.{Record}
 use Rattle.record.specs.Row.{recordAt}

@@ -1,7 +1,7 @@
 -- Laws of reading and writing a record: a law for each way out. Assumes nothing.
 use mathlib.Core.Path.{_≡_, refl, sym, ap, _∙_}
 use Prim.Native.Nat.{ℕ}
-use Rattle.streams.specs.declared.Cells.{Cells}
+use Rattle.frames.specs.declared.Cells.{Cells}
 use Rattle.record.specs.Kinds.{FREE, UNSOUND}
 use Rattle.record.specs.declared.Record.{Record}
 use Rattle.record.specs.declared.Stream.{Stream}

@@ -9,9 +9,9 @@ use Rattle.meaning.specs.Machine.{State, in-type, in-length, in-payload, due, b
 use Rattle.meaning.specs.Hom.{map-state}
 use Rattle.meaning.specs.OneWayFeed.{OneState, in-stream-type, in-control, in-qpack, in-skipped}
 use Rattle.varint.specs.ByByte.{partOf}
-use Rattle.streams.specs.Modes.{IN-TYPE, IN-LENGTH, OPENING, BODY, TRAILED, UNSET, SET, paying, waiting, modeNumber}
-use Rattle.streams.specs.declared.Cells.{Cells}
-use Rattle.streams.specs.Both.{Place, of-request, of-control}
+use Rattle.frames.specs.Modes.{IN-TYPE, IN-LENGTH, OPENING, BODY, TRAILED, UNSET, SET, paying, waiting, modeNumber}
+use Rattle.frames.specs.declared.Cells.{Cells}
+use Rattle.frames.specs.Both.{Place, of-request, of-control}
 use Rattle.record.specs.Kinds.{FREE, REQUEST, UNTYPED, CONTROL, ENCODER, DECODER, SKIPPED}
 use Rattle.record.specs.declared.Record.{Record}
 

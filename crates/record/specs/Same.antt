@@ -11,12 +11,12 @@ use Rattle.rules.specs.OneWay.{encoder, decoder}
 use Rattle.meaning.specs.Machine.{State, between, in-type, in-length}
 use Rattle.meaning.specs.OneWayFeed.{in-stream-type, in-qpack, in-skipped}
 use Rattle.varint.specs.ByByte.{prog, partOf}
-use Rattle.streams.specs.Modes.{IN-TYPE, IN-LENGTH, IN-SKIPPED, HEADER-SECTION-DUE, TRAILERS-DUE, OPENING, UNSET, typing, sizing, paying, waiting, modeNumber, modeOf, IsMode, is-mode, mode-view, mode-back, paying-late}
-use Rattle.streams.specs.declared.Cells.{Cells}
-use Rattle.streams.specs.Both.{Place, of-request, of-control}
-use Rattle.streams.specs.Uses.{statedOf, placeOf, Stands, a-place, any-set}
-use Rattle.streams.specs.Heads.{headState}
-use Rattle.streams.specs.Answers.{modeState, stateAt, stateOf, StandsIn, Sane}
+use Rattle.frames.specs.Modes.{IN-TYPE, IN-LENGTH, IN-SKIPPED, HEADER-SECTION-DUE, TRAILERS-DUE, OPENING, UNSET, typing, sizing, paying, waiting, modeNumber, modeOf, IsMode, is-mode, mode-view, mode-back, paying-late}
+use Rattle.frames.specs.declared.Cells.{Cells}
+use Rattle.frames.specs.Both.{Place, of-request, of-control}
+use Rattle.frames.specs.Uses.{statedOf, placeOf, Stands, a-place, any-set}
+use Rattle.frames.specs.Heads.{headState}
+use Rattle.frames.specs.Answers.{modeState, stateAt, stateOf, StandsIn, Sane}
 use Rattle.record.specs.Kinds.{FREE, REQUEST, UNTYPED, CONTROL, ENCODER, DECODER, SKIPPED}
 use Rattle.record.specs.declared.Record.{Record}
 use Rattle.record.specs.declared.Stream.{Stream}

@@ -4,11 +4,11 @@ use Prim.Native.Nat.{ℕ, _%_, _≤_, _<_, _^_}
 use mathlib.Core.List.{List, []}
 use mathlib.Core.Bool.{Bool, true, false}
 use Rattle.rules.specs.Events.{QPACK}
-use Rattle.streams.specs.Modes.{IN-TYPE, IN-CONTENT, TRAILERS-DUE, IN-SETTINGS, OPENING, TRAILED, UNSET, SET}
-use Rattle.streams.specs.declared.Cells.{Cells}
-use Rattle.streams.specs.Both.{Place}
-use Rattle.streams.specs.Uses.{placeOf}
-use Rattle.streams.specs.Answers.{stateOf, StandsIn, Sane}
+use Rattle.frames.specs.Modes.{IN-TYPE, IN-CONTENT, TRAILERS-DUE, IN-SETTINGS, OPENING, TRAILED, UNSET, SET}
+use Rattle.frames.specs.declared.Cells.{Cells}
+use Rattle.frames.specs.Both.{Place}
+use Rattle.frames.specs.Uses.{placeOf}
+use Rattle.frames.specs.Answers.{stateOf, StandsIn, Sane}
 use Rattle.record.specs.Kinds.{FREE, REQUEST, UNTYPED, CONTROL, ENCODER, SKIPPED, UNSOUND}
 use Rattle.record.specs.declared.Record.{Record}
 use Rattle.record.specs.declared.Stream.{Stream}

@@ -4,9 +4,9 @@ use Prim.Native.Nat.{ℕ, zero, suc, _-_, _*_, _%_, _≤_, _<_, _^_}
 use native.Mathlib.Omega.{arith}
 use mathlib.Core.Bool.{Bool, true, false}
 use Rattle.varint.specs.ByByte.{part, Good}
-use Rattle.streams.specs.Modes.{IN-TYPE, IN-SKIPPED, IN-CONTENT, HEADER-SECTION-DUE, TRAILERS-DUE, IN-SETTINGS, IN-CANCEL-PUSH, OPENING, TRAILED, UNSET, SET}
-use Rattle.streams.specs.declared.Cells.{Cells}
-use Rattle.streams.specs.Answers.{Sane}
+use Rattle.frames.specs.Modes.{IN-TYPE, IN-SKIPPED, IN-CONTENT, HEADER-SECTION-DUE, TRAILERS-DUE, IN-SETTINGS, IN-CANCEL-PUSH, OPENING, TRAILED, UNSET, SET}
+use Rattle.frames.specs.declared.Cells.{Cells}
+use Rattle.frames.specs.Answers.{Sane}
 use Rattle.record.specs.Kinds.{FREE, REQUEST, UNTYPED, CONTROL, ENCODER, SKIPPED}
 use Rattle.record.specs.declared.Record.{Record}
 use Rattle.record.specs.Row.{recordAt, no-cells, free-record}

@@ -7,12 +7,12 @@ use mathlib.Core.Option.{Option, none, some}
 use Rattle.rules.specs.Reading.{Part, header-section, trailers, Use}
 use Rattle.rules.specs.Control.{unset, set}
 use Rattle.varint.specs.ByByte.{prog, partOf}
-use Rattle.streams.specs.Modes.{IN-TYPE, IN-LENGTH, IN-SKIPPED, HEADER-SECTION-DUE, TRAILERS-DUE, BODY, TRAILED, SET, Mode, typing, sizing, paying, waiting, modeNumber, modeOf, IsMode, is-mode, mode-view, of-mode, paying-late, at-payload}
-use Rattle.streams.specs.declared.Cells.{Cells}
-use Rattle.streams.specs.Both.{Place, of-request, of-control}
-use Rattle.streams.specs.Uses.{statedOf, placeOf, Stands, a-place, any-set}
-use Rattle.streams.specs.Heads.{headState}
-use Rattle.streams.specs.Answers.{modeState, stateAt, stateOf, StandsIn, Sane}
+use Rattle.frames.specs.Modes.{IN-TYPE, IN-LENGTH, IN-SKIPPED, HEADER-SECTION-DUE, TRAILERS-DUE, BODY, TRAILED, SET, Mode, typing, sizing, paying, waiting, modeNumber, modeOf, IsMode, is-mode, mode-view, of-mode, paying-late, at-payload}
+use Rattle.frames.specs.declared.Cells.{Cells}
+use Rattle.frames.specs.Both.{Place, of-request, of-control}
+use Rattle.frames.specs.Uses.{statedOf, placeOf, Stands, a-place, any-set}
+use Rattle.frames.specs.Heads.{headState}
+use Rattle.frames.specs.Answers.{modeState, stateAt, stateOf, StandsIn, Sane}
 use Rattle.record.specs.Row.{phaseOf, statedIn, isStated, lengthOf, sumIn, Numbers, numbers, numbersOf, placeIn, cellsBy, cellsFor}
 use Rattle.record.specs.Sound.{ownPlace, tidied}
 

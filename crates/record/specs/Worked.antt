@@ -12,10 +12,10 @@ use Rattle.meaning.specs.Machine.{fresh, need, in-type, in-length, in-payload, 
 use Rattle.meaning.specs.Hom.{map-state}
 use Rattle.meaning.specs.OneWayFeed.{in-stream-type, in-control, in-qpack}
 use Rattle.varint.specs.ByByte.{partOf, prog}
-use Rattle.streams.specs.Modes.{modeOf}
-use Rattle.streams.specs.Uses.{statedOf, placeOf}
-use Rattle.streams.specs.Heads.{headState}
-use Rattle.streams.specs.Answers.{modeState}
+use Rattle.frames.specs.Modes.{modeOf}
+use Rattle.frames.specs.Uses.{statedOf, placeOf}
+use Rattle.frames.specs.Heads.{headState}
+use Rattle.frames.specs.Answers.{modeState}
 use Rattle.record.specs.declared.Record.{Record}
 use Rattle.record.specs.Row.{phaseOf, statedIn, isStated, lengthOf, sumIn, numbersOf, placeIn, requestRecord, oneWayRecord}
 use Rattle.record.specs.Sound.{Sound}

@@ -1,11 +1,11 @@
 // A stream as a record of a host's row: integers alone, in one place and order for every host, and one record for each state.
-use streams::Cells;
+use frames::Cells;
 ghost use mathlib.Core.Path.{_≡_};
 ghost use mathlib.Core.Bool.{true};
 ghost use Prim.Native.Nat.{_<_, _≤_, _^_};
 ghost use Rattle.varint.specs.ByByte.{part, prog, partOf, Good};
-ghost use Rattle.streams.specs.Answers.{Sane};
-ghost use Rattle.streams.specs.Modes.{IN-CONTENT, SET};
+ghost use Rattle.frames.specs.Answers.{Sane};
+ghost use Rattle.frames.specs.Modes.{IN-CONTENT, SET};
 ghost use Rattle.record.specs.Kinds.{REQUEST, UNTYPED, CONTROL, SKIPPED};
 ghost use Rattle.record.specs.Row.{recordAt, no-cells, free-record};
 ghost use Rattle.record.specs.Sound.{Decides, Shaped, Fit, cellsIn, tidied, Sound, Read, Written};
@@ -45,7 +45,7 @@ pub const TRAILERS_DUE_MODE: u8 = 7;
 
 pub const BODY_PHASE: u8 = 1;
 
-// mode, due, phase and has are as in streams::Cells. owner and room are 0.
+// mode, due, phase and has are as in frames::Cells. owner and room are 0.
 #[repr(C)]
 pub struct Record {
     pub id: u64,
@@ -124,11 +124,11 @@ fn none() -> Cells
     ensures { λ r. ⌜ r ≡ no-cells ⌝ }
 {
     Cells {
-        mode: streams::IN_TYPE,
+        mode: frames::IN_TYPE,
         acc: 0,
         due: 0,
         ftype: 0,
-        phase: streams::OPENING,
+        phase: frames::OPENING,
         has: 0,
         stated: 0,
         sum: 0,
@@ -212,7 +212,7 @@ fn good(acc: u64, due: u64) -> bool
 fn sane(c: Cells) -> bool
     ensures { λ r. ⌜ Decides (Sane c) r ⌝ }
 {
-    if streams::IN_CANCEL_PUSH < c.mode {
+    if frames::IN_CANCEL_PUSH < c.mode {
         return false;
     }
     if 4611686018427387904 <= c.acc {
@@ -227,13 +227,13 @@ fn sane(c: Cells) -> bool
     if 4611686018427387904 < c.stated {
         return false;
     }
-    if c.mode < streams::IN_SKIPPED {
+    if c.mode < frames::IN_SKIPPED {
         return good(c.acc, c.due);
     }
-    if c.mode == streams::HEADER_SECTION_DUE {
+    if c.mode == frames::HEADER_SECTION_DUE {
         return true;
     }
-    if c.mode == streams::TRAILERS_DUE {
+    if c.mode == frames::TRAILERS_DUE {
         return true;
     }
     if c.acc == 0 { false } else { true }
@@ -246,10 +246,10 @@ fn request_shaped(id: u64, c: Cells) -> bool
     if id % 4 != 0 {
         return false;
     }
-    if streams::TRAILED < c.phase {
+    if frames::TRAILED < c.phase {
         return false;
     }
-    if streams::TRAILERS_DUE < c.mode {
+    if frames::TRAILERS_DUE < c.mode {
         false
     } else {
         true
@@ -263,16 +263,16 @@ fn control_shaped(id: u64, c: Cells) -> bool
     if id % 4 != 2 {
         return false;
     }
-    if c.phase < streams::UNSET {
+    if c.phase < frames::UNSET {
         return false;
     }
-    if streams::SET < c.phase {
+    if frames::SET < c.phase {
         return false;
     }
-    if c.mode < streams::IN_CONTENT {
+    if c.mode < frames::IN_CONTENT {
         return true;
     }
-    if c.mode < streams::IN_SETTINGS {
+    if c.mode < frames::IN_SETTINGS {
         false
     } else {
         true
@@ -287,10 +287,10 @@ fn bare_shaped(kind: u64, id: u64, c: Cells) -> bool
     if id % 4 != 2 {
         return false;
     }
-    if c.phase != streams::OPENING {
+    if c.phase != frames::OPENING {
         return false;
     }
-    if c.mode != streams::IN_TYPE {
+    if c.mode != frames::IN_TYPE {
         return false;
     }
     if kind == UNTYPED {
@@ -370,16 +370,16 @@ fn tidy_head(c: Cells) -> Cells
     requires { ⌜ Sane c ⌝ }
     ensures { λ r. ⌜ r ≡ headTidied c ⌝ }
 {
-    if c.mode == streams::IN_TYPE {
+    if c.mode == frames::IN_TYPE {
         return headed(c, value_so_far(c.acc, c.due), c.due, 0);
     }
-    if c.mode == streams::IN_LENGTH {
+    if c.mode == frames::IN_LENGTH {
         return headed(c, value_so_far(c.acc, c.due), c.due, c.ftype);
     }
-    if c.mode == streams::HEADER_SECTION_DUE {
+    if c.mode == frames::HEADER_SECTION_DUE {
         return headed(c, 0, 0, 0);
     }
-    if c.mode == streams::TRAILERS_DUE {
+    if c.mode == frames::TRAILERS_DUE {
         return headed(c, 0, 0, 0);
     }
     headed(c, c.acc, 0, 0)
@@ -390,10 +390,10 @@ fn tidy_place(c: Cells) -> Cells
     requires { ⌜ c .phase ≤ SET ⌝ }
     ensures { λ r. ⌜ r ≡ placeTidied c ⌝ }
 {
-    if c.phase == streams::OPENING {
+    if c.phase == frames::OPENING {
         return placed(c, 0, 0, 0);
     }
-    if streams::TRAILED < c.phase {
+    if frames::TRAILED < c.phase {
         return placed(c, 0, 0, 0);
     }
     if c.has == 0 {

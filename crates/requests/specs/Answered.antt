@@ -5,12 +5,12 @@ use native.Mathlib.Omega.{arith}
 use Rattle.rules.specs.Numbers.{NOT-OPEN}
 use Rattle.rules.specs.Message.{Message}
 use Rattle.meaning.specs.Machine.{State}
-use Rattle.streams.specs.Modes.{TRAILED}
-use Rattle.streams.specs.declared.Cells.{Cells}
-use Rattle.streams.specs.Both.{of-request}
-use Rattle.streams.specs.Uses.{placeOf, a-place}
-use Rattle.streams.specs.Answers.{StandsIn}
-use Rattle.streams.specs.Apart.{message}
+use Rattle.frames.specs.Modes.{TRAILED}
+use Rattle.frames.specs.declared.Cells.{Cells}
+use Rattle.frames.specs.Both.{of-request}
+use Rattle.frames.specs.Uses.{placeOf, a-place}
+use Rattle.frames.specs.Answers.{StandsIn}
+use Rattle.frames.specs.Apart.{message}
 use Rattle.record.specs.Kinds.{FREE, REQUEST, UNSOUND}
 use Rattle.record.specs.declared.Record.{Record}
 use Rattle.record.specs.declared.Stream.{Stream}

@@ -15,16 +15,16 @@ use Rattle.meaning.specs.Machine.{State, lives, dies}
 use Rattle.meaning.specs.Feed.{taken, Feeding, halt, judged-event, feed}
 use Rattle.meaning.specs.FeedLaws.{past}
 use Rattle.meaning.specs.Hom.{map-state, map-outcome, map-feeding}
-use Rattle.streams.specs.Modes.{HEADER-SECTION-DUE, TRAILERS-DUE, IN-SETTINGS, TRAILED, waiting, modeNumber, modeOf, of-mode, at-unkept, at-payload, not-kept}
-use Rattle.streams.specs.declared.Cells.{Cells}
-use Rattle.streams.specs.declared.Answer.{Answer}
-use Rattle.streams.specs.Both.{Place, of-request, judged}
-use Rattle.streams.specs.Uses.{placeOf}
-use Rattle.streams.specs.Heads.{headState}
-use Rattle.streams.specs.Parts.{judgedAs}
-use Rattle.streams.specs.Answers.{modeState, keptAt, stateAt, stateOf, placeAt, answerAt, Sane, Held, Content}
-use Rattle.streams.specs.Fed.{Fed}
-use Rattle.streams.specs.Apart.{message, state-carried, request-fed}
+use Rattle.frames.specs.Modes.{HEADER-SECTION-DUE, TRAILERS-DUE, IN-SETTINGS, TRAILED, waiting, modeNumber, modeOf, of-mode, at-unkept, at-payload, not-kept}
+use Rattle.frames.specs.declared.Cells.{Cells}
+use Rattle.frames.specs.declared.Answer.{Answer}
+use Rattle.frames.specs.Both.{Place, of-request, judged}
+use Rattle.frames.specs.Uses.{placeOf}
+use Rattle.frames.specs.Heads.{headState}
+use Rattle.frames.specs.Parts.{judgedAs}
+use Rattle.frames.specs.Answers.{modeState, keptAt, stateAt, stateOf, placeAt, answerAt, Sane, Held, Content}
+use Rattle.frames.specs.Fed.{Fed}
+use Rattle.frames.specs.Apart.{message, state-carried, request-fed}
 use Rattle.record.specs.Kinds.{REQUEST}
 use Rattle.record.specs.declared.Record.{Record}
 use Rattle.record.specs.Row.{recordOf, requestRecord}

@@ -16,12 +16,12 @@ use Rattle.rules.specs.Request.{document, header-by, trailer-by, next-of, heade
 use Rattle.meaning.specs.NumberLaws.{code-high}
 use Rattle.meaning.specs.Machine.{due, between, answered, given}
 use Rattle.meaning.specs.Hom.{map-state}
-use Rattle.streams.specs.Modes.{HEADER-SECTION-DUE, TRAILERS-DUE, TRAILED, modeOf, not-kept}
-use Rattle.streams.specs.declared.Cells.{Cells}
-use Rattle.streams.specs.Both.{Place, of-request}
-use Rattle.streams.specs.Uses.{placeOf, Stands, a-place, any-set}
-use Rattle.streams.specs.Answers.{modeState, stateAt, stateOf, StandsIn, Sane}
-use Rattle.streams.specs.Apart.{message}
+use Rattle.frames.specs.Modes.{HEADER-SECTION-DUE, TRAILERS-DUE, TRAILED, modeOf, not-kept}
+use Rattle.frames.specs.declared.Cells.{Cells}
+use Rattle.frames.specs.Both.{Place, of-request}
+use Rattle.frames.specs.Uses.{placeOf, Stands, a-place, any-set}
+use Rattle.frames.specs.Answers.{modeState, stateAt, stateOf, StandsIn, Sane}
+use Rattle.frames.specs.Apart.{message}
 use Rattle.requests.specs.declared.given.Given.{Given}
 use Rattle.requests.specs.Taken.{answer, headedAs, trailedAs, headerOf, trailerOf, givenOf, given-header, given-trailers, given-undue, Says, header-says, trailer-says}
 use Rattle.record.specs.Kinds.{REQUEST}

@@ -11,12 +11,12 @@ use Rattle.meaning.specs.Machine.{Prog, fresh, need, State, in-type, in-length,
 use Rattle.meaning.specs.Feed.{feed}
 use Rattle.meaning.specs.Hom.{map-state}
 use Rattle.varint.specs.ByByte.{prog, partOf, fresh-good}
-use Rattle.streams.specs.Modes.{modeOf}
-use Rattle.streams.specs.Both.{of-request}
-use Rattle.streams.specs.Uses.{statedOf, placeOf}
-use Rattle.streams.specs.Heads.{headState}
-use Rattle.streams.specs.Answers.{modeState, stateAt, stateOf}
-use Rattle.streams.specs.Apart.{message, state-carried}
+use Rattle.frames.specs.Modes.{modeOf}
+use Rattle.frames.specs.Both.{of-request}
+use Rattle.frames.specs.Uses.{statedOf, placeOf}
+use Rattle.frames.specs.Heads.{headState}
+use Rattle.frames.specs.Answers.{modeState, stateAt, stateOf}
+use Rattle.frames.specs.Apart.{message, state-carried}
 use Rattle.record.specs.Kinds.{REQUEST}
 use Rattle.record.specs.declared.Record.{Record}
 use Rattle.record.specs.Row.{phaseOf, statedIn, isStated, lengthOf, sumIn, numbersOf, placeIn, recordOf, requestRecord}

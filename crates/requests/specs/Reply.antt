@@ -12,8 +12,8 @@ use Rattle.rules.specs.Request.{document, request}
 use Rattle.rules.specs.Numbers.{NOT-OPEN, SECTION-DUE, NO-SECTION, UNREADABLE, ACCEPTED, codeNumber, named, Leaves, nothing-altered, id-unspent, untouched, record-freed, code-kept, leaves}
 use Rattle.meaning.specs.Machine.{State, in-type, in-length, in-payload, due, Outcome, lives, dies, given, finish}
 use Rattle.meaning.specs.Feed.{Event, quiet, section-bytes, content-bytes, taken, Feeding, feed}
-use Rattle.streams.specs.Answers.{stateOf}
-use Rattle.streams.specs.Apart.{message}
+use Rattle.frames.specs.Answers.{stateOf}
+use Rattle.frames.specs.Apart.{message}
 use Rattle.record.specs.Kinds.{REQUEST}
 use Rattle.record.specs.declared.Record.{Record}
 use Rattle.record.specs.Row.{requestRecord, free-record}

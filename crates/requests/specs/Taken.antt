@@ -25,12 +25,12 @@ use Rattle.section.specs.declared.TrailerAnswer.the-variants as trailer
 use Rattle.section.specs.Checks.{reasonOf}
 use Rattle.section.specs.Answer.{tellHeader, tellTrailers, readHeader, readTrailers, readStated}
 use Rattle.section.specs.Request.{stated-within, asHeader, asTrailer, header-is, header-unreadable, trailer-is, trailer-unreadable}
-use Rattle.streams.specs.Modes.{IN-TYPE, HEADER-SECTION-DUE, TRAILERS-DUE, OPENING, BODY, TRAILED, modeOf}
-use Rattle.streams.specs.declared.Cells.{Cells}
-use Rattle.streams.specs.Both.{Place, of-request, of-control}
-use Rattle.streams.specs.Uses.{statedOf, placeOf, Stands, a-place, any-set}
-use Rattle.streams.specs.Heads.{headState}
-use Rattle.streams.specs.Answers.{modeState, stateOf, StandsIn, Sane}
+use Rattle.frames.specs.Modes.{IN-TYPE, HEADER-SECTION-DUE, TRAILERS-DUE, OPENING, BODY, TRAILED, modeOf}
+use Rattle.frames.specs.declared.Cells.{Cells}
+use Rattle.frames.specs.Both.{Place, of-request, of-control}
+use Rattle.frames.specs.Uses.{statedOf, placeOf, Stands, a-place, any-set}
+use Rattle.frames.specs.Heads.{headState}
+use Rattle.frames.specs.Answers.{modeState, stateOf, StandsIn, Sane}
 use Rattle.requests.specs.declared.given.Given.{Given}
 
 abbrev pub answer : (number : ℕ) → Cells → Given

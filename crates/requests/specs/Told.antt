@@ -8,11 +8,11 @@ use Rattle.rules.specs.Message.{Message, Reason, out-of-place, past-stated, pas
 use Rattle.rules.specs.Request.{document, request, codeOf, end-of}
 use Rattle.meaning.specs.NumberLaws.{code-high}
 use Rattle.meaning.specs.Machine.{fresh, need, State, in-type, in-length, in-payload, due, finish}
-use Rattle.streams.specs.Modes.{TRAILED}
-use Rattle.streams.specs.declared.Cells.{Cells}
-use Rattle.streams.specs.Both.{of-request}
-use Rattle.streams.specs.Apart.{message, state-carried}
-use Rattle.streams.specs.End.{verdictNumber, endOf, Ends, request-end}
+use Rattle.frames.specs.Modes.{TRAILED}
+use Rattle.frames.specs.declared.Cells.{Cells}
+use Rattle.frames.specs.Both.{of-request}
+use Rattle.frames.specs.Apart.{message, state-carried}
+use Rattle.frames.specs.End.{verdictNumber, endOf, Ends, request-end}
 use Rattle.record.specs.declared.Record.{Record}
 use Rattle.record.specs.Row.{free-record}
 use Rattle.record.specs.Sound.{cellsIn, ownPlace}

@@ -1,8 +1,8 @@
 // A section given to a stream (document 01, "Requests"), by value: none is due, the block is unreadable, the code that refuses it, or it is accepted.
+use frames::Cells;
 use section::HeaderAnswer;
 use section::Stated;
 use section::TrailerAnswer;
-use streams::Cells;
 ghost use mathlib.Core.Path.{_≡_};
 ghost use Rattle.rules.specs.Block.{lines};
 ghost use Rattle.section.specs.Answer.{readStated};
@@ -20,7 +20,7 @@ fn cells_at(phase: u64, has: u64, stated: u64, sum: u64) -> Cells
     ensures { λ r. ⌜ r ≡ cellsAt phase has stated sum ⌝ }
 {
     Cells {
-        mode: streams::IN_TYPE,
+        mode: frames::IN_TYPE,
         acc: 0,
         due: 0,
         ftype: 0,
@@ -35,8 +35,8 @@ fn body_cells(stated: Stated) -> Cells
     ensures { λ r. ⌜ r ≡ bodyCells (readStated stated) ⌝ }
 {
     match stated {
-        Stated::Nothing => cells_at(streams::BODY, 0, 0, 0),
-        Stated::Length(n) => cells_at(streams::BODY, 1, n, 0),
+        Stated::Nothing => cells_at(frames::BODY, 0, 0, 0),
+        Stated::Length(n) => cells_at(frames::BODY, 1, n, 0),
     }
 }
 
@@ -57,7 +57,7 @@ fn give_header(c: Cells, block: &[u8]) -> Given
             end: _,
             stated,
         } => {
-            if c.phase == streams::OPENING {
+            if c.phase == frames::OPENING {
                 Given {
                     number: rules::ACCEPTED,
                     cells: body_cells(stated),
@@ -85,10 +85,10 @@ fn give_trailers(c: Cells, block: &[u8]) -> Given
             cells: c,
         },
         TrailerAnswer::Sound => {
-            if c.phase == streams::BODY {
+            if c.phase == frames::BODY {
                 Given {
                     number: rules::ACCEPTED,
-                    cells: cells_at(streams::TRAILED, c.has, c.stated, c.sum),
+                    cells: cells_at(frames::TRAILED, c.has, c.stated, c.sum),
                 }
             } else {
                 Given {
@@ -103,15 +103,15 @@ fn give_trailers(c: Cells, block: &[u8]) -> Given
 pub fn give(c: Cells, block: &[u8]) -> Given
     ensures { λ r. ⌜ r ≡ givenOf c (now (block .entry)) ⌝ }
 {
-    if streams::TRAILED < c.phase {
+    if frames::TRAILED < c.phase {
         return Given {
             number: rules::NO_SECTION,
             cells: c,
         };
     }
-    if c.mode == streams::HEADER_SECTION_DUE {
+    if c.mode == frames::HEADER_SECTION_DUE {
         give_header(c, block)
-    } else if c.mode == streams::TRAILERS_DUE {
+    } else if c.mode == frames::TRAILERS_DUE {
         give_trailers(c, block)
     } else {
         Given {

@@ -1,9 +1,9 @@
 // The calls of one request stream over its record (document 01, "Calls and the host's memory"), by value: a number, and the record that it leaves.
 pub mod given;
 
+use frames::Cells;
 use record::Record;
 use record::Stream;
-use streams::Cells;
 ghost use mathlib.Core.Path.{_≡_};
 ghost use Rattle.rules.specs.Numbers.{ACCEPTED};
 ghost use Rattle.record.specs.Kinds.{REQUEST};
@@ -87,7 +87,7 @@ pub fn end(r: Record) -> Reply
     let s = record::read(r);
     if s.kind == record::REQUEST {
         let c = s.cells;
-        let n = streams::end(c);
+        let n = frames::end(c);
         if n == rules::ACCEPTED {
             told(rules::ACCEPTED, rules::WHOLE, record::free())
         } else {
@@ -105,13 +105,13 @@ pub fn feed(r: Record, piece: &[u8], allow: u64) -> Reply
     let s = record::read(r);
     if s.kind == record::REQUEST {
         let c = s.cells;
-        if c.mode == streams::HEADER_SECTION_DUE {
+        if c.mode == frames::HEADER_SECTION_DUE {
             return told(rules::SECTION_DUE, rules::NOTHING, r);
         }
-        if c.mode == streams::TRAILERS_DUE {
+        if c.mode == frames::TRAILERS_DUE {
             return told(rules::SECTION_DUE, rules::NOTHING, r);
         }
-        let a = streams::feed(piece, c, allow);
+        let a = frames::feed(piece, c, allow);
         if a.event == rules::FAULT {
             return Reply {
                 number: a.len,
@@ -168,7 +168,7 @@ pub fn brisk(r: Record, piece: &[u8], allow: u64) -> Reply
 {
     if record::in_body(r) {
         let c = record::cells_in(r);
-        let b = streams::brisk(piece, c, allow);
+        let b = frames::brisk(piece, c, allow);
         if b.event == rules::CONTENT {
             let d = b.cells;
             return Reply {

@@ -8,9 +8,9 @@ use lib.Dec.{eqb}
 use borrow.Author.Tests.{eq-eqb, ne-eqb}
 use Rattle.varint.specs.ByByte.{part, Good}
 use Rattle.rules.specs.Events.{FAULT}
-use Rattle.streams.specs.Modes.{UNSET}
-use Rattle.streams.specs.declared.Cells.{Cells}
-use Rattle.streams.specs.Answers.{Sane}
+use Rattle.frames.specs.Modes.{UNSET}
+use Rattle.frames.specs.declared.Cells.{Cells}
+use Rattle.frames.specs.Answers.{Sane}
 use Rattle.oneway.specs.declared.OneWay.{OneWay}
 use Rattle.oneway.specs.declared.OneAnswer.{OneAnswer}
 use Rattle.oneway.specs.declared.Seen.{Seen}

@@ -8,11 +8,11 @@ use lib.Dec.{eqb, ltb}
 use borrow.Author.Tests.{ltb-true, ltb-false, eq-eqb, ne-eqb}
 use Rattle.varint.specs.ByByte.{part, Good}
 use Rattle.rules.specs.Events.{FAULT}
-use Rattle.streams.specs.Modes.{IN-SKIPPED, HEADER-SECTION-DUE, TRAILERS-DUE, IN-SETTINGS, IN-CANCEL-PUSH}
-use Rattle.streams.specs.declared.Cells.{Cells}
-use Rattle.streams.specs.declared.Answer.{Answer}
-use Rattle.streams.specs.Answers.{Sane}
-use Rattle.streams.specs.Fed.{Fed}
+use Rattle.frames.specs.Modes.{IN-SKIPPED, HEADER-SECTION-DUE, TRAILERS-DUE, IN-SETTINGS, IN-CANCEL-PUSH}
+use Rattle.frames.specs.declared.Cells.{Cells}
+use Rattle.frames.specs.declared.Answer.{Answer}
+use Rattle.frames.specs.Answers.{Sane}
+use Rattle.frames.specs.Fed.{Fed}
 use Rattle.tried_c.specs.declared.feeds.Report.{Report}
 
 -- a test that tells of a fact whether it holds

@@ -1,23 +1,23 @@
 // Calls on one stream for a tester in another language (tests/feeds): by value, in numbers, for any numbers.
 use control::Kept;
 use control::Verdict;
+use frames::Answer;
+use frames::Cells;
 use oneway::OneAnswer;
 use oneway::OneWay;
 use oneway::Seen;
 use requests::given::Given;
-use streams::Answer;
-use streams::Cells;
 ghost use mathlib.Core.Path.{_≡_};
 ghost use Rattle.varint.specs.ByByte.{part, Good};
-ghost use Rattle.streams.specs.Answers.{Sane};
-ghost use Rattle.streams.specs.End.{Ends};
+ghost use Rattle.frames.specs.Answers.{Sane};
+ghost use Rattle.frames.specs.End.{Ends};
 ghost use Rattle.requests.specs.Taken.{givenOf};
 ghost use Rattle.oneway.specs.Stands.{OneSound};
 ghost use Rattle.control.specs.Judged.{judgedOf};
 ghost use Rattle.tried_c.specs.StreamNumbers.{Tells, refused, reportOf, Reported};
 ghost use Rattle.tried_c.specs.OneWayNumbers.{wayReportOf, WayReported};
 
-// number 0: accepted, 4: a section is due, 10: no stream stands there, else the code. The rest as `streams::Answer` has it.
+// number 0: accepted, 4: a section is due, 10: no stream stands there, else the code. The rest as `frames::Answer` has it.
 #[repr(C)]
 pub struct Report {
     pub number: u64,
@@ -44,7 +44,7 @@ fn is_part(acc: u64, due: u64) -> bool
 fn is_sane(c: Cells) -> bool
     ensures { λ r. ⌜ Tells r (Sane c) ⌝ }
 {
-    if streams::IN_CANCEL_PUSH < c.mode {
+    if frames::IN_CANCEL_PUSH < c.mode {
         return false;
     }
     if 0x4000000000000000 <= c.acc {
@@ -59,13 +59,13 @@ fn is_sane(c: Cells) -> bool
     if 0x4000000000000000 < c.stated {
         return false;
     }
-    if c.mode < streams::IN_SKIPPED {
+    if c.mode < frames::IN_SKIPPED {
         return is_part(c.acc, c.due);
     }
-    if c.mode == streams::HEADER_SECTION_DUE {
+    if c.mode == frames::HEADER_SECTION_DUE {
         return true;
     }
-    if c.mode == streams::TRAILERS_DUE {
+    if c.mode == frames::TRAILERS_DUE {
         return true;
     }
     0 < c.acc
@@ -121,13 +121,13 @@ pub extern "C" fn eist_feed(at: Cells, piece: &[u8], allow: u64) -> Report
     ensures { λ r. ⌜ Reported at (now (piece .entry)) allow r ⌝ }
 {
     if is_sane(at) {
-        if at.mode == streams::HEADER_SECTION_DUE {
+        if at.mode == frames::HEADER_SECTION_DUE {
             return refusal(4, at);
         }
-        if at.mode == streams::TRAILERS_DUE {
+        if at.mode == frames::TRAILERS_DUE {
             return refusal(4, at);
         }
-        reported(streams::feed(piece, at, allow), at)
+        reported(frames::feed(piece, at, allow), at)
     } else {
         refusal(10, at)
     }
@@ -145,7 +145,7 @@ pub extern "C" fn eist_give(at: Cells, block: &[u8]) -> Given
 pub extern "C" fn eist_end(at: Cells) -> u64
     ensures { λ r. ⌜ Ends at r ⌝ }
 {
-    streams::end(at)
+    frames::end(at)
 }
 
 // ---- one-way streams
@@ -176,7 +176,7 @@ fn is_sound(w: OneWay) -> bool
     if record::CONTROL < w.kind {
         return true;
     }
-    if c.phase < streams::UNSET {
+    if c.phase < frames::UNSET {
         return false;
     }
     is_sane(c)

@@ -53,11 +53,11 @@ use Rattle.connection.proofs.Connection.Laws as C′
 use Rattle.connection.specs.declared.Report.{Report}
 use Rattle.connection.proofs.Report as N
 use Rattle.connection.proofs.Report.Laws as N′
-use Rattle.board.specs.Promises.{Stepped}
-use Rattle.board.proofs.step as callee
-use Rattle.board.proofs.step.Symbol as callee-def
-use Rattle.board.proofs.step.Symbol.{name as #callee}
-use Rattle.board.proofs.step.Met as callee-thm
+use Rattle.calls.specs.Promises.{Stepped}
+use Rattle.calls.proofs.step as callee
+use Rattle.calls.proofs.step.Symbol as callee-def
+use Rattle.calls.proofs.step.Symbol.{name as #callee}
+use Rattle.calls.proofs.step.Met as callee-thm
 use Rattle.faces.specs.declared.Driven.{Driven}
 use Rattle.faces.proofs.Driven as D
 use Rattle.faces.proofs.Driven.Laws as D′

@@ -46,11 +46,11 @@ use Rattle.connection.proofs.Connection.Laws as C′
 use Rattle.connection.specs.declared.Written.{Written}
 use Rattle.connection.proofs.Written as N
 use Rattle.connection.proofs.Written.Laws as N′
-use Rattle.board.specs.Promises.{SaidGoaway}
-use Rattle.board.proofs.eistulko_goaway as callee
-use Rattle.board.proofs.eistulko_goaway.Symbol as callee-def
-use Rattle.board.proofs.eistulko_goaway.Symbol.{name as #callee}
-use Rattle.board.proofs.eistulko_goaway.Met as callee-thm
+use Rattle.calls.specs.Promises.{SaidGoaway}
+use Rattle.calls.proofs.eistulko_goaway as callee
+use Rattle.calls.proofs.eistulko_goaway.Symbol as callee-def
+use Rattle.calls.proofs.eistulko_goaway.Symbol.{name as #callee}
+use Rattle.calls.proofs.eistulko_goaway.Met as callee-thm
 use Rattle.faces.specs.declared.Told.{Told}
 use Rattle.faces.proofs.Told as D
 use Rattle.faces.proofs.Told.Laws as D′

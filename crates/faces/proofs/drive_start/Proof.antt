@@ -48,11 +48,11 @@ use Rattle.record.proofs.Record.Laws as T′
 use Rattle.connection.specs.declared.Connection.{Connection}
 use Rattle.connection.proofs.Connection as C
 use Rattle.connection.proofs.Connection.Laws as C′
-use Rattle.board.specs.Promises.{Started}
-use Rattle.board.proofs.eistulko_start as callee
-use Rattle.board.proofs.eistulko_start.Symbol as callee-def
-use Rattle.board.proofs.eistulko_start.Symbol.{name as #callee}
-use Rattle.board.proofs.eistulko_start.Met as callee-thm
+use Rattle.calls.specs.Promises.{Started}
+use Rattle.calls.proofs.eistulko_start as callee
+use Rattle.calls.proofs.eistulko_start.Symbol as callee-def
+use Rattle.calls.proofs.eistulko_start.Symbol.{name as #callee}
+use Rattle.calls.proofs.eistulko_start.Met as callee-thm
 use Rattle.faces.specs.declared.Began.{Began}
 use Rattle.faces.proofs.Began as D
 use Rattle.faces.proofs.Began.Laws as D′

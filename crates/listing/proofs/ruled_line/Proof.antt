@@ -2,8 +2,8 @@
 use Prim.Native.Nat.{min}
 use mathlib.Core.Path.{_≡_, _∙_, ap}
 use native.Mathlib.Omega.{arith}
-use Rattle.streams.specs.Both.{rule}
-use Rattle.streams.specs.Uses.{placeOf, numberOf}
+use Rattle.frames.specs.Both.{rule}
+use Rattle.frames.specs.Uses.{placeOf, numberOf}
 use Rattle.listing.specs.Ruled.{line-skipped, line-content, line-header-section, line-trailers, line-refused, content-fits}
 use borrow.Author.Needs.{needs}
 use Rattle.listing.proofs.ruled_line.Statement.{statement}

@@ -7,7 +7,7 @@ use Rattle.oneway.proofs.control.Tie as tie
 use Rattle.oneway.proofs.control.Reads as reads
 use Rattle.oneway.proofs.control.Lts as lts
 use Rattle.oneway.proofs.cells.Reads as cells-reads
-use Rattle.streams.proofs.feed.Reads as feed-reads
+use Rattle.frames.proofs.feed.Reads as feed-reads
 
 -- src/lib.rt:132:16
 sub-rest : tie.Need-sub-rest

@@ -1,8 +1,8 @@
 use denote.Ref.{now}
 use native.Mathlib.Omega.{arith}
 use mathlib.Core.Path.{ap}
-use Rattle.streams.specs.Answers.{Content}
-use Rattle.streams.specs.Fed.{Fed}
+use Rattle.frames.specs.Answers.{Content}
+use Rattle.frames.specs.Fed.{Fed}
 use Rattle.record.specs.Sound.{cellsIn}
 use Rattle.requests.specs.Reply.{Open}
 use Rattle.requests.specs.Feeds.{feed-content}
@@ -15,7 +15,7 @@ use Rattle.record.proofs.cells_in.Reads as cells-in-reads
 use Rattle.record.proofs.in_body.Reads as in-body-reads
 use Rattle.record.proofs.in_content.Reads as in-content-reads
 use Rattle.requests.proofs.told.Reads as told-reads
-use Rattle.streams.proofs.brisk.Reads as brisk-reads
+use Rattle.frames.proofs.brisk.Reads as brisk-reads
 
 -- src/lib.rt:160:8
 in-body-requires : tie.Need-in-body-requires

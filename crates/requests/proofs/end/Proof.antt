@@ -10,7 +10,7 @@ use Rattle.record.proofs.free.Reads as free-reads
 use Rattle.record.proofs.read.Reads as read-reads
 use Rattle.requests.proofs.left.Reads as left-reads
 use Rattle.requests.proofs.told.Reads as told-reads
-use Rattle.streams.proofs.end.Reads as end-reads
+use Rattle.frames.proofs.end.Reads as end-reads
 
 -- src/lib.rt:79:9
 read-requires : tie.Need-read-requires

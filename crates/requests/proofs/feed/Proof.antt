@@ -2,7 +2,7 @@ use denote.Ref.{now}
 use native.Mathlib.Omega.{arith}
 use mathlib.Core.Path.{ap}
 use Rattle.rules.specs.Reading.{header-section, trailers}
-use Rattle.streams.specs.Fed.{Fed}
+use Rattle.frames.specs.Fed.{Fed}
 use Rattle.record.specs.Sound.{cellsIn}
 use Rattle.requests.specs.Reply.{fedAs}
 use Rattle.requests.specs.Answered.{read-open, read-shut, keeps-shut}
@@ -16,7 +16,7 @@ use Rattle.record.proofs.read.Reads as read-reads
 use Rattle.requests.proofs.kept.Reads as kept-reads
 use Rattle.requests.proofs.left.Reads as left-reads
 use Rattle.requests.proofs.told.Reads as told-reads
-use Rattle.streams.proofs.feed.Reads as feed-reads
+use Rattle.frames.proofs.feed.Reads as feed-reads
 
 -- src/lib.rt:97:9
 read-requires : tie.Need-read-requires
