@@ -19,6 +19,8 @@
 #define HELD_MOST ((size_t)192 << 20)  /* bytes kept for all connections */
 #define FAIR_SHARE ((size_t)96 << 10) /* of one: above what an idle one takes, and so little that all places together leave 72 MiB to who has more */
 #define TOKEN_TIME (10 * NGTCP2_SECONDS)
+#define HANDSHAKE_EVERY (5 * NGTCP2_MILLISECONDS) /* of one host, and of all that have not shown where they are: 200 a second, */
+#define HANDSHAKES_AT_ONCE 400 /* and so many at once */
 
 ngtcp2_tstamp now(void) {
     struct timespec t;
@@ -37,13 +39,15 @@ void transmit(const struct listener *from, const struct address *to, const uint8
 
 /* ---- connection IDs */
 
-/* The secret keeps a client from choosing IDs of one hash. */
-static struct name **names_like(struct server *s, const uint8_t *id, size_t count) {
+/* The secret keeps a client from choosing what is of one hash. */
+static uint64_t hash_of(const struct server *s, const void *bytes, size_t count) {
     uint64_t hash = 0xcbf29ce484222325; /* FNV-1a */
     for (size_t i = 0; i < 16; i++) hash = (hash ^ s->secret[i]) * 0x100000001b3;
-    for (size_t i = 0; i < count; i++) hash = (hash ^ id[i]) * 0x100000001b3;
-    return &s->names[(hash ^ hash >> 32) % NAMES];
+    for (size_t i = 0; i < count; i++) hash = (hash ^ ((const uint8_t *)bytes)[i]) * 0x100000001b3;
+    return hash ^ hash >> 32;
 }
+
+static struct name **names_like(struct server *s, const uint8_t *id, size_t count) { return &s->names[hash_of(s, id, count) % NAMES]; }
 
 static bool is_named(const struct name *n, const uint8_t *id, size_t count) { return n->id.datalen == count && !memcmp(n->id.data, id, count); }
 
@@ -136,10 +140,16 @@ static bool gives_way(const struct connection *c, const struct connection *other
 }
 
 /* Hosts, as far as addresses tell: of IPv6, those of one network are one. */
+static size_t host_of(const struct address *a, const void **bytes) {
+    bool v4 = a->any.sa_family == AF_INET;
+    *bytes = v4 ? (const void *)&a->v4.sin_addr : &a->v6.sin6_addr;
+    return v4 ? 4 : 8;
+}
+
 static bool is_same_host(const struct address *a, const struct address *b) {
-    if (a->any.sa_family != b->any.sa_family) return false;
-    if (a->any.sa_family == AF_INET) return a->v4.sin_addr.s_addr == b->v4.sin_addr.s_addr;
-    return !memcmp(&a->v6.sin6_addr, &b->v6.sin6_addr, 8);
+    const void *ours, *theirs;
+    size_t count = host_of(a, &ours);
+    return host_of(b, &theirs) == count && !memcmp(ours, theirs, count);
 }
 
 /* Of those with a handshake or without, of a host if one is given, and of those that have more than so much, the first to give way. */
@@ -147,7 +157,7 @@ static struct connection *least(struct server *s, bool established, const struct
     struct connection *found = NULL;
     for (size_t i = 0; i < s->count; i++) {
         struct connection *c = s->connections[i];
-        bool meant = c->established == established && c->held >= more_than && (!host || is_same_host(&c->from, host));
+        bool meant = c->established == established && (!more_than || connection_weight(c) >= more_than) && (!host || is_same_host(&c->from, host));
         if (meant && gives_way(c, found)) found = c;
     }
     return found;
@@ -194,6 +204,18 @@ static const struct address *crowding_host(struct server *s, bool established) {
     return NULL;
 }
 
+/* One more handshake of this host is within its measure. Clients that have not shown that they are where they say have one measure for all (null), so
+   that nobody spends another's. */
+static bool may_shake_hands(struct server *s, const struct address *host) {
+    const void *bytes = NULL;
+    size_t count = host ? host_of(host, &bytes) : 0;
+    ngtcp2_tstamp at = now(), *spent = &s->spent[hash_of(s, bytes, count) % MEASURES];
+    if (*spent < at) *spent = at;
+    if (*spent >= at + HANDSHAKES_AT_ONCE * HANDSHAKE_EVERY) return false;
+    *spent += HANDSHAKE_EVERY;
+    return true;
+}
+
 /* All of these places are taken: one is made free, and it is one of a host that has too many, if there is such. */
 static void make_room(struct server *s, bool established) { dismiss(least(s, established, crowding_host(s, established), 0)); }
 
@@ -210,7 +232,7 @@ static void seat(struct connection *c) {
 
 /* Where too much is kept in all, of those that have more than a fair share the one that has moved on longest ago is closed. */
 static void lighten(struct server *s) {
-    while (s->held > HELD_MOST) {
+    while (s->held + content_held() > HELD_MOST) {
         struct connection *c = least(s, true, NULL, FAIR_SHARE);
         if (!c) c = least(s, false, NULL, FAIR_SHARE);
         if (!c) return;
@@ -266,10 +288,11 @@ static void welcome(struct server *s, const struct datagram *d) {
             return;
         }
         retried = &original;
-    } else if (s->half >= RETRY_FROM) {
+    } else if (s->half >= RETRY_FROM || !may_shake_hands(s, NULL)) {
         say_retry(s, d, &head);
         return;
     }
+    if (retried && !may_shake_hands(s, &d->from)) return; /* an honest client asks again */
     struct connection *c = connection_new(s, d->at, &d->from, &head, retried);
     if (!c) return;
     int error = connection_read(c, d->bytes, d->count);
@@ -280,7 +303,8 @@ static void welcome(struct server *s, const struct datagram *d) {
         else forget(c);
         return;
     }
-    if (s->half == HALF_OPEN) make_room(s, false);
+    if (s->half >= HALF_OPEN_EACH && count_of(s, false, &c->from) >= HALF_OPEN_EACH) dismiss(least(s, false, &c->from, 0));
+    else if (s->half == HALF_OPEN) make_room(s, false);
     place(c);
     make_due(c);
 }

@@ -345,8 +345,9 @@ static void make_firsts(size_t count) {
 
 static int socket_to_gateway(void) {
     struct sockaddr_in to = {.sin_family = AF_INET, .sin_port = htons(port), .sin_addr.s_addr = htonl(INADDR_LOOPBACK)};
+    struct sockaddr_in source = {.sin_family = AF_INET, .sin_addr.s_addr = htonl(client_source)};
     int s = socket(AF_INET, SOCK_DGRAM | SOCK_NONBLOCK | SOCK_CLOEXEC, 0);
-    if (s < 0 || connect(s, (struct sockaddr *)&to, sizeof to)) fail("no socket");
+    if (s < 0 || bind(s, (struct sockaddr *)&source, sizeof source) || connect(s, (struct sockaddr *)&to, sizeof to)) fail("no socket");
     return s;
 }
 
@@ -413,6 +414,59 @@ static void half(void) {
         close(s);
     }
     printf("%zu half-open: %ld KiB more\n", first_count, gateway_memory(pid) - before);
+}
+
+/* ---- handshakes from one host that has shown where it is */
+
+static int hello_socket;
+static int hello_sockets[1024];
+
+/* A packet with a token is kept, not sent; others go their way. */
+static void keep_hello(const uint8_t *packet, size_t count) {
+    size_t to = 6 + packet[5], token = count > to ? to + 1 + packet[to] : count;
+    bool shown = (packet[0] & 0xf0) == 0xc0 && token < count && packet[token];
+    if (shown) keep_first(packet, count);
+    else if (write(hello_socket, packet, count) < 0) return; /* as one lost on the way */
+}
+
+static bool is_kept(void *any) {
+    (void)any;
+    return first_count == first_most;
+}
+
+static void gather_hellos(size_t count) {
+    first_count = first_most = 0;
+    divert = keep_hello;
+    while (first_count < count) {
+        first_most = first_count + 1;
+        client *c = client_start(port);
+        if (!c) fail("no client");
+        hello_socket = hello_sockets[first_count] = dup(c->socket); /* the token is for this port */
+        if (!client_run(c, is_kept, NULL, LIMIT)) fail("no Retry for %zu", first_count);
+        client_drop(c);
+    }
+    divert = NULL;
+}
+
+static void replay_hello(unsigned long n) {
+    size_t k = n % first_count;
+    send(hello_sockets[k], firsts[k], first_counts[k], 0);
+    drop_all(hello_sockets[k]);
+}
+
+/* From a host of their own, COUNT first packets with our tokens, again and again for SECONDS, RATE a second: a handshake is begun for each, and none ends.
+   MOST is what it may cost, in hundredths of a processor; 0 is no limit. */
+static void hellos(void) {
+    unsigned long count = number_or(300), rate = number_or(500), held = number_or(3), most = number_or(0);
+    client_source++;
+    make_firsts(70); /* so many half-open make it ask for tokens */
+    for (size_t i = 0; i < first_count; i++) send(socket_to_gateway(), firsts[i], first_counts[i], 0);
+    gather_hellos(count);
+    double before = gateway_seconds(pid), begun = seconds();
+    send_for(held, rate, replay_hello);
+    double share = (gateway_seconds(pid) - before) / (seconds() - begun) * 100;
+    printf("%.0f %% of a processor\n", share);
+    if (most && share > (double)most) fail("%.0f %% of a processor", share);
 }
 
 /* A ClientHello of two packets, as those with a post-quantum key are, of which the second comes first. */
@@ -605,7 +659,7 @@ static const struct {
     const char *name;
     void (*run)(void);
 } attacks[] = {{"noparams", noparams}, {"messages", messages}, {"ids", ids}, {"retiring", retiring}, {"moving", moving}, {"cut", cut},
-             {"gaps", gaps}, {"paths", paths}, {"parts", parts}, {"unread", unread}, {"idle", idle}, {"initials", initials}, {"half", half},
+             {"gaps", gaps}, {"paths", paths}, {"parts", parts}, {"unread", unread}, {"idle", idle}, {"initials", initials}, {"half", half}, {"hellos", hellos},
              {"order", order}, {"crowded", crowded}, {"garbage", garbage}, {"versions", versions}, {"refusals", refusals}, {"stops", stops}, {"comers", comers}};
 
 int main(int count, char **words) {
