@@ -47,14 +47,15 @@ static void fill(gnutls_x509_crt_t c, gnutls_x509_privkey_t key, time_t now) {
     sure(gnutls_x509_crt_sign2(c, c, key, GNUTLS_DIG_SHA256, 0));
 }
 
-static void tell_pin(gnutls_x509_crt_t c, char pin[64]) {
+static int tell_pin(gnutls_x509_crt_t c, char pin[64]) {
     uint8_t hash[32];
     size_t n = sizeof hash;
-    sure(gnutls_x509_crt_get_key_id(c, GNUTLS_KEYID_USE_SHA256, hash, &n));
+    int failed = gnutls_x509_crt_get_key_id(c, GNUTLS_KEYID_USE_SHA256, hash, &n);
     gnutls_datum_t from = {hash, (unsigned)n}, text;
-    sure(gnutls_base64_encode2(&from, &text));
+    if (failed || (failed = gnutls_base64_encode2(&from, &text))) return failed;
     snprintf(pin, 64, "%.*s", (int)text.size, (const char *)text.data);
     gnutls_free(text.data);
+    return 0;
 }
 
 static gnutls_certificate_credentials_t make(struct certificate *c, time_t now) {
@@ -62,7 +63,7 @@ static gnutls_certificate_credentials_t make(struct certificate *c, time_t now) 
     gnutls_x509_crt_t crt;
     sure(gnutls_x509_crt_init(&crt));
     fill(crt, c->key, now);
-    tell_pin(crt, c->pin);
+    sure(tell_pin(crt, c->pin));
     sure(gnutls_certificate_allocate_credentials(&made));
     sure(gnutls_certificate_set_x509_key(made, &crt, 1, c->key));
     gnutls_x509_crt_deinit(crt);
@@ -75,11 +76,10 @@ static const char *fault_of(gnutls_certificate_credentials_t read, char pin[64])
     gnutls_x509_crt_t *chain;
     unsigned count = 0;
     if (gnutls_certificate_get_x509_crt(read, 0, &chain, &count) || !count) return "no certificate of X.509";
-    bool over = gnutls_x509_crt_get_expiration_time(chain[0]) <= time(NULL);
-    if (!over) tell_pin(chain[0], pin);
+    bool over = gnutls_x509_crt_get_expiration_time(chain[0]) <= time(NULL), odd = !over && tell_pin(chain[0], pin);
     for (unsigned i = 0; i < count; i++) gnutls_x509_crt_deinit(chain[i]);
     gnutls_free(chain);
-    return over ? "the certificate is over" : NULL;
+    return over ? "the certificate is over" : odd ? "its key has no pin" : NULL;
 }
 
 /* Null where the files are none of a good certificate and its key, which is said once. */

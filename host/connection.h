@@ -31,7 +31,7 @@ struct connection {
     struct address from; /* where the client is: it is heard from nowhere else */
     size_t place; /* among the server's connections; NO_PLACE until its first packet was read */
     struct name *names;
-    struct connection *next_due;
+    struct connection *next_due, *before_due;
     bool is_due;
 
     ngtcp2_conn *quic; /* null once it is closed from our side */

@@ -178,14 +178,21 @@ static bool is_settled(const struct stat *file) {
     return (t.tv_sec - file->st_ctim.tv_sec) * 1000 + (t.tv_nsec - file->st_ctim.tv_nsec) / 1000000 > TICK_MS;
 }
 
-/* The content was made of files that were so: it is given to whoever asks next, if they are the same. */
-static void keep_made(struct made *m, struct content *content, const struct stat of[2]) {
-    if (m->content) {
-        content_set_latest(m->content, false);
-        content_leave(m->content);
+static bool is_made_of(const struct made *m, const struct stat is[2]) {
+    return m->content && m->settled && is_same_file(is, m->of) && is_same_file(is + 1, m->of + 1);
+}
+
+/* The bytes, which are taken over, are of files that were so: one copy of them for all who ask. */
+static void remake(struct made *m, struct bytes bytes, const struct stat of[2]) {
+    struct content *before = m->content;
+    memcpy(m->of, of, sizeof m->of);
+    if (before && before->is.count == bytes.count && !memcmp(before->is.at, bytes.at, bytes.count)) return bytes_free(&bytes);
+    if (before) {
+        content_set_latest(before, false);
+        content_leave(before);
     }
-    *m = (struct made){content_use(content), {of[0], of[1]}};
-    content_set_latest(content, true);
+    m->content = content_of(bytes);
+    content_set_latest(m->content, true);
 }
 
 static void put_settings(struct gateway *g, const struct asked *q, struct answer *a) {
@@ -204,17 +211,16 @@ static void get_settings(struct gateway *g, struct answer *a) {
     struct stat is[2] = {0};
     struct bytes bytes = {0};
     struct made *m = &g->settings;
-    a->status = 200;
-    if (file < 0 || fstat(file, is)) tell(a, 500, "the settings could not be read\n");
-    else if (m->content && is_same_file(is, m->of)) a->content = content_use(m->content);
-    else if (read_end(file, SIZE_MAX >> 1, &bytes)) {
-        bytes_free(&bytes);
-        tell(a, 500, "the settings could not be read\n");
-    } else {
-        a->content = content_of(bytes);
-        if (is_settled(is)) keep_made(m, a->content, is);
-    }
+    bool readable = file >= 0 && !fstat(file, is), made = readable && is_made_of(m, is), settled = readable && is_settled(is);
+    readable = readable && (made || !read_end(file, SIZE_MAX >> 1, &bytes));
     if (file >= 0) close(file);
+    if (!readable) {
+        bytes_free(&bytes);
+        return tell(a, 500, "the settings could not be read\n");
+    }
+    if (!made) remake(m, bytes, is);
+    m->settled = made || settled;
+    *a = (struct answer){200, NULL, content_use(m->content)};
 }
 
 /* Takes the first line of the bytes away, to the end of another's. */
@@ -238,18 +244,18 @@ static void get_log(struct gateway *g, struct answer *a) {
     struct bytes uploads = {0}, refused = {0}, all = {0};
     struct stat is[2];
     struct made *m = &g->lines;
-    a->status = 200;
-    if (fstat(g->log.file, is) || fstat(g->refused.file, is + 1)) tell(a, 500, "the log could not be read\n");
-    else if (m->content && is_same_file(is, m->of) && is_same_file(is + 1, m->of + 1)) a->content = content_use(m->content);
-    else if (read_end(g->log.file, LOG_SHOWN, &uploads) || read_end(g->refused.file, LOG_SHOWN, &refused)) tell(a, 500, "the log could not be read\n");
-    else {
+    bool readable = !fstat(g->log.file, is) && !fstat(g->refused.file, is + 1), made = readable && is_made_of(m, is);
+    readable = readable && (made || (!read_end(g->log.file, LOG_SHOWN, &uploads) && !read_end(g->refused.file, LOG_SHOWN, &refused)));
+    if (readable && !made) {
         bytes_room(&all, uploads.count + refused.count);
         merge(uploads, refused, &all);
-        a->content = content_of(all);
-        keep_made(m, a->content, is);
+        remake(m, all, is);
+        m->settled = true; /* lines are added by us alone, and make the file larger */
     }
     bytes_free(&uploads);
     bytes_free(&refused);
+    if (!readable) return tell(a, 500, "the log could not be read\n");
+    *a = (struct answer){200, NULL, content_use(m->content)};
 }
 
 /* Whether the condition that the request makes holds. No settings have a tag or a date that a client could know of. */

@@ -17,6 +17,7 @@ struct lines {
 struct made {
     struct content *content; /* null where there is none */
     struct stat of[2];
+    bool settled; /* the files have not changed since without looking otherwise */
 };
 
 /* A folder with `settings`, the settings in force; `log`, a line for each upload; and `refused`, a line for what was refused, closed or lost. The two

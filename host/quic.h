@@ -59,7 +59,7 @@ struct server {
     uint64_t spent[MEASURES]; /* when the measure is full again */
     struct timers timers;
     struct over over; /* since it was last said */
-    struct connection *due; /* those that may have something to write */
+    struct connection *due, *last_due; /* those that may have something to write, in their turn */
 };
 
 /* A socket on one more address, of those that are written in digits; port 0 takes any. 0, or -1 with errno. */

@@ -16,6 +16,7 @@
 #define PLACES (ESTABLISHED + HALF_OPEN)
 #define PACKETS_A_TURN 64
 #define READING_A_TURN (20 * NGTCP2_MILLISECONDS) /* settings that go to a slow disk hold up nobody's answers for longer */
+#define WRITING_A_TURN (20 * NGTCP2_MILLISECONDS) /* a crowd that takes answers holds up nobody's packets for longer */
 #define HELD_MOST ((size_t)192 << 20)  /* bytes kept for all connections */
 #define FAIR_SHARE ((size_t)96 << 10) /* of one: above what an idle one takes, and so little that all places together leave 72 MiB to who has more */
 #define TOKEN_TIME (10 * NGTCP2_SECONDS)
@@ -77,11 +78,23 @@ void unname_connection(struct connection *c, const ngtcp2_cid *id) {
 
 /* ---- whose turn */
 
+/* Behind those that are due already. */
 static void make_due(struct connection *c) {
+    struct server *s = c->server;
     if (c->is_due) return;
     c->is_due = true;
-    c->next_due = c->server->due;
-    c->server->due = c;
+    c->next_due = NULL;
+    c->before_due = s->last_due;
+    *(s->last_due ? &s->last_due->next_due : &s->due) = c;
+    s->last_due = c;
+}
+
+static void unmake_due(struct connection *c) {
+    struct server *s = c->server;
+    if (!c->is_due) return;
+    c->is_due = false;
+    *(c->before_due ? &c->before_due->next_due : &s->due) = c->next_due;
+    *(c->next_due ? &c->next_due->before_due : &s->last_due) = c->before_due;
 }
 
 static void set_timer(struct connection *c) { timers_set(&c->server->timers, &c->timer, connection_timer(c)); }
@@ -105,9 +118,7 @@ static void leave_place(struct connection *c) {
 
 static void forget(struct connection *c) {
     struct server *s = c->server;
-    struct connection **at = &s->due;
-    while (*at && *at != c) at = &(*at)->next_due;
-    if (*at) *at = c->next_due;
+    unmake_due(c);
     timers_unset(&s->timers, &c->timer);
     bool was_last = c->place != NO_PLACE && s->count == 1;
     if (c->place != NO_PLACE) leave_place(c);
@@ -352,10 +363,7 @@ static void on_timer(struct connection *c) {
         gateway_note(c->server->gateway, "connection closed with 0x%04x, as a request or an answer did not move on", EISTULKO_EXCESSIVE_LOAD);
         bid_farewell(c, 0);
     } else if (error) bid_farewell(c, error);
-    else {
-        set_timer(c);
-        make_due(c);
-    }
+    else make_due(c); /* its timer is set anew when it has written */
 }
 
 static int until_timer(struct server *s, int most_ms) {
@@ -389,27 +397,27 @@ static void read_packets(struct server *s) {
     }
 }
 
-/* Those that were read from or whose timer is due, and nobody else. */
-static void write_packets(struct server *s) {
-    struct connection *again = NULL;
-    while (s->due) {
-        struct connection *c = s->due;
-        s->due = c->next_due;
-        c->is_due = false;
-        if (!c->quic) continue;
-        bool more = false;
-        int error = connection_write(c, &more);
-        if (error) {
-            bid_farewell(c, error);
-            continue;
-        }
-        set_timer(c);
-        if (!more) continue;
-        c->is_due = true;
-        c->next_due = again;
-        again = c;
+static void write_for(struct connection *c) {
+    bool more = false;
+    unmake_due(c);
+    if (!c->quic) return;
+    int error = connection_write(c, &more);
+    if (error) {
+        bid_farewell(c, error);
+        return;
     }
-    s->due = again;
+    set_timer(c);
+    if (more) make_due(c);
+}
+
+/* Those that were read from or whose timer is due, each once, and nobody else. Whoever is not reached in time is first in the next turn. */
+static void write_packets(struct server *s) {
+    ngtcp2_tstamp until = now() + WRITING_A_TURN;
+    const struct connection *last = s->last_due;
+    for (bool done = !last; !done && now() < until;) {
+        done = s->due == last;
+        write_for(s->due);
+    }
 }
 
 /* One line for all that are over since the last: where lines are left out, nothing is lost. */

@@ -24,6 +24,35 @@ static int made_anew(void) {
     return 0;
 }
 
+static void sure(int failed) {
+    if (failed) exit(1);
+}
+
+static void write_file(const char *name, gnutls_datum_t text) {
+    FILE *file = fopen(name, "w");
+    sure(!file || fwrite(text.data, text.size, 1, file) != 1 || fclose(file));
+    gnutls_free(text.data);
+}
+
+/* A certificate that was over an hour ago, and its key. */
+static void make_over(void) {
+    gnutls_x509_privkey_t key;
+    gnutls_x509_crt_t crt;
+    gnutls_datum_t text;
+    time_t now = time(NULL);
+    sure(gnutls_x509_privkey_init(&key) || gnutls_x509_privkey_generate(key, GNUTLS_PK_ECDSA, GNUTLS_CURVE_TO_BITS(GNUTLS_ECC_CURVE_SECP256R1), 0));
+    sure(gnutls_x509_crt_init(&crt) || gnutls_x509_crt_set_version(crt, 3) || gnutls_x509_crt_set_serial(crt, "1", 1) ||
+         gnutls_x509_crt_set_activation_time(crt, now - 7200) || gnutls_x509_crt_set_expiration_time(crt, now - 3600) ||
+         gnutls_x509_crt_set_dn(crt, "CN=localhost", NULL) || gnutls_x509_crt_set_key(crt, key) ||
+         gnutls_x509_crt_sign2(crt, crt, key, GNUTLS_DIG_SHA256, 0));
+    sure(gnutls_x509_crt_export2(crt, GNUTLS_X509_FMT_PEM, &text));
+    write_file("over.pem", text);
+    sure(gnutls_x509_privkey_export2(key, GNUTLS_X509_FMT_PEM, &text));
+    write_file("over.key", text);
+    gnutls_x509_crt_deinit(crt);
+    gnutls_x509_privkey_deinit(key);
+}
+
 /* What the operator's two files hold from now on. */
 static void put(const char *certificate, const char *key) {
     char line[256];
@@ -36,6 +65,7 @@ static int read_anew(void) {
         {"two.pem", "one.key"}, {"one.pem", "two.key"}, {"one.key", "one.key"}, {"/dev/null", "/dev/null"}, {"two.pem", "/dev/null"}, {"over.pem", "over.key"}};
     struct certificate c;
     char pin[64];
+    make_over();
     put("one.pem", "one.key");
     if (certificate_begin(&c, "now.pem", "now.key")) return 1;
     strcpy(pin, c.pin);
