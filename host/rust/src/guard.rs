@@ -6,12 +6,25 @@ use quinn::crypto::{
     UnsupportedVersion,
 };
 use quinn_proto::transport_parameters::TransportParameters;
-use quinn_proto::{ConnectionId, Side, TransportError};
+use quinn_proto::{ConnectionId, Side, TransportError, TransportErrorCode};
 use std::any::Any;
-use std::panic::{catch_unwind, AssertUnwindSafe};
+use std::cell::Cell;
+use std::panic::{catch_unwind, set_hook, take_hook, AssertUnwindSafe};
 use std::sync::Arc;
 
 const UNKNOWN: u8 = 0x21; // a frame's type that nobody has
+
+thread_local!(static CAUGHT: Cell<bool> = const { Cell::new(false) }); // a panic now is caught
+
+/// Nothing is said of panics that are caught: nobody makes us print without end.
+pub fn hush() {
+    let say = take_hook();
+    set_hook(Box::new(move |panic| {
+        if !CAUGHT.get() {
+            say(panic)
+        }
+    }));
+}
 
 /// TLS as rustls does it.
 pub struct Guarded(pub Arc<rustls::ServerConfig>);
@@ -73,9 +86,9 @@ impl Session for GuardedSession {
     }
 
     fn early_crypto(&self) -> Option<(Box<dyn HeaderKey>, Box<dyn PacketKey>)> {
-        self.0.early_crypto().map(|(header, packet)| -> (_, Box<dyn PacketKey>) {
-            (header, Box::new(GuardedKey(packet)))
-        })
+        self.0
+            .early_crypto()
+            .map(|(header, packet)| -> (_, Box<dyn PacketKey>) { (header, Box::new(GuardedKey(packet))) })
     }
 
     fn early_data_accepted(&self) -> Option<bool> {
@@ -92,8 +105,16 @@ impl Session for GuardedSession {
 
     /// Where max_datagram_frame_size is cut, quinn-proto unwraps it. The session is read alone here, so nothing of it is half done.
     fn transport_parameters(&self) -> Result<Option<TransportParameters>, TransportError> {
-        catch_unwind(AssertUnwindSafe(|| self.0.transport_parameters()))
-            .unwrap_or_else(|_| Err(TransportError::TRANSPORT_PARAMETER_ERROR("a parameter that is cut")))
+        CAUGHT.set(true);
+        let read = catch_unwind(AssertUnwindSafe(|| self.0.transport_parameters()));
+        CAUGHT.set(false);
+        read.unwrap_or_else(|_| {
+            Err(TransportError {
+                code: TransportErrorCode::TRANSPORT_PARAMETER_ERROR,
+                frame: None,
+                reason: "a parameter that is cut".into(),
+            })
+        })
     }
 
     fn write_handshake(&mut self, buf: &mut Vec<u8>) -> Option<Keys> {

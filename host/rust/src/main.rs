@@ -138,6 +138,7 @@ async fn main() -> Result<ExitCode, Failed> {
     let words: Vec<String> = env::args().skip(1).collect();
     if let [supervisor::SERVE, ..] = words.iter().map(String::as_str).collect::<Vec<_>>()[..] {
         let socket = UdpSocket::from(io::stdin().as_fd().try_clone_to_owned()?);
+        guard::hush();
         LocalSet::new().run_until(serve(socket, &words[1..])).await?;
         return Ok(ExitCode::SUCCESS);
     }
