@@ -26,6 +26,8 @@ static void send_bytes(void *self, uint64_t id, const uint8_t *bytes, size_t cou
     mark(HTTP);
 }
 
+static void share_content(void *self, uint64_t id, struct content *content) { send_bytes(self, id, content->is.at, content->is.count, 1); }
+
 static void refuse_stream(void *self, uint64_t id, uint64_t code) {
     (void)self, (void)id;
     came.refused = code;
@@ -42,7 +44,7 @@ void stand_in_begin(const char *folder) {
         perror(folder);
         exit(1);
     }
-    http_begin(&http, (struct stack){NULL, open_oneway, send_bytes, refuse_stream, close_connection}, &gateway);
+    http_begin(&http, (struct stack){NULL, open_oneway, send_bytes, share_content, refuse_stream, close_connection}, &gateway);
     http_handshake(&http);
 }
 

@@ -31,7 +31,7 @@ struct connection {
     struct address from; /* where the client is: it is heard from nowhere else */
     size_t place; /* among the server's connections; NO_PLACE until its first packet was read */
     struct name *names;
-    struct connection *next_due;
+    struct connection *next_due, *before_due;
     bool is_due;
 
     ngtcp2_conn *quic; /* null once it is closed from our side */
@@ -45,7 +45,7 @@ struct connection {
 
     ngtcp2_tstamp moved; /* when it was begun, the handshake done, or a stream closed at last */
     size_t stack;        /* bytes that libngtcp2 keeps for it */
-    size_t held;         /* bytes kept for it when last counted, those included */
+    size_t held;         /* bytes kept for it alone when last counted, those included */
     uint64_t oneways;    /* of the client's that are done */
 
     bool failed; /* HTTP closes the connection, with this: */
@@ -84,6 +84,7 @@ void connection_close_again(struct connection *c, size_t count); /* to who has s
 
 void connection_fail(void *self, uint64_t code); /* HTTP's close; the packet at hand is read on */
 void connection_count(struct connection *c);     /* what is kept for it */
+size_t connection_weight(const struct connection *c); /* the same, and content that is there for who sends it alone */
 
 ngtcp2_tstamp connection_timer(const struct connection *c);    /* when it must be looked at again */
 ngtcp2_tstamp connection_progress(const struct connection *c); /* when what it has open, all of it, was last seen to move on */

@@ -1,18 +1,20 @@
 #define _GNU_SOURCE
 #include "gateway.h"
 
+#include "files.h"
+
 #include <errno.h>
 #include <fcntl.h>
 #include <stdarg.h>
 #include <stdbool.h>
 #include <sys/file.h>
-#include <sys/stat.h>
 #include <time.h>
 #include <unistd.h>
 
 #define LOG_SHOWN (512 << 10) /* the last bytes of each file of lines that are shown */
 #define LOG_KEPT (4 << 20)    /* one of this size becomes the old one: whoever makes lines does not fill the disk */
 #define TIME 20               /* the length of a line's time */
+#define TICK_MS 100           /* above a tick of the clock by which a file's changes are known */
 
 /* ---- files */
 
@@ -28,7 +30,7 @@ static void close_all(struct gateway *g) {
 
 /* Opens what is at the path and locks it against another gateway. */
 static int open_all(struct gateway *g) {
-    struct gateway fresh = {.path = g->path, .measure = g->measure, .log = {"log", "log.old", -1}, .refused = {"refused", "refused.old", -1}};
+    struct gateway fresh = {.path = g->path, .measure = g->measure, .settings = g->settings, .lines = g->lines, .log = {"log", "log.old", -1}, .refused = {"refused", "refused.old", -1}};
     fresh.folder = open(g->path, O_RDONLY | O_DIRECTORY | O_CLOEXEC);
     if (fresh.folder < 0) return -1;
     if (!flock(fresh.folder, LOCK_EX | LOCK_NB)) {
@@ -51,7 +53,11 @@ int gateway_open(struct gateway *g, const char *folder) {
     return open_all(g);
 }
 
-void gateway_close(struct gateway *g) { close_all(g); }
+void gateway_close(struct gateway *g) {
+    close_all(g);
+    if (g->settings.content) content_leave(g->settings.content);
+    if (g->lines.content) content_leave(g->lines.content);
+}
 
 /* The folder at the path is the one at hand. Another that is there now, as after a disk was away, is taken in its place; none is made. */
 static bool is_at_home(struct gateway *g) {
@@ -159,9 +165,34 @@ void gateway_note(struct gateway *g, const char *form, ...) {
 /* ---- requests */
 
 static void tell(struct answer *a, int status, const char *text) {
+    struct bytes bytes = {0};
+    bytes_add(&bytes, text, strlen(text));
     a->status = status;
-    a->content.count = 0;
-    bytes_add(&a->content, text, strlen(text));
+    a->content = content_of(bytes);
+}
+
+/* One that was changed in this very tick of the clock may be changed in it again, and look the same. */
+static bool is_settled(const struct stat *file) {
+    struct timespec t;
+    clock_gettime(CLOCK_REALTIME, &t);
+    return (t.tv_sec - file->st_ctim.tv_sec) * 1000 + (t.tv_nsec - file->st_ctim.tv_nsec) / 1000000 > TICK_MS;
+}
+
+static bool is_made_of(const struct made *m, const struct stat is[2]) {
+    return m->content && m->settled && is_same_file(is, m->of) && is_same_file(is + 1, m->of + 1);
+}
+
+/* The bytes, which are taken over, are of files that were so: one copy of them for all who ask. */
+static void remake(struct made *m, struct bytes bytes, const struct stat of[2]) {
+    struct content *before = m->content;
+    memcpy(m->of, of, sizeof m->of);
+    if (before && before->is.count == bytes.count && !memcmp(before->is.at, bytes.at, bytes.count)) return bytes_free(&bytes);
+    if (before) {
+        content_set_latest(before, false);
+        content_leave(before);
+    }
+    m->content = content_of(bytes);
+    content_set_latest(m->content, true);
 }
 
 static void put_settings(struct gateway *g, const struct asked *q, struct answer *a) {
@@ -176,13 +207,20 @@ static void put_settings(struct gateway *g, const struct asked *q, struct answer
 
 static void get_settings(struct gateway *g, struct answer *a) {
     int file = openat(g->folder, "settings", O_RDONLY | O_CLOEXEC);
-    if (file < 0) {
-        tell(a, 404, "no settings yet\n");
-        return;
+    if (file < 0 && errno == ENOENT) return tell(a, 404, "no settings yet\n");
+    struct stat is[2] = {0};
+    struct bytes bytes = {0};
+    struct made *m = &g->settings;
+    bool readable = file >= 0 && !fstat(file, is), made = readable && is_made_of(m, is), settled = readable && is_settled(is);
+    readable = readable && (made || !read_end(file, SIZE_MAX >> 1, &bytes));
+    if (file >= 0) close(file);
+    if (!readable) {
+        bytes_free(&bytes);
+        return tell(a, 500, "the settings could not be read\n");
     }
-    a->status = 200;
-    if (read_end(file, SIZE_MAX >> 1, &a->content)) tell(a, 500, "the settings could not be read\n");
-    close(file);
+    if (!made) remake(m, bytes, is);
+    m->settled = made || settled;
+    *a = (struct answer){200, NULL, content_use(m->content)};
 }
 
 /* Takes the first line of the bytes away, to the end of another's. */
@@ -203,12 +241,21 @@ static void merge(struct bytes a, struct bytes b, struct bytes *to) {
 }
 
 static void get_log(struct gateway *g, struct answer *a) {
-    struct bytes uploads = {0}, refused = {0};
-    a->status = 200;
-    if (read_end(g->log.file, LOG_SHOWN, &uploads) || read_end(g->refused.file, LOG_SHOWN, &refused)) tell(a, 500, "the log could not be read\n");
-    else merge(uploads, refused, &a->content);
+    struct bytes uploads = {0}, refused = {0}, all = {0};
+    struct stat is[2];
+    struct made *m = &g->lines;
+    bool readable = !fstat(g->log.file, is) && !fstat(g->refused.file, is + 1), made = readable && is_made_of(m, is);
+    readable = readable && (made || (!read_end(g->log.file, LOG_SHOWN, &uploads) && !read_end(g->refused.file, LOG_SHOWN, &refused)));
+    if (readable && !made) {
+        bytes_room(&all, uploads.count + refused.count);
+        merge(uploads, refused, &all);
+        remake(m, all, is);
+        m->settled = true; /* lines are added by us alone, and make the file larger */
+    }
     bytes_free(&uploads);
     bytes_free(&refused);
+    if (!readable) return tell(a, 500, "the log could not be read\n");
+    *a = (struct answer){200, NULL, content_use(m->content)};
 }
 
 /* Whether the condition that the request makes holds. No settings have a tag or a date that a client could know of. */

@@ -86,11 +86,10 @@ static void give_up(struct http *h, uint64_t id, uint64_t code) {
 
 /* ---- answers */
 
-static void send_frame(struct http *h, uint64_t id, uint64_t type, const uint8_t *payload, size_t count, int fin) {
+static void send_head(struct http *h, uint64_t id, uint64_t type, size_t count, int fin) {
     uint8_t head[16];
     eistulko_written w = eistulko_write_header(type, count, head, sizeof head);
-    h->stack.send(h->stack.self, id, head, w.count, fin && !count);
-    if (count) h->stack.send(h->stack.self, id, payload, count, fin);
+    h->stack.send(h->stack.self, id, head, w.count, fin);
 }
 
 /* HEAD gets the fields alone, and so does who has what there is. */
@@ -98,12 +97,15 @@ static void answer(struct http *h, const struct request *r, const struct answer 
     bool bare = !strcmp(r->method, "HEAD") || a->status == 304;
     char status[12], length[24];
     snprintf(status, sizeof status, "%d", a->status);
-    snprintf(length, sizeof length, "%zu", a->content.count);
+    size_t count = a->content->is.count;
+    snprintf(length, sizeof length, "%zu", count);
     struct line lines[] = {{":status", status}, {"content-type", "text/plain"}, {"content-length", length}, {"allow", a->allow}};
     struct bytes section = {0};
     qpack_encode(h->qpack, r->id, lines, a->allow ? 4 : 3, &section);
-    send_frame(h, r->id, 1, section.at, section.count, bare);
-    if (!bare) send_frame(h, r->id, 0, a->content.at, a->content.count, 1);
+    send_head(h, r->id, 1, section.count, 0);
+    h->stack.send(h->stack.self, r->id, section.at, section.count, bare);
+    if (!bare) send_head(h, r->id, 0, count, !count);
+    if (!bare && count) h->stack.share(h->stack.self, r->id, a->content);
     bytes_free(&section);
 }
 
@@ -113,7 +115,7 @@ static void act(struct http *h, struct request *r) {
     h->whole++;
     gateway_answer(h->gateway, &q, &a);
     answer(h, r, &a);
-    bytes_free(&a.content);
+    content_leave(a.content);
 }
 
 /* ---- sections */

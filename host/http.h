@@ -12,6 +12,7 @@ struct stack {
     void *self;
     uint64_t (*open)(void *self);                                                           /* a one-way stream of ours: its ID */
     void (*send)(void *self, uint64_t id, const uint8_t *bytes, size_t count, int fin); /* the bytes are copied */
+    void (*share)(void *self, uint64_t id, struct content *content); /* all of it, then the stream's end; the stack is one more user of it */
     void (*refuse)(void *self, uint64_t id, uint64_t code); /* reset the stream, and ask the peer to stop sending */
     void (*close)(void *self, uint64_t code);               /* close the connection */
 };

@@ -3,6 +3,7 @@
    ended, it is closed: 30 each if not said.
      --listen ADDRESS                 an address in digits, of IPv4 or IPv6, up to two times; if not said, 127.0.0.1 and, where there is one, ::1
      --certificate FILE --key FILE    the operator's own, in PEM, read again when they change; if not said, one is made for localhost
+   SIGHUP: the operator's certificate is looked at now, not within the minute.
    SIGTERM or SIGINT: our GOAWAY, the open requests are let finish for up to two seconds, then every connection is closed. */
 #define _GNU_SOURCE
 #include "eistulko.h"
@@ -18,11 +19,16 @@
 #define DRAIN_TURN_MS 50
 #define TRIES 20 /* for a port that both addresses have free */
 
-static volatile sig_atomic_t stopped;
+static volatile sig_atomic_t stopped, called;
 
 static void on_stop(int signal) {
     (void)signal;
     stopped = 1;
+}
+
+static void on_call(int signal) {
+    (void)signal;
+    called = 1;
 }
 
 static void fail(const char *what, const char *why) {
@@ -123,9 +129,10 @@ int main(int count, char **words) {
     static struct gateway g;
     struct words w = {0};
     read_words(&w, words + 1);
-    struct sigaction stop = {.sa_handler = on_stop};
+    struct sigaction stop = {.sa_handler = on_stop}, call = {.sa_handler = on_call};
     sigaction(SIGTERM, &stop, NULL);
     sigaction(SIGINT, &stop, NULL);
+    sigaction(SIGHUP, &call, NULL);
     signal(SIGPIPE, SIG_IGN); /* whoever read our output may go: the gateway stays */
     signal(SIGXFSZ, SIG_IGN); /* settings beyond a limit of the system are not kept, and that is all */
     if (gateway_open(&g, w.rest[1])) fail(w.rest[1], errno == EWOULDBLOCK ? "another gateway has this folder" : strerror(errno));
@@ -134,7 +141,13 @@ int main(int count, char **words) {
     s.patience = number(w.rest[3], 30, 86400);
     if (certificate_begin(&s.certificate, w.certificate, w.key)) return 1;
     listen_to(&s, &w, (uint16_t)number(w.rest[0], 0, UINT16_MAX));
-    while (!stopped) server_turn(&s, 1000);
+    while (!stopped) {
+        if (called) {
+            called = 0;
+            certificate_look(&s.certificate);
+        }
+        server_turn(&s, 1000);
+    }
     drain(&s);
     server_close(&s);
     certificate_end(&s.certificate);

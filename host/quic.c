@@ -9,13 +9,14 @@
 #define ONEWAYS_MORE 100  /* one-way streams granted to a client in all, beyond the first */
 #define STREAM_WINDOW (256 << 10)
 #define WINDOW (256 << 10)
-#define CHUNK (64 << 10)
 #define QUANTUM (16 << 10) /* a stream moves on when so much more of it came, or was taken, or when it ends */
 
 /* Bytes handed to the stack: they stay in place until they are acknowledged, since a lost packet is made anew from them. */
 struct chunk {
     struct chunk *next;
     size_t count, sent;
+    const uint8_t *at;
+    struct content *of; /* whose bytes they are; null where they are here: */
     uint8_t bytes[];
 };
 
@@ -52,6 +53,7 @@ static void drop_chunk(struct stream *s) {
     s->taken += k->count;
     s->first = k->next;
     if (!s->first) s->last = NULL;
+    if (k->of) content_leave(k->of);
     free(k);
 }
 
@@ -70,13 +72,24 @@ static bool has_more(const struct stream *s) {
     return !s->done && (s->fin || (s->last && s->last->sent < s->last->count));
 }
 
-static void add_chunk(struct stream *s, const uint8_t *bytes, size_t count) {
-    struct chunk *k = must(malloc(sizeof *k + count));
-    *k = (struct chunk){.count = count};
-    memcpy(k->bytes, bytes, count);
+static void add_chunk(struct stream *s, struct chunk *k) {
     if (s->last) s->last->next = k;
     else s->first = k;
     s->last = k;
+    s->begun = true;
+}
+
+static struct chunk *copy_of(const uint8_t *bytes, size_t count) {
+    struct chunk *k = must(malloc(sizeof *k + count));
+    *k = (struct chunk){.count = count, .at = k->bytes};
+    memcpy(k->bytes, bytes, count);
+    return k;
+}
+
+static struct chunk *share_of(struct content *content) {
+    struct chunk *k = must(malloc(sizeof *k));
+    *k = (struct chunk){.count = content->is.count, .at = content->is.at, .of = content_use(content)};
+    return k;
 }
 
 static void move_on(struct stream *s, size_t count) {
@@ -103,16 +116,18 @@ static uint64_t open_oneway(void *self) {
     return (uint64_t)id;
 }
 
-/* In chunks, so that what was taken is freed early. */
 static void send_bytes(void *self, uint64_t id, const uint8_t *bytes, size_t count, int fin) {
     struct stream *s = find_stream(self, (int64_t)id);
     if (!s) return;
-    for (size_t part; count; bytes += part, count -= part) {
-        part = count < CHUNK ? count : CHUNK;
-        add_chunk(s, bytes, part);
-    }
-    s->begun = true;
+    add_chunk(s, copy_of(bytes, count));
     s->fin = fin;
+}
+
+static void share_content(void *self, uint64_t id, struct content *content) {
+    struct stream *s = find_stream(self, (int64_t)id);
+    if (!s) return;
+    add_chunk(s, share_of(content));
+    s->fin = true;
 }
 
 static void refuse_stream(void *self, uint64_t id, uint64_t code) {
@@ -134,7 +149,7 @@ static int on_handshake(ngtcp2_conn *quic, void *self) {
     struct connection *c = self;
     c->established = true;
     c->moved = now();
-    http_begin(&c->http, (struct stack){c, open_oneway, send_bytes, refuse_stream, connection_fail}, c->server->gateway);
+    http_begin(&c->http, (struct stack){c, open_oneway, send_bytes, share_content, refuse_stream, connection_fail}, c->server->gateway);
     if (c->server->draining) http_drain(&c->http);
     http_handshake(&c->http);
     return 0;
@@ -310,9 +325,17 @@ static void *stack_realloc(void *memory, size_t size, void *self) {
 void connection_count(struct connection *c) {
     size_t held = c->stack + (c->quic && c->established ? http_held(&c->http) : 0);
     for (struct stream *s = c->streams; s; s = s->next)
-        for (struct chunk *k = s->first; k; k = k->next) held += sizeof *k + k->count;
+        for (struct chunk *k = s->first; k; k = k->next) held += sizeof *k + (k->of ? 0 : k->count);
     c->server->held += held - c->held;
     c->held = held;
+}
+
+size_t connection_weight(const struct connection *c) {
+    size_t weight = c->held;
+    for (const struct stream *s = c->streams; s; s = s->next)
+        for (const struct chunk *k = s->first; k; k = k->next)
+            if (k->of && !k->of->latest) weight += k->count;
+    return weight;
 }
 
 /* ---- a connection's life */
@@ -458,7 +481,7 @@ static size_t gather(const struct stream *s, ngtcp2_vec *pieces, size_t most, bo
     size_t n = 0;
     const struct chunk *k = s->first;
     for (; k && n < most; k = k->next)
-        if (k->sent < k->count) pieces[n++] = (ngtcp2_vec){(uint8_t *)k->bytes + k->sent, k->count - k->sent};
+        if (k->sent < k->count) pieces[n++] = (ngtcp2_vec){(uint8_t *)k->at + k->sent, k->count - k->sent};
     *last = s->fin && !k;
     return n;
 }

@@ -10,7 +10,9 @@
 
 #define ESTABLISHED 1024 /* connections whose handshake is done */
 #define HALF_OPEN 256    /* places beside them that are kept for handshakes */
+#define HALF_OPEN_EACH 64 /* of these, the most that one host has: its own oldest gives way */
 #define RETRY_FROM 64    /* half-open connections from which on a client must show that it is where it says */
+#define MEASURES 4096    /* of hosts' handshakes, by their hash */
 #define NAMES 4096       /* a power of two, above what is named at once in a crowd */
 #define LISTENERS 2
 
@@ -54,9 +56,10 @@ struct server {
     struct connection *connections[ESTABLISHED + HALF_OPEN]; /* in no order */
     size_t count, half; /* of connections, and of those without a handshake */
     struct name *names[NAMES]; /* connection IDs, each in the list of its hash */
+    uint64_t spent[MEASURES]; /* when the measure is full again */
     struct timers timers;
     struct over over; /* since it was last said */
-    struct connection *due; /* those that may have something to write */
+    struct connection *due, *last_due; /* those that may have something to write, in their turn */
 };
 
 /* A socket on one more address, of those that are written in digits; port 0 takes any. 0, or -1 with errno. */

@@ -16,9 +16,12 @@
 #define PLACES (ESTABLISHED + HALF_OPEN)
 #define PACKETS_A_TURN 64
 #define READING_A_TURN (20 * NGTCP2_MILLISECONDS) /* settings that go to a slow disk hold up nobody's answers for longer */
+#define WRITING_A_TURN (20 * NGTCP2_MILLISECONDS) /* a crowd that takes answers holds up nobody's packets for longer */
 #define HELD_MOST ((size_t)192 << 20)  /* bytes kept for all connections */
 #define FAIR_SHARE ((size_t)96 << 10) /* of one: above what an idle one takes, and so little that all places together leave 72 MiB to who has more */
 #define TOKEN_TIME (10 * NGTCP2_SECONDS)
+#define HANDSHAKE_EVERY (5 * NGTCP2_MILLISECONDS) /* of one host, and of all that have not shown where they are: 200 a second, */
+#define HANDSHAKES_AT_ONCE 400 /* and so many at once */
 
 ngtcp2_tstamp now(void) {
     struct timespec t;
@@ -37,13 +40,15 @@ void transmit(const struct listener *from, const struct address *to, const uint8
 
 /* ---- connection IDs */
 
-/* The secret keeps a client from choosing IDs of one hash. */
-static struct name **names_like(struct server *s, const uint8_t *id, size_t count) {
+/* The secret keeps a client from choosing what is of one hash. */
+static uint64_t hash_of(const struct server *s, const void *bytes, size_t count) {
     uint64_t hash = 0xcbf29ce484222325; /* FNV-1a */
     for (size_t i = 0; i < 16; i++) hash = (hash ^ s->secret[i]) * 0x100000001b3;
-    for (size_t i = 0; i < count; i++) hash = (hash ^ id[i]) * 0x100000001b3;
-    return &s->names[(hash ^ hash >> 32) % NAMES];
+    for (size_t i = 0; i < count; i++) hash = (hash ^ ((const uint8_t *)bytes)[i]) * 0x100000001b3;
+    return hash ^ hash >> 32;
 }
+
+static struct name **names_like(struct server *s, const uint8_t *id, size_t count) { return &s->names[hash_of(s, id, count) % NAMES]; }
 
 static bool is_named(const struct name *n, const uint8_t *id, size_t count) { return n->id.datalen == count && !memcmp(n->id.data, id, count); }
 
@@ -73,11 +78,23 @@ void unname_connection(struct connection *c, const ngtcp2_cid *id) {
 
 /* ---- whose turn */
 
+/* Behind those that are due already. */
 static void make_due(struct connection *c) {
+    struct server *s = c->server;
     if (c->is_due) return;
     c->is_due = true;
-    c->next_due = c->server->due;
-    c->server->due = c;
+    c->next_due = NULL;
+    c->before_due = s->last_due;
+    *(s->last_due ? &s->last_due->next_due : &s->due) = c;
+    s->last_due = c;
+}
+
+static void unmake_due(struct connection *c) {
+    struct server *s = c->server;
+    if (!c->is_due) return;
+    c->is_due = false;
+    *(c->before_due ? &c->before_due->next_due : &s->due) = c->next_due;
+    *(c->next_due ? &c->next_due->before_due : &s->last_due) = c->before_due;
 }
 
 static void set_timer(struct connection *c) { timers_set(&c->server->timers, &c->timer, connection_timer(c)); }
@@ -101,9 +118,7 @@ static void leave_place(struct connection *c) {
 
 static void forget(struct connection *c) {
     struct server *s = c->server;
-    struct connection **at = &s->due;
-    while (*at && *at != c) at = &(*at)->next_due;
-    if (*at) *at = c->next_due;
+    unmake_due(c);
     timers_unset(&s->timers, &c->timer);
     bool was_last = c->place != NO_PLACE && s->count == 1;
     if (c->place != NO_PLACE) leave_place(c);
@@ -136,10 +151,16 @@ static bool gives_way(const struct connection *c, const struct connection *other
 }
 
 /* Hosts, as far as addresses tell: of IPv6, those of one network are one. */
+static size_t host_of(const struct address *a, const void **bytes) {
+    bool v4 = a->any.sa_family == AF_INET;
+    *bytes = v4 ? (const void *)&a->v4.sin_addr : &a->v6.sin6_addr;
+    return v4 ? 4 : 8;
+}
+
 static bool is_same_host(const struct address *a, const struct address *b) {
-    if (a->any.sa_family != b->any.sa_family) return false;
-    if (a->any.sa_family == AF_INET) return a->v4.sin_addr.s_addr == b->v4.sin_addr.s_addr;
-    return !memcmp(&a->v6.sin6_addr, &b->v6.sin6_addr, 8);
+    const void *ours, *theirs;
+    size_t count = host_of(a, &ours);
+    return host_of(b, &theirs) == count && !memcmp(ours, theirs, count);
 }
 
 /* Of those with a handshake or without, of a host if one is given, and of those that have more than so much, the first to give way. */
@@ -147,7 +168,7 @@ static struct connection *least(struct server *s, bool established, const struct
     struct connection *found = NULL;
     for (size_t i = 0; i < s->count; i++) {
         struct connection *c = s->connections[i];
-        bool meant = c->established == established && c->held >= more_than && (!host || is_same_host(&c->from, host));
+        bool meant = c->established == established && (!more_than || connection_weight(c) >= more_than) && (!host || is_same_host(&c->from, host));
         if (meant && gives_way(c, found)) found = c;
     }
     return found;
@@ -194,6 +215,18 @@ static const struct address *crowding_host(struct server *s, bool established) {
     return NULL;
 }
 
+/* One more handshake of this host is within its measure. Clients that have not shown that they are where they say have one measure for all (null), so
+   that nobody spends another's. */
+static bool may_shake_hands(struct server *s, const struct address *host) {
+    const void *bytes = NULL;
+    size_t count = host ? host_of(host, &bytes) : 0;
+    ngtcp2_tstamp at = now(), *spent = &s->spent[hash_of(s, bytes, count) % MEASURES];
+    if (*spent < at) *spent = at;
+    if (*spent >= at + HANDSHAKES_AT_ONCE * HANDSHAKE_EVERY) return false;
+    *spent += HANDSHAKE_EVERY;
+    return true;
+}
+
 /* All of these places are taken: one is made free, and it is one of a host that has too many, if there is such. */
 static void make_room(struct server *s, bool established) { dismiss(least(s, established, crowding_host(s, established), 0)); }
 
@@ -210,7 +243,7 @@ static void seat(struct connection *c) {
 
 /* Where too much is kept in all, of those that have more than a fair share the one that has moved on longest ago is closed. */
 static void lighten(struct server *s) {
-    while (s->held > HELD_MOST) {
+    while (s->held + content_held() > HELD_MOST) {
         struct connection *c = least(s, true, NULL, FAIR_SHARE);
         if (!c) c = least(s, false, NULL, FAIR_SHARE);
         if (!c) return;
@@ -266,10 +299,11 @@ static void welcome(struct server *s, const struct datagram *d) {
             return;
         }
         retried = &original;
-    } else if (s->half >= RETRY_FROM) {
+    } else if (s->half >= RETRY_FROM || !may_shake_hands(s, NULL)) {
         say_retry(s, d, &head);
         return;
     }
+    if (retried && !may_shake_hands(s, &d->from)) return; /* an honest client asks again */
     struct connection *c = connection_new(s, d->at, &d->from, &head, retried);
     if (!c) return;
     int error = connection_read(c, d->bytes, d->count);
@@ -280,7 +314,8 @@ static void welcome(struct server *s, const struct datagram *d) {
         else forget(c);
         return;
     }
-    if (s->half == HALF_OPEN) make_room(s, false);
+    if (s->half >= HALF_OPEN_EACH && count_of(s, false, &c->from) >= HALF_OPEN_EACH) dismiss(least(s, false, &c->from, 0));
+    else if (s->half == HALF_OPEN) make_room(s, false);
     place(c);
     make_due(c);
 }
@@ -328,10 +363,7 @@ static void on_timer(struct connection *c) {
         gateway_note(c->server->gateway, "connection closed with 0x%04x, as a request or an answer did not move on", EISTULKO_EXCESSIVE_LOAD);
         bid_farewell(c, 0);
     } else if (error) bid_farewell(c, error);
-    else {
-        set_timer(c);
-        make_due(c);
-    }
+    else make_due(c); /* its timer is set anew when it has written */
 }
 
 static int until_timer(struct server *s, int most_ms) {
@@ -365,27 +397,27 @@ static void read_packets(struct server *s) {
     }
 }
 
-/* Those that were read from or whose timer is due, and nobody else. */
-static void write_packets(struct server *s) {
-    struct connection *again = NULL;
-    while (s->due) {
-        struct connection *c = s->due;
-        s->due = c->next_due;
-        c->is_due = false;
-        if (!c->quic) continue;
-        bool more = false;
-        int error = connection_write(c, &more);
-        if (error) {
-            bid_farewell(c, error);
-            continue;
-        }
-        set_timer(c);
-        if (!more) continue;
-        c->is_due = true;
-        c->next_due = again;
-        again = c;
+static void write_for(struct connection *c) {
+    bool more = false;
+    unmake_due(c);
+    if (!c->quic) return;
+    int error = connection_write(c, &more);
+    if (error) {
+        bid_farewell(c, error);
+        return;
     }
-    s->due = again;
+    set_timer(c);
+    if (more) make_due(c);
+}
+
+/* Those that were read from or whose timer is due, each once, and nobody else. Whoever is not reached in time is first in the next turn. */
+static void write_packets(struct server *s) {
+    ngtcp2_tstamp until = now() + WRITING_A_TURN;
+    const struct connection *last = s->last_due;
+    for (bool done = !last; !done && now() < until;) {
+        done = s->due == last;
+        write_for(s->due);
+    }
 }
 
 /* One line for all that are over since the last: where lines are left out, nothing is lost. */

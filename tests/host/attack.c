@@ -78,6 +78,43 @@ static void noparams(void) {
     spoil = NULL;
 }
 
+/* An integer of QUIC's at a place below the end; its length, or 0 where it is cut. */
+static size_t get_integer(const uint8_t *at, const uint8_t *end, uint64_t *value) {
+    size_t length = at < end ? (size_t)1 << (*at >> 6) : 0;
+    if (!length || (size_t)(end - at) < length) return 0;
+    *value = *at & 0x3f;
+    for (size_t i = 1; i < length; i++) *value = *value << 8 | at[i];
+    return length;
+}
+
+/* The last of the transport parameters, where it is long enough, becomes one that nobody knows, and behind it max_datagram_frame_size without a value. */
+static void cut_parameters(uint8_t first, uint8_t *frames, size_t count) {
+    bool initial = (first & 0xf0) == 0xc0;
+    for (size_t i = 8; initial && i + 4 < count; i++) {
+        uint8_t *at = frames + i + 4, *end = at + frames[i + 3], *last = NULL;
+        if (frames[i] || frames[i + 1] != EXTENSION_TYPE || frames[i + 2] || frames[i + 3] <= 20 || end > frames + count) continue;
+        for (uint64_t is, length; at < end;) {
+            size_t head = get_integer(at, end, &is), more = head ? get_integer(at + head, end, &length) : 0;
+            if (!more || length > (uint64_t)(end - at) - head - more) break;
+            last = at;
+            at += head + more + length;
+        }
+        if (at != end || !last || end - last < 4 || end - last > 66) continue;
+        last[0] = 27; /* reserved to be unknown */
+        last[1] = (uint8_t)(end - last - 4);
+        end[-2] = 0x20;
+        end[-1] = 0;
+        return;
+    }
+}
+
+/* A ClientHello with a transport parameter that is cut, for which quinn-proto 0.9.2 panics: 0x8 is TRANSPORT_PARAMETER_ERROR. */
+static void cutparams(void) {
+    spoil = cut_parameters;
+    for (unsigned long i = number_or(1); i; i--) must_close(client_start(port), 0x8);
+    spoil = NULL;
+}
+
 /* TLS messages behind the handshake, a KeyUpdate first. With 0, a stack that answers all that comes after its close is not faulted. */
 static void messages(void) {
     static const uint8_t types[] = {24, 24, 0, 1, 2, 4, 5, 8, 11, 13, 15, 20, 254};
@@ -95,7 +132,11 @@ static void messages(void) {
     }
 }
 
-#define FIRST_ID 2 /* the client itself has announced one, beside that of the handshake */
+/* The client itself has announced as many as the gateway takes, that of the handshake among them; libngtcp2's takes no more than 8. */
+static uint64_t first_id(const peer *p) {
+    uint64_t most = ngtcp2_conn_get_remote_transport_params(p->client->quic)->active_connection_id_limit;
+    return most < 8 ? most : 8;
+}
 
 /* Announcements of retired connection IDs, again and again: in one packet and behind a close, where they are read too. */
 static void ids(void) {
@@ -120,9 +161,9 @@ static void retiring(void) {
     uint8_t frames[200], id[NEW_ID];
     peer p;
     must_open(&p);
-    for (uint64_t i = FIRST_ID; i <= 12; i++) {
+    for (uint64_t first = first_id(&p), i = first; i <= first + 10; i++) {
         uint8_t *at = put_new_id(frames, i, i, id);
-        if (i > FIRST_ID) at = put_new_id(at, i - 1, i - 1, NULL);
+        if (i > first) at = put_new_id(at, i - 1, i - 1, NULL);
         peer_send(&p, frames, (size_t)(at - frames));
         size_t heard = 0;
         for (int k = 0; k < 500 && !heard; k++) {
@@ -148,8 +189,8 @@ static void moving(void) {
         uint8_t frames[400];
         peer p;
         must_open(&p);
-        for (uint64_t i = FIRST_ID - 1; i <= 40; i++) { /* the first probe takes the ID that there is */
-            uint8_t *at = i < FIRST_ID ? frames : put_new_id(frames, i, probing ? 0 : i - 1, NULL);
+        for (uint64_t first = first_id(&p), i = first - 1; i <= 40; i++) { /* the first probe takes the ID that there is */
+            uint8_t *at = i < first ? frames : put_new_id(frames, i, probing ? 0 : i - 1, NULL);
             *at++ = 0x1a; /* PATH_CHALLENGE */
             at = put_bytes(at, "challeng", 8);
             if (!probing) *at++ = 0x01; /* PING */
@@ -277,6 +318,25 @@ static void ask_in_vain(peer *p) {
     pause_ms(2);
 }
 
+/* Settings of 200 KB that nobody sent before, and requests for them as above: what they were must be kept for this peer alone. */
+static void ask_for_old(peer *p) {
+    static uint8_t upload[200000];
+    static uint64_t number;
+    uint8_t frames[64];
+    size_t head = put_request(upload, "PUT", "/settings", "190000");
+    head += h3_put_frame_head(upload + head, H3_DATA, 190000);
+    memset(upload + head, 'o', 190000);
+    memcpy(upload + head, &number, sizeof number);
+    number++;
+    send_on(p, 0, upload, head + 190000);
+    peer_send(p, frames, (size_t)(put_stream(frames, 0, head + 190000, "", 0, true) - frames));
+    pause_ms(10);
+    uint8_t section[200], more[PAYLOAD + 64], *at = more;
+    size_t count = put_request(section, "GET", "/settings", NULL);
+    for (uint64_t id = 4; id < 21 * 4; id += 4) at = put_stream(at, id, 0, section, count, true);
+    peer_send(p, more, (size_t)(at - more));
+}
+
 /* COUNT peers that do so, and hold on for SECONDS; MOST is what the gateway may have in memory then, in MiB, and 0 is no limit. */
 static void hoard(void (*harm)(peer *)) {
     unsigned long count = number_or(20), held = number_or(1), most = number_or(0);
@@ -296,6 +356,12 @@ static void unread(void) {
     stream_window = 64;
     connection_window = 1024;
     hoard(ask_in_vain);
+}
+
+static void old(void) {
+    stream_window = 64;
+    connection_window = 4096;
+    hoard(ask_for_old);
 }
 
 /* PINGs beside COUNT idle connections: each costs what it does beside none. */
@@ -345,8 +411,9 @@ static void make_firsts(size_t count) {
 
 static int socket_to_gateway(void) {
     struct sockaddr_in to = {.sin_family = AF_INET, .sin_port = htons(port), .sin_addr.s_addr = htonl(INADDR_LOOPBACK)};
+    struct sockaddr_in source = {.sin_family = AF_INET, .sin_addr.s_addr = htonl(client_source)};
     int s = socket(AF_INET, SOCK_DGRAM | SOCK_NONBLOCK | SOCK_CLOEXEC, 0);
-    if (s < 0 || connect(s, (struct sockaddr *)&to, sizeof to)) fail("no socket");
+    if (s < 0 || bind(s, (struct sockaddr *)&source, sizeof source) || connect(s, (struct sockaddr *)&to, sizeof to)) fail("no socket");
     return s;
 }
 
@@ -413,6 +480,64 @@ static void half(void) {
         close(s);
     }
     printf("%zu half-open: %ld KiB more\n", first_count, gateway_memory(pid) - before);
+}
+
+/* ---- handshakes from one host that has shown where it is */
+
+static int hello_socket;
+static int hello_sockets[1024];
+
+/* A packet with a token is kept, not sent; others go their way. */
+static void keep_hello(const uint8_t *packet, size_t count) {
+    size_t to = 6 + packet[5], token = count > to ? to + 1 + packet[to] : count;
+    bool shown = (packet[0] & 0xf0) == 0xc0 && token < count && packet[token];
+    if (shown) keep_first(packet, count);
+    else if (write(hello_socket, packet, count) < 0) return; /* as one lost on the way */
+}
+
+static bool is_kept(void *any) {
+    (void)any;
+    return first_count == first_most;
+}
+
+/* Clients that are asked for no token stay half-open, until so many are that the next is asked. */
+static void gather_hellos(size_t count) {
+    first_count = first_most = 0;
+    divert = keep_hello;
+    for (size_t tries = 0; first_count < count; tries++) {
+        if (tries == 2 * count + 200) fail("no Retry, but for %zu", first_count);
+        first_most = first_count + 1;
+        client *c = client_start(port);
+        if (!c) fail("no client");
+        hello_socket = hello_sockets[first_count] = dup(c->socket); /* the token is for this port */
+        if (!client_run(c, is_kept, NULL, 30)) close(hello_socket);
+        client_drop(c);
+    }
+    divert = NULL;
+}
+
+static void replay_hello(unsigned long n) {
+    size_t k = n % first_count;
+    send(hello_sockets[k], firsts[k], first_counts[k], 0);
+    drop_all(hello_sockets[k]);
+}
+
+/* From a host of their own, COUNT first packets with our tokens, again and again for SECONDS, RATE a second: a handshake is begun for each, and none ends.
+   MOST is what it may cost, in hundredths of a processor; 0 is no limit. */
+static void hellos(void) {
+    unsigned long count = number_or(300), rate = number_or(500), held = number_or(3), most = number_or(0);
+    client_source++;
+    make_firsts(70); /* so many half-open make it ask for tokens */
+    for (size_t i = 0; i < first_count; i++) {
+        send(socket_to_gateway(), firsts[i], first_counts[i], 0);
+        pause_ms(1);
+    }
+    gather_hellos(count);
+    double before = gateway_seconds(pid), begun = seconds();
+    send_for(held, rate, replay_hello);
+    double share = (gateway_seconds(pid) - before) / (seconds() - begun) * 100;
+    printf("%.0f %% of a processor\n", share);
+    if (most && share > (double)most) fail("%.0f %% of a processor", share);
 }
 
 /* A ClientHello of two packets, as those with a post-quantum key are, of which the second comes first. */
@@ -604,8 +729,8 @@ static void comers(void) {
 static const struct {
     const char *name;
     void (*run)(void);
-} attacks[] = {{"noparams", noparams}, {"messages", messages}, {"ids", ids}, {"retiring", retiring}, {"moving", moving}, {"cut", cut},
-             {"gaps", gaps}, {"paths", paths}, {"parts", parts}, {"unread", unread}, {"idle", idle}, {"initials", initials}, {"half", half},
+} attacks[] = {{"noparams", noparams}, {"cutparams", cutparams}, {"messages", messages}, {"ids", ids}, {"retiring", retiring}, {"moving", moving}, {"cut", cut},
+             {"gaps", gaps}, {"paths", paths}, {"parts", parts}, {"unread", unread}, {"old", old}, {"idle", idle}, {"initials", initials}, {"half", half}, {"hellos", hellos},
              {"order", order}, {"crowded", crowded}, {"garbage", garbage}, {"versions", versions}, {"refusals", refusals}, {"stops", stops}, {"comers", comers}};
 
 int main(int count, char **words) {

@@ -158,6 +158,11 @@ static void stack_send(void *self, uint64_t id, const uint8_t *bytes, size_t cou
     if (fin) s->answered = true;
 }
 
+static void stack_share(void *self, uint64_t id, struct content *content) {
+    HOLDS(content->users && content->is.count);
+    stack_send(self, id, content->is.at, content->is.count, 1);
+}
+
 static void stack_refuse(void *self, uint64_t id, uint64_t code) {
     struct run *r = self;
     HOLDS(!r->closed && !(id & 3));
@@ -407,7 +412,7 @@ int LLVMFuzzerTestOneInput(const uint8_t *data, size_t count) {
     r->granted[0] = REQUESTS_AT_ONCE;
     r->granted[1] = ONEWAYS_AT_ONCE;
     r->http = must(malloc(sizeof *r->http));
-    http_begin(r->http, (struct stack){r, stack_open, stack_send, stack_refuse, stack_close}, &gateway);
+    http_begin(r->http, (struct stack){r, stack_open, stack_send, stack_share, stack_refuse, stack_close}, &gateway);
     if (next(r) & 1) http_handshake(r->http);
     while (r->at < r->end) one_event(r);
     if (count & 1) end_all(r);

@@ -1,6 +1,7 @@
 //! HTTP/3 over a connection of quinn's: docs/HOST.md, "Each event of a stack", with a task for each stream.
 
 use crate::gateway::{Asked, Gateway};
+use crate::places::{Place, Places};
 use crate::qpack::Qpack;
 use eistulko::{
     Connection, Ended, Event, Refused, StreamId, GOAWAY_ROOM, HEADER_ROOM, NO_BOUND, OPENING_ROOM,
@@ -25,6 +26,7 @@ const HELD_MOST: usize = 128 << 20; // bytes of unfinished requests, of all conn
 pub struct Server {
     pub gateway: Gateway,
     pub held: Cell<usize>,
+    pub places: Places,
     pub stopping: watch::Receiver<bool>,
 }
 
@@ -48,6 +50,7 @@ impl From<Refused> for Fault {
 
 struct Client {
     server: Rc<Server>,
+    place: Rc<Place>,
     quic: quinn::Connection,
     engine: RefCell<Connection>,
     qpack: RefCell<Qpack>,
@@ -162,6 +165,7 @@ impl Client {
             since += piece.len();
             if since >= QUANTUM {
                 (since, until) = (0, Instant::now() + PATIENCE);
+                self.place.move_on();
             }
             while !piece.is_empty() {
                 let fed = self.engine.borrow_mut().feed(id, piece, NO_BOUND).map_err(Refused::from)?;
@@ -238,6 +242,7 @@ impl Client {
     }
 
     async fn request(self: Rc<Client>, id: StreamId, mut send: SendStream, mut recv: RecvStream) {
+        let _busy = self.place.busy();
         let done = match self.read(id, &mut recv).await {
             Ok(asked) => self.answer(id, &asked, &mut send).await,
             Err(fault) => Err(fault),
@@ -319,8 +324,10 @@ fn refuse(send: &mut SendStream, recv: &mut RecvStream, number: u64) {
 
 /// A connection to its end. quinn tells of streams in their order, so each is opened as it comes.
 pub async fn serve(server: Rc<Server>, quic: quinn::Connection) {
+    let place = server.places.take(&quic);
     let client = Rc::new(Client {
         server,
+        place,
         quic,
         engine: RefCell::new(Connection::new()),
         qpack: RefCell::new(Qpack::new()),
