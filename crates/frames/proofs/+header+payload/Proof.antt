@@ -1,6 +1,6 @@
 use native.Mathlib.Omega.{arith}
 use Prim.Native.Nat.{ℕ, _+_, _-_, _*_, _<_, _≤_}
-use mathlib.Core.Path.{sym, subst, _∙_}
+use mathlib.Core.Path.{_≡_, sym, subst, _∙_}
 use borrow.Author.Needs.{needs}
 use denote.Ref.{now}
 use lib.ListN.{length}
@@ -29,8 +29,11 @@ abbrev μ-payload : Measures 4 payload-kinds.ps ℕ
 μ-payload κs a = (length (now (a .0)) - a .1 .0) + 2 * a .1 .1 .1 .1 .1 .1 .1 .1 .0 + 1
 
 -- a header read: fewer bytes are left, and less of the allowance
-further : (n at m a : ℕ) → at ≤ m → 0 < a → (n - m) + 2 * (a - 1) + 1 < (n - at) + 2 * a
-further n at m a h l = omega arith
+further : (n at m a t : ℕ) → (n - at) + 2 * a ≡ t → at ≤ m → 0 < a → (n - m) + 2 * (a - 1) + 1 < t
+further n at m a t e h l = subst (λ x. (n - m) + 2 * (a - 1) + 1 < x) e falls-so
+  where
+    falls-so : (n - m) + 2 * (a - 1) + 1 < (n - at) + 2 * a
+    falls-so = omega arith
 
 abbrev header-at : ℕ → In 4 header-kinds.ps
 header-at t = and 4 header-kinds.ps (is 4 header-kinds.ps μ-header t) header.Pre
@@ -102,7 +105,7 @@ header-sub-payload t c = omega (arith, c .before .before .before .before .before
 
 -- src/lib.rt:153:5
 header-payload-requires : (t : ℕ) → header-lts.Need-payload-requires (header-claims t) (header-at t) header.Post
-header-payload-requires t c κs = (let h = c .before .before .before .before .before .before .before .before .before .ends .ensures .past (omega (arith, c .before .before .before .before .before .before .before .before .if2 .left)) in let g = c .before .before .before .before .before .before .before .ends2 .ensures .past (omega (arith, c .before .before .before .before .before .before .if3 .left)) in subst (λ x. _ < x) (c .before .before .before .before .before .before .before .before .before .before .before .before .pre .0) (further _ _ _ _ (omega (arith, h, g)) (omega (arith, c .before .before .before .before .before .before .before .before .before .before .if1 .left))), (c .before .before .before .before .before .before .before .ends2 .ensures .within, c .before .before .before .before .before .before .before .before .before .before .before .before .pre .1 .1, c .before .before .before .before .before .before .before .before .before .before .before .before .pre .1 .2, (λ e. not-none _ _ _ (sym (c .before .before .before .ruled .ensures) ∙ e)), c .before .before .before .before .before .value .ensures .small, ruling-lawful _ _ _ _ _ _ _ (c .before .before .before .before .before .before .before .before .before .before .before .before .pre .1 .2) (c .before .before .before .ruled .ensures)))
+header-payload-requires t c κs = (let h = c .before .before .before .before .before .before .before .before .before .ends .ensures .past (omega (arith, c .before .before .before .before .before .before .before .before .if2 .left)) in let g = c .before .before .before .before .before .before .before .ends2 .ensures .past (omega (arith, c .before .before .before .before .before .before .if3 .left)) in further _ _ _ _ _ (c .before .before .before .before .before .before .before .before .before .before .before .before .pre .0) (omega (arith, h, g)) (omega (arith, c .before .before .before .before .before .before .before .before .before .before .if1 .left)), (c .before .before .before .before .before .before .before .ends2 .ensures .within, c .before .before .before .before .before .before .before .before .before .before .before .before .pre .1 .1, c .before .before .before .before .before .before .before .before .before .before .before .before .pre .1 .2, (λ e. not-none _ _ _ (sym (c .before .before .before .ruled .ensures) ∙ e)), c .before .before .before .before .before .value .ensures .small, ruling-lawful _ _ _ _ _ _ _ (c .before .before .before .before .before .before .before .before .before .before .before .before .pre .1 .2) (c .before .before .before .ruled .ensures)))
 
 -- src/lib.rt:116:1
 header-returns-4 : (t : ℕ) → header-lts.Need-returns-4 (header-claims t) (header-at t) header.Post
