@@ -8,7 +8,7 @@
  * WHAT IS PROMISED. Each call below meets a contract that is proved of its code: it returns, for every content of the memory that it is
  * lent and every number; it reads and writes no other memory; and for each input there is one answer and one content of the lent memory
  * behind it. Nobody has to check anything first but the pointers. The contracts are in crates/calls/specs/Lent.antt and Writes.antt. The numbers
- * and events that stand with each call are those of a connection and a row that had one start and that only these calls touched since; on
+ * and events listed with each call are those of a connection and a row that had one start and that only these calls touched since; on
  * other memory a call still returns, keeps to that memory and has one answer.
  *
  * MEMORY. All of it is the host's. The engine has no heap, no global and no state of its own, keeps no pointer past a call, and calls nobody
@@ -113,7 +113,7 @@ static inline int eistulko_is_stream_fault(uint64_t number) {
     }
 }
 
-/* ---- events: what an accepted call tells, at most one a call ---- */
+/* ---- events: what an accepted call reports, at most one a call ---- */
 enum {
     EISTULKO_NOTHING = 0,     /* always of an accepted open or give */
     EISTULKO_CONTENT = 1,     /* a part of the piece is content of the request */
@@ -167,7 +167,7 @@ typedef struct {
 /* What a call answers: 56 bytes. A field that the event does not speak of is 0. */
 typedef struct {
     uint64_t number; /* 0, or why the call was refused */
-    uint64_t event;  /* what an accepted call tells */
+    uint64_t event;  /* what an accepted call reports */
     uint64_t start;  /* the event's part of the piece: where it begins.. */
     uint64_t len;    /* ..and how long it is; it ends where the consumed bytes do */
     uint64_t used;   /* of a feed: bytes of the piece consumed; with a fault, up to and including the byte that brought it; 0 with
