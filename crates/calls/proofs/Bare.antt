@@ -53,7 +53,7 @@ use Rattle.calls.specs.Promises.{Stepped}
 use Rattle.calls.proofs.Laws.{R}
 use Rattle.calls.proofs.Lends.{conn-val, rows-val, OwnPiece}
 use Rattle.calls.proofs.Thin.{StepC, calls-step}
-use Rattle.calls.proofs.step.Symbol.{name as #board·step}
+use Rattle.calls.proofs.step.Symbol.{name as #calls·step}
 use Rattle.calls.proofs.eistulko_end as self
 
 -- ---- the MIR, and the contract, at any number
@@ -79,7 +79,7 @@ bare k = record {
       (seq (assign (place 7 []) (aggregate (copy (place 6 []) ∷ copy (place 2 (field 1 ∷ [])) ∷ [])))
       (seq (assign (place 8 []) (addrOf (place 4 [])))
       (seq (assign (place 9 []) (aggregate (copy (place 8 []) ∷ int w64 0 ∷ [])))
-      (seq (call #board·step (copy (place 5 []) ∷ copy (place 7 []) ∷ int w64 k ∷ copy (place 3 []) ∷ int w64 0 ∷ copy (place 9 []) ∷ []) (place 0 []))
+      (seq (call #calls·step (copy (place 5 []) ∷ copy (place 7 []) ∷ int w64 k ∷ copy (place 3 []) ∷ int w64 0 ∷ copy (place 9 []) ∷ []) (place 0 []))
       return))))));
 }
 
@@ -121,7 +121,7 @@ module _ (k : ℕ) (k-fits : k < 2 ^ 64) {M : Type 1} (𝓤 : URA M) (H : Heap �
       move ! (1 ∷ []) $ split ! $ move ! (1 ∷ []) $ split ! $ move ! (1 ∷ []) $ split ! $ drop ! $ move ! (1 ∷ 0 ∷ []) $ join ! $ move ! (1 ∷ 0 ∷ []) $ join ! $ frame ! $
       nothing ! $ owned ! u64 (Is u64) (uint-makes 𝓤 H A W w64) id _ (refl, id-fits) $ fjoin ! $ move ! (3 ∷ 0 ∷ []) $ fjoin ! $ move ! (2 ∷ 0 ∷ []) $ fjoin ! $ frame ! $ done !
 
-  module _ (Cs : Calls 𝓤 H) (Λ : Loops 𝓤 H) (fm : FmC 𝓤 H (W .laws) Cs) (known : Triple 𝓤 (Cs #board·step) (StepC 𝓤 H A mem run)) where
+  module _ (Cs : Calls 𝓤 H) (Λ : Loops 𝓤 H) (fm : FmC 𝓤 H (W .laws) Cs) (known : Triple 𝓤 (Cs #calls·step) (StepC 𝓤 H A mem run)) where
     walk : Is (MutSlice (named 1) κ₁ R) x (rows-val x ∷ []) → ent 𝓤 (onEntry 𝓤 H A self.signature κs qs a at) (WpFn 𝓤 H Cs Λ (bare k) (conn-val cr ∷ rows-val x ∷ vint w64 id ∷ []) Post)
     walk p =
         qed W ((‵ (flft κ₀ q₀) ⊛ ‵ (flft κ₁ q₁) ⊛ ‵ ftrue) ∷ ‵ (owns (MutRef (named 0) κ₀ C.the-row ∷ MutSlice (named 1) κ₁ R ∷ u64 ∷ []) a at) ∷ []) ∵ enter ! Cs Λ (bare k) (conn-val cr ∷ rows-val x ∷ vint w64 id ∷ []) _ $
@@ -151,12 +151,12 @@ module _ (k : ℕ) (k-fits : k < 2 ^ 64) {M : Type 1} (𝓤 : URA M) (H : Heap �
         by ! (exits (ν ∷ []) r u c′ zs e l))))))))))))))
 
 module _ (k : ℕ) (k-fits : k < 2 ^ 64) {M : Type 1} (𝓤 : URA M) (H : Heap 𝓤) (A : Atoms 𝓤) (W : Given 𝓤 H A) (mem : Memory → SProp 𝓤) (run : Routine → Fun 𝓤) where
-  walks : (Cs : Calls 𝓤 H) (Λ : Loops 𝓤 H) → FmC 𝓤 H (W .laws) Cs → Triple 𝓤 (Cs #board·step) (StepC 𝓤 H A mem run) → Walks 𝓤 H A self.ended stayed (WpFn 𝓤 H Cs Λ (bare k)) (clauses k 𝓤 H A)
+  walks : (Cs : Calls 𝓤 H) (Λ : Loops 𝓤 H) → FmC 𝓤 H (W .laws) Cs → Triple 𝓤 (Cs #calls·step) (StepC 𝓤 H A mem run) → Walks 𝓤 H A self.ended stayed (WpFn 𝓤 H Cs Λ (bare k)) (clauses k 𝓤 H A)
   walks Cs Λ fm known = walked 𝓤 H A self.ended stayed (clauses k 𝓤 H A) (WpFn 𝓤 H Cs Λ (bare k)) (λ κs. (ptr-vals, (slice-vals, (uint-vals w64, tt)))) (λ κs. (mut-tells (named 0) (κs .0) C.the-row, (mut-slice-tells (named 1) (κs .1 .0) R, (uint-tells w64, tt))))
       (λ κs qs bounds a g are. via 𝓤 _ (fst∗ 𝓤 _ (emp 𝓤))
       (walk k k-fits 𝓤 H A W mem run (κs .0) (κs .1 .0) (qs .0) (qs .1 .0) (a .0) (a .1 .0) (a .1 .1 .0) (are .1 .1 .0 .1) Cs Λ fm known (are .1 .0)))
 
-  pub bare-meets : (𝓣 : Tables 𝓤 H) → Triple 𝓤 (𝓣 .C #board·step) (StepC 𝓤 H A mem run) → Meets 𝓤 H A self.signature (WpFn 𝓤 H (𝓣 .C) (𝓣 .Λ) (bare k)) (spec k 𝓤 H A)
+  pub bare-meets : (𝓣 : Tables 𝓤 H) → Triple 𝓤 (𝓣 .C #calls·step) (StepC 𝓤 H A mem run) → Meets 𝓤 H A self.signature (WpFn 𝓤 H (𝓣 .C) (𝓣 .Λ) (bare k)) (spec k 𝓤 H A)
   bare-meets 𝓣 known =
       walk-meets 𝓤 H A self.ended stayed W (goes-gave-ref 𝓤 H A W 2 0 tt (plain (λ _. C.the-row)), (goes-gave-slice 𝓤 H A W 2 1 tt (plain (λ _. R)), (goes-none 𝓤 H A W 2 (λ _. u64) yes (λ κs x f. refl), tt))) (clauses k 𝓤 H A)
       (WpFn 𝓤 H (𝓣 .C) (𝓣 .Λ) (bare k)) (WpFn-mono 𝓤 H (W .laws) 𝓣 (bare k)) (walks (𝓣 .C) (𝓣 .Λ) (fmOf 𝓤 H (W .laws) 𝓣) known)

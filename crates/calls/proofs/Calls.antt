@@ -45,11 +45,11 @@ use Rattle.calls.proofs.Laws.{R}
 use Rattle.calls.proofs.Share.{Shared, lends-shared, shared-back}
 use Rattle.calls.proofs.Lends.{conn-val, rows-val, bytes-val, OwnConn, OwnRow, OwnPiece}
 use Rattle.calls.proofs.find as find
-use Rattle.calls.proofs.find.Symbol.{name as #board·find}
+use Rattle.calls.proofs.find.Symbol.{name as #calls·find}
 use Rattle.calls.proofs.pick as picked
-use Rattle.calls.proofs.pick.Symbol.{name as #board·pick}
+use Rattle.calls.proofs.pick.Symbol.{name as #calls·pick}
 use Rattle.calls.proofs.step_at as step-at
-use Rattle.calls.proofs.step_at.Symbol.{name as #board·step-at}
+use Rattle.calls.proofs.step_at.Symbol.{name as #calls·step-at}
 
 module _ {M : Type 1} (𝓤 : URA M) (H : Heap 𝓤) (A : Atoms 𝓤) (mem : Memory → SProp 𝓤) (run : Routine → Fun 𝓤) where
   abbrev pub FindC : Contract 𝓤
@@ -81,10 +81,10 @@ module _ {M : Type 1} {𝓤 : URA M} {H : Heap 𝓤} {A : Atoms 𝓤} (W : Given
     find-said ν δ i = exE 𝓤 _ (λ ws. snd∗ 𝓤 (sem 𝓤 H A (lasts find.ended (ν ∷ [], tt) (xd δ, (k, (id, tt))) ws)) (fact 𝓤 (FirstIn k id ys i)))
 
     module _ {Γ : List (Item 𝓤)} {E : Env 𝓤 H} {Cs : Calls 𝓤 H} {Λ : Loops 𝓤 H} {p : Post 𝓤 H} {d : Place} {rest : Body} {xs : List Operand} where
-      pub calls-find : FmC 𝓤 H (W .laws) Cs → Triple 𝓤 (Cs #board·find) (FindC 𝓤 H A mem run)
+      pub calls-find : FmC 𝓤 H (W .laws) Cs → Triple 𝓤 (Cs #calls·find) (FindC 𝓤 H A mem run)
           → ((ν : ℕ) (δ : GName) → Opds (Go {0}) W (raw (FindC 𝓤 H A mem run .pre (to-find ν δ)) ∷ ‵ (Shared R κ (ν ∷ []) q γ b o ys) ∷ Γ) E xs (FindC 𝓤 H A mem run .args (to-find ν δ)))
           → ((u : Val) (i : ℕ) → FirstIn k id ys i → Is usize i (u ∷ []) → Sq W (‵ (OwnRow κ (xd γ)) ∷ ‵ (flft κ q) ∷ Γ) (lands Cs Λ E d u rest p))
-          → Sq W (‵ (OwnRow κ (xd γ)) ∷ ‵ (flft κ q) ∷ Γ) (runs Cs Λ E (seq (call #board·find xs d) rest) p)
+          → Sq W (‵ (OwnRow κ (xd γ)) ∷ ‵ (flft κ q) ∷ Γ) (runs Cs Λ E (seq (call #calls·find xs d) rest) p)
       calls-find fm known args onward =
           lft-new ! tt (λ ν.
           move ! (1 ∷ 2 ∷ []) $
@@ -111,10 +111,10 @@ module _ {M : Type 1} {𝓤 : URA M} {H : Heap 𝓤} {A : Atoms 𝓤} (W : Given
     pick-said ν δ f = exE 𝓤 _ (λ ws. snd∗ 𝓤 (sem 𝓤 H A (lasts picked.ended (ν ∷ [], tt) (xd δ, (i, tt)) ws)) (fact 𝓤 (f ≡ foundAt ys i)))
 
     module _ {Γ : List (Item 𝓤)} {E : Env 𝓤 H} {Cs : Calls 𝓤 H} {Λ : Loops 𝓤 H} {p : Post 𝓤 H} {d : Place} {rest : Body} {xs : List Operand} where
-      pub calls-pick : FmC 𝓤 H (W .laws) Cs → Triple 𝓤 (Cs #board·pick) (PickC 𝓤 H A mem run)
+      pub calls-pick : FmC 𝓤 H (W .laws) Cs → Triple 𝓤 (Cs #calls·pick) (PickC 𝓤 H A mem run)
           → ((ν : ℕ) (δ : GName) → Opds (Go {0}) W (raw (PickC 𝓤 H A mem run .pre (to-pick ν δ)) ∷ ‵ (Shared R κ (ν ∷ []) q γ b o ys) ∷ Γ) E xs (PickC 𝓤 H A mem run .args (to-pick ν δ)))
           → ((u : Val) (f : Found) → f ≡ foundAt ys i → Is F.the-row f (u ∷ []) → Sq W (‵ (OwnRow κ (xd γ)) ∷ ‵ (flft κ q) ∷ Γ) (lands Cs Λ E d u rest p))
-          → Sq W (‵ (OwnRow κ (xd γ)) ∷ ‵ (flft κ q) ∷ Γ) (runs Cs Λ E (seq (call #board·pick xs d) rest) p)
+          → Sq W (‵ (OwnRow κ (xd γ)) ∷ ‵ (flft κ q) ∷ Γ) (runs Cs Λ E (seq (call #calls·pick xs d) rest) p)
       calls-pick fm known args onward =
           lft-new ! tt (λ ν.
           move ! (1 ∷ 2 ∷ []) $
@@ -163,11 +163,11 @@ module _ {M : Type 1} {𝓤 : URA M} {H : Heap 𝓤} {A : Atoms 𝓤} (W : Given
   Said r ws = SteppedAt (cr .now) (x .now) i k id allow (piece .now) (ws .0) (ws .1 .0) r
 
   module _ {Γ : List (Item 𝓤)} {E : Env 𝓤 H} {Cs : Calls 𝓤 H} {Λ : Loops 𝓤 H} {p : Post 𝓤 H} {d : Place} {rest : Body} {xs : List Operand} where
-    pub calls-step-at : FmC 𝓤 H (W .laws) Cs → Triple 𝓤 (Cs #board·step-at) (StepAtC 𝓤 H A mem run)
+    pub calls-step-at : FmC 𝓤 H (W .laws) Cs → Triple 𝓤 (Cs #calls·step-at) (StepAtC 𝓤 H A mem run)
         → Opds (Go {0}) W (raw (StepAtC 𝓤 H A mem run .pre to-step-at) ∷ Γ) E xs (StepAtC 𝓤 H A mem run .args to-step-at)
         → ((u : Val) (r : Report) (c′ : Connection) (zs : List Record) → SteppedAt (cr .now) (x .now) i k id allow (piece .now) c′ zs r → length zs ≡ length (x .now) → Is N.the-row r (u ∷ [])
         → Sq W (‵ (N.the-row .own r (u ∷ [])) ∷ Tokens ∷ ‵ (fres (cr .name) (C.the-row .coded .code c′)) ∷ ‵ (finally R (x .name) zs) ∷ Γ) (lands Cs Λ E d u rest p))
-        → Sq W (Tokens ∷ Lent ∷ Γ) (runs Cs Λ E (seq (call #board·step-at xs d) rest) p)
+        → Sq W (Tokens ∷ Lent ∷ Γ) (runs Cs Λ E (seq (call #calls·step-at xs d) rest) p)
     calls-step-at fm known args onward =
         use2 W (raw (StepAtC 𝓤 H A mem run .pre to-step-at)) goes-step-at $ calls-at ! fm (StepAtC 𝓤 H A mem run) known to-step-at args (λ u.
         use1 W (later (some (λ (r : Report). (Tokens ⊛ ‵ (N.the-row .own r (u ∷ []))) ⊛ raw (ensured 𝓤 H A step-at.ended (step-at.clauses 𝓤 H A mem run) κs a tt r)))) (id⊢ 𝓤 _) $ await ! tt $ pick ! (λ r.

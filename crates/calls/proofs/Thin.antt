@@ -39,7 +39,7 @@ use Rattle.calls.specs.Promises.{Stepped}
 use Rattle.calls.proofs.Laws.{R}
 use Rattle.calls.proofs.Lends.{conn-val, rows-val, bytes-val, OwnConn, OwnRow, OwnPiece}
 use Rattle.calls.proofs.step as step
-use Rattle.calls.proofs.step.Symbol.{name as #board·step}
+use Rattle.calls.proofs.step.Symbol.{name as #calls·step}
 
 abbrev pub StepC : {M : Type 1} (𝓤 : URA M) (H : Heap 𝓤) (A : Atoms 𝓤) (mem : Memory → SProp 𝓤) (run : Routine → Fun 𝓤) → Contract 𝓤
 StepC 𝓤 H A mem run = tripleOf 𝓤 H A step.signature (step.spec 𝓤 H A mem run)
@@ -80,11 +80,11 @@ module _ {M : Type 1} {𝓤 : URA M} {H : Heap 𝓤} {A : Atoms 𝓤} (W : Given
       move ! (2 ∷ 0 ∷ []) $ join ! $ move ! (2 ∷ 0 ∷ []) $ join ! $ move ! (2 ∷ 0 ∷ 1 ∷ []) $ s)
 
   module _ {Γ : List (Item 𝓤)} {E : Env 𝓤 H} {Cs : Calls 𝓤 H} {Λ : Loops 𝓤 H} {q : Post 𝓤 H} {d : Place} {rest : Body} {xs : List Operand} where
-    pub calls-step : FmC 𝓤 H (W .laws) Cs → Triple 𝓤 (Cs #board·step) (StepC 𝓤 H A mem run)
+    pub calls-step : FmC 𝓤 H (W .laws) Cs → Triple 𝓤 (Cs #calls·step) (StepC 𝓤 H A mem run)
         → Opds (Go {0}) W (raw (StepC 𝓤 H A mem run .pre to-step) ∷ Γ) E xs (StepC 𝓤 H A mem run .args to-step)
         → ((u : Val) (r : Report) (c′ : Connection) (zs : List Record) → Stepped (cr .now) (x .now) k id allow (piece .now) c′ zs r → length zs ≡ length (x .now) → Is N.the-row r (u ∷ [])
         → Sq W (‵ (N.the-row .own r (u ∷ [])) ∷ Tokens ∷ ‵ (fres (cr .name) (C.the-row .coded .code c′)) ∷ ‵ (finally R (x .name) zs) ∷ Γ) (lands Cs Λ E d u rest q))
-        → Sq W (Tokens ∷ Lent ∷ Γ) (runs Cs Λ E (seq (call #board·step xs d) rest) q)
+        → Sq W (Tokens ∷ Lent ∷ Γ) (runs Cs Λ E (seq (call #calls·step xs d) rest) q)
     calls-step fm known args onward =
         use2 W (raw (StepC 𝓤 H A mem run .pre to-step)) goes-step $ calls-at ! fm (StepC 𝓤 H A mem run) known to-step args (λ u.
         use1 W (later (some (λ (r : Report). (Tokens ⊛ ‵ (N.the-row .own r (u ∷ []))) ⊛ raw (ensured 𝓤 H A step.ended (step.clauses 𝓤 H A mem run) κs a tt r)))) (id⊢ 𝓤 _) $ await ! tt $ pick ! (λ r.

@@ -6,9 +6,9 @@ use denote.Triple.Table.{entered, cited}
 use Rattle.calls.proofs.Thin.{StepC}
 use Rattle.calls.proofs.Bare.{bare-meets}
 use Rattle.calls.proofs.step.Symbol as step-def
-use Rattle.calls.proofs.step.Symbol.{name as #board·step}
+use Rattle.calls.proofs.step.Symbol.{name as #calls·step}
 use Rattle.calls.proofs.step.Met as step-thm
-use Rattle.calls.proofs.eistulko_end.Key.{name as #board·eistulko-end}
+use Rattle.calls.proofs.eistulko_end.Key.{name as #calls·eistulko-end}
 use Rattle.calls.proofs.eistulko_end as self
 use Rattle.calls.proofs.eistulko_end.Statement as stated
 use Rattle.calls.proofs.eistulko_end.Code as code
@@ -17,6 +17,6 @@ pub eistulko-end-spec : {M : Type 1} → stated.statement M
 unfolding code.routine tablesOf
 eistulko-end-spec 𝓤 H 𝓜 𝓖 𝓡 =
     entered 𝓤 H (tripleOf 𝓤 H (𝓖 .A) self.signature (self.spec 𝓤 H (𝓖 .A) (𝓜 .mem) (𝓡 .run)))
-    (tables 𝓤 H 𝓜 𝓡 code.env .C) (tables 𝓤 H 𝓜 𝓡 code.env .Λ) #board·eistulko-end code.function (code.unfolded 𝓤 H 𝓜 𝓡)
+    (tables 𝓤 H 𝓜 𝓡 code.env .C) (tables 𝓤 H 𝓜 𝓡 code.env .Λ) #calls·eistulko-end code.function (code.unfolded 𝓤 H 𝓜 𝓡)
     (bare-meets _ (lit< tt) 𝓤 H (𝓖 .A) (givenOf 𝓤 H 𝓜 𝓖) (𝓜 .mem) (𝓡 .run) (tablesOf 𝓤 H 𝓜 (tables 𝓤 H 𝓜 𝓡 code.env))
-    (cited 𝓤 H (StepC 𝓤 H (𝓖 .A) (𝓜 .mem) (𝓡 .run)) 𝓜 𝓡 code.env #board·step step-def.routine code.calls-board·step (step-thm.met 𝓤 H 𝓜 𝓖 𝓡)))
+    (cited 𝓤 H (StepC 𝓤 H (𝓖 .A) (𝓜 .mem) (𝓡 .run)) 𝓜 𝓡 code.env #calls·step step-def.routine code.calls-calls·step (step-thm.met 𝓤 H 𝓜 𝓖 𝓡)))

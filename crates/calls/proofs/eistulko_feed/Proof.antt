@@ -47,9 +47,9 @@ use Rattle.calls.proofs.Laws.{R}
 use Rattle.calls.proofs.Lends.{conn-val, rows-val, bytes-val, OwnPiece}
 use Rattle.calls.proofs.Thin.{StepC, handed, calls-step}
 use Rattle.calls.proofs.step.Symbol as step-def
-use Rattle.calls.proofs.step.Symbol.{name as #board·step}
+use Rattle.calls.proofs.step.Symbol.{name as #calls·step}
 use Rattle.calls.proofs.step.Met as step-thm
-use Rattle.calls.proofs.eistulko_feed.Key.{name as #board·eistulko-feed}
+use Rattle.calls.proofs.eistulko_feed.Key.{name as #calls·eistulko-feed}
 use Rattle.calls.proofs.eistulko_feed as self
 use Rattle.calls.proofs.eistulko_feed.Statement as stated
 use Rattle.calls.proofs.eistulko_feed.Code as code
@@ -83,7 +83,7 @@ module _ {M : Type 1} (𝓤 : URA M) (H : Heap 𝓤) (A : Atoms 𝓤) (W : Given
       suffices ! _ (ends-at 𝓤 H A self.ended stayed (self.clauses 𝓤 H A mem run) W ((κs, qs, tt, a, at), tt) u r (c′, (zs, (tt, (tt, (tt, tt))))) (tt, (l, (tt, (tt, (tt, tt)))))) $ says ! e $ move ! (1 ∷ []) $ frame ! $
       nothing ! $ owned ! u64 (Is u64) (uint-makes 𝓤 H A W w64) allow _ (refl, allow-fits) $ fjoin ! $ move ! (4 ∷ 0 ∷ []) $ fjoin ! $ owned ! u64 (Is u64) (uint-makes 𝓤 H A W w64) id _ (refl, id-fits) $ fjoin ! $ move ! (3 ∷ 0 ∷ []) $ fjoin ! $ move ! (2 ∷ 0 ∷ []) $ fjoin ! $ frame ! $ done !
 
-  module _ (Cs : Calls 𝓤 H) (Λ : Loops 𝓤 H) (fm : FmC 𝓤 H (W .laws) Cs) (known : Triple 𝓤 (Cs #board·step) (StepC 𝓤 H A mem run)) where
+  module _ (Cs : Calls 𝓤 H) (Λ : Loops 𝓤 H) (fm : FmC 𝓤 H (W .laws) Cs) (known : Triple 𝓤 (Cs #calls·step) (StepC 𝓤 H A mem run)) where
     walk : Is (MutSlice (named 1) κ₁ R) x (rows-val x ∷ []) → Is (ShrSlice (named 2) κ₂ u8) piece (bytes-val piece ∷ []) → ent 𝓤 (onEntry 𝓤 H A self.signature κs qs a at) (WpFn 𝓤 H Cs Λ code.function (conn-val cr ∷ rows-val x ∷ vint w64 id ∷ bytes-val piece ∷ vint w64 allow ∷ []) Post)
     walk p p′ =
         qed W (Toks ∷ ‵ (owns (MutRef (named 0) κ₀ C.the-row ∷ MutSlice (named 1) κ₁ R ∷ u64 ∷ ShrSlice (named 2) κ₂ u8 ∷ u64 ∷ []) a at) ∷ []) ∵ enter ! Cs Λ code.function (conn-val cr ∷ rows-val x ∷ vint w64 id ∷ bytes-val piece ∷ vint w64 allow ∷ []) _ $
@@ -109,12 +109,12 @@ module _ {M : Type 1} (𝓤 : URA M) (H : Heap 𝓤) (A : Atoms 𝓤) (W : Given
         by ! (exits r u c′ zs e l)))))))))))
 
 module _ {M : Type 1} (𝓤 : URA M) (H : Heap 𝓤) (A : Atoms 𝓤) (W : Given 𝓤 H A) (mem : Memory → SProp 𝓤) (run : Routine → Fun 𝓤) where
-  walks : (Cs : Calls 𝓤 H) (Λ : Loops 𝓤 H) → FmC 𝓤 H (W .laws) Cs → Triple 𝓤 (Cs #board·step) (StepC 𝓤 H A mem run) → Walks 𝓤 H A self.ended stayed (WpFn 𝓤 H Cs Λ code.function) (self.clauses 𝓤 H A mem run)
+  walks : (Cs : Calls 𝓤 H) (Λ : Loops 𝓤 H) → FmC 𝓤 H (W .laws) Cs → Triple 𝓤 (Cs #calls·step) (StepC 𝓤 H A mem run) → Walks 𝓤 H A self.ended stayed (WpFn 𝓤 H Cs Λ code.function) (self.clauses 𝓤 H A mem run)
   walks Cs Λ fm known = walked 𝓤 H A self.ended stayed (self.clauses 𝓤 H A mem run) (WpFn 𝓤 H Cs Λ code.function) (λ κs. (ptr-vals, (slice-vals, (uint-vals w64, (slice-vals, (uint-vals w64, tt)))))) (λ κs. (mut-tells (named 0) (κs .0) C.the-row, (mut-slice-tells (named 1) (κs .1 .0) R, (uint-tells w64, (shr-slice-tells (named 2) (κs .1 .1 .0) u8, (uint-tells w64, tt))))))
       (λ κs qs bounds a g are. via 𝓤 _ (fst∗ 𝓤 _ (emp 𝓤))
       (walk 𝓤 H A W mem run (κs .0) (κs .1 .0) (κs .1 .1 .0) (qs .0) (qs .1 .0) (qs .1 .1 .0) (a .0) (a .1 .0) (a .1 .1 .0) (a .1 .1 .1 .0) (a .1 .1 .1 .1 .0) (are .1 .1 .0 .1) (are .1 .1 .1 .1 .0 .1) Cs Λ fm known (are .1 .0) (are .1 .1 .1 .0)))
 
-  meets : (𝓣 : Tables 𝓤 H) → Triple 𝓤 (𝓣 .C #board·step) (StepC 𝓤 H A mem run) → Meets 𝓤 H A self.signature (WpFn 𝓤 H (𝓣 .C) (𝓣 .Λ) code.function) (self.spec 𝓤 H A mem run)
+  meets : (𝓣 : Tables 𝓤 H) → Triple 𝓤 (𝓣 .C #calls·step) (StepC 𝓤 H A mem run) → Meets 𝓤 H A self.signature (WpFn 𝓤 H (𝓣 .C) (𝓣 .Λ) code.function) (self.spec 𝓤 H A mem run)
   meets 𝓣 known =
       walk-meets 𝓤 H A self.ended stayed W (goes-gave-ref 𝓤 H A W 3 0 tt (plain (λ _. C.the-row)), (goes-gave-slice 𝓤 H A W 3 1 tt (plain (λ _. R)), (goes-none 𝓤 H A W 3 (λ _. u64) yes (λ κs x f. refl), (goes-none-slice 𝓤 H A W 3 (2 ∷ []) tt (plain (λ _. u8)) yes, (goes-none 𝓤 H A W 3 (λ _. u64) yes (λ κs x f. refl), tt))))) (self.clauses 𝓤 H A mem run)
       (WpFn 𝓤 H (𝓣 .C) (𝓣 .Λ) code.function) (WpFn-mono 𝓤 H (W .laws) 𝓣 code.function) (walks (𝓣 .C) (𝓣 .Λ) (fmOf 𝓤 H (W .laws) 𝓣) known)
@@ -123,6 +123,6 @@ pub eistulko-feed-spec : {M : Type 1} → stated.statement M
 unfolding code.routine tablesOf
 eistulko-feed-spec 𝓤 H 𝓜 𝓖 𝓡 =
     entered 𝓤 H (tripleOf 𝓤 H (𝓖 .A) self.signature (self.spec 𝓤 H (𝓖 .A) (𝓜 .mem) (𝓡 .run)))
-    (tables 𝓤 H 𝓜 𝓡 code.env .C) (tables 𝓤 H 𝓜 𝓡 code.env .Λ) #board·eistulko-feed code.function (code.unfolded 𝓤 H 𝓜 𝓡)
+    (tables 𝓤 H 𝓜 𝓡 code.env .C) (tables 𝓤 H 𝓜 𝓡 code.env .Λ) #calls·eistulko-feed code.function (code.unfolded 𝓤 H 𝓜 𝓡)
     (meets 𝓤 H (𝓖 .A) (givenOf 𝓤 H 𝓜 𝓖) (𝓜 .mem) (𝓡 .run) (tablesOf 𝓤 H 𝓜 (tables 𝓤 H 𝓜 𝓡 code.env))
-    (cited 𝓤 H (StepC 𝓤 H (𝓖 .A) (𝓜 .mem) (𝓡 .run)) 𝓜 𝓡 code.env #board·step step-def.routine code.calls-board·step (step-thm.met 𝓤 H 𝓜 𝓖 𝓡)))
+    (cited 𝓤 H (StepC 𝓤 H (𝓖 .A) (𝓜 .mem) (𝓡 .run)) 𝓜 𝓡 code.env #calls·step step-def.routine code.calls-calls·step (step-thm.met 𝓤 H 𝓜 𝓖 𝓡)))

@@ -56,7 +56,7 @@ use Rattle.connection.proofs.say_goaway.Symbol.{name as #connection·say-goaway
 use Rattle.connection.proofs.say_goaway.Met as say-thm
 use Rattle.calls.specs.Promises.{SaidGoaway}
 use Rattle.calls.proofs.Conn.{doors-vals, doors-makes, doors-typed, doors-of, with-doors, opens-conn, closes-conn, as-named}
-use Rattle.calls.proofs.eistulko_goaway.Key.{name as #board·eistulko-goaway}
+use Rattle.calls.proofs.eistulko_goaway.Key.{name as #calls·eistulko-goaway}
 use Rattle.calls.proofs.eistulko_goaway as self
 use Rattle.calls.proofs.eistulko_goaway.Statement as stated
 use Rattle.calls.proofs.eistulko_goaway.Code as code
@@ -163,6 +163,6 @@ pub eistulko-goaway-spec : {M : Type 1} → stated.statement M
 unfolding code.routine tablesOf
 eistulko-goaway-spec 𝓤 H 𝓜 𝓖 𝓡 =
     entered 𝓤 H (tripleOf 𝓤 H (𝓖 .A) self.signature (self.spec 𝓤 H (𝓖 .A) (𝓜 .mem) (𝓡 .run)))
-    (tables 𝓤 H 𝓜 𝓡 code.env .C) (tables 𝓤 H 𝓜 𝓡 code.env .Λ) #board·eistulko-goaway code.function (code.unfolded 𝓤 H 𝓜 𝓡)
+    (tables 𝓤 H 𝓜 𝓡 code.env .C) (tables 𝓤 H 𝓜 𝓡 code.env .Λ) #calls·eistulko-goaway code.function (code.unfolded 𝓤 H 𝓜 𝓡)
     (meets 𝓤 H (𝓖 .A) (givenOf 𝓤 H 𝓜 𝓖) (𝓜 .mem) (𝓡 .run) (tablesOf 𝓤 H 𝓜 (tables 𝓤 H 𝓜 𝓡 code.env))
     (cited 𝓤 H (Say 𝓤 H (𝓖 .A) (𝓜 .mem) (𝓡 .run)) 𝓜 𝓡 code.env #connection·say-goaway say-def.routine code.calls-connection·say-goaway (say-thm.met 𝓤 H 𝓜 𝓖 𝓡)))

@@ -55,9 +55,9 @@ use Rattle.calls.proofs.Laws.{R}
 use Rattle.calls.proofs.Conn.{conn-vals, conn-makes, conn-typed, opens-conn, closes-conn}
 use Rattle.calls.proofs.empty as empty
 use Rattle.calls.proofs.empty.Symbol as empty-def
-use Rattle.calls.proofs.empty.Symbol.{name as #board·empty}
+use Rattle.calls.proofs.empty.Symbol.{name as #calls·empty}
 use Rattle.calls.proofs.empty.Met as empty-thm
-use Rattle.calls.proofs.eistulko_start.Key.{name as #board·eistulko-start}
+use Rattle.calls.proofs.eistulko_start.Key.{name as #calls·eistulko-start}
 use Rattle.calls.proofs.eistulko_start as self
 use Rattle.calls.proofs.eistulko_start.Statement as stated
 use Rattle.calls.proofs.eistulko_start.Code as code
@@ -124,7 +124,7 @@ module _ {M : Type 1} (𝓤 : URA M) (H : Heap 𝓤) (A : Atoms 𝓤) (W : Given
       nothing ! $ move ! (3 ∷ 0 ∷ []) $ fjoin ! $ move ! (1 ∷ 2 ∷ []) $ feqI ! (List Val) (vptr b₀ o₀ ∷ []) (vptr b₀ o₀ ∷ []) refl $ fjoin3 ! $ fjoin ! $ frame ! $
       owned ! u64 (Is u64) (uint-makes 𝓤 H A W w64) (t .number) _ (refl, fits) $ done !
 
-  module _ (Cs : Calls 𝓤 H) (Λ : Loops 𝓤 H) (fm : FmC 𝓤 H (W .laws) Cs) (known-begin : Triple 𝓤 (Cs #connection·begin) (Begin 𝓤 H A at-mem run)) (known-empty : Triple 𝓤 (Cs #board·empty) (Empty 𝓤 H A at-mem run)) where
+  module _ (Cs : Calls 𝓤 H) (Λ : Loops 𝓤 H) (fm : FmC 𝓤 H (W .laws) Cs) (known-begin : Triple 𝓤 (Cs #connection·begin) (Begin 𝓤 H A at-mem run)) (known-empty : Triple 𝓤 (Cs #calls·empty) (Empty 𝓤 H A at-mem run)) where
     walk : Is (MutSlice (named 1) κ₁ R) x (v ∷ []) → ent 𝓤 (onEntry 𝓤 H A self.signature κs qs a at) (WpFn 𝓤 H Cs Λ code.function (vptr b₀ o₀ ∷ v ∷ []) Post)
     walk p =
         qed W ((‵ (flft κ₀ q₀) ⊛ ‵ (flft κ₁ q₁) ⊛ ‵ ftrue) ∷ ‵ (owns (MutRef (named 0) κ₀ C.the-row ∷ MutSlice (named 1) κ₁ R ∷ []) a at) ∷ []) ∵ enter ! Cs Λ code.function (vptr b₀ o₀ ∷ v ∷ []) _ $
@@ -175,12 +175,12 @@ module _ {M : Type 1} (𝓤 : URA M) (H : Heap 𝓤) (A : Atoms 𝓤) (W : Given
         by ! (exits t (zs .0) (record { conn-left = ap (λ (z : Begun). z .conn) e; rows-left = e′; answered = ap (λ (z : Begun). z .number) e }) l (fields .0 .1))))))))))))))))))))))
 
 module _ {M : Type 1} (𝓤 : URA M) (H : Heap 𝓤) (A : Atoms 𝓤) (W : Given 𝓤 H A) (at-mem : Memory → SProp 𝓤) (run : Routine → Fun 𝓤) where
-  walks : (Cs : Calls 𝓤 H) (Λ : Loops 𝓤 H) → FmC 𝓤 H (W .laws) Cs → Triple 𝓤 (Cs #connection·begin) (Begin 𝓤 H A at-mem run) → Triple 𝓤 (Cs #board·empty) (Empty 𝓤 H A at-mem run) → Walks 𝓤 H A self.ended stayed (WpFn 𝓤 H Cs Λ code.function) (self.clauses 𝓤 H A at-mem run)
+  walks : (Cs : Calls 𝓤 H) (Λ : Loops 𝓤 H) → FmC 𝓤 H (W .laws) Cs → Triple 𝓤 (Cs #connection·begin) (Begin 𝓤 H A at-mem run) → Triple 𝓤 (Cs #calls·empty) (Empty 𝓤 H A at-mem run) → Walks 𝓤 H A self.ended stayed (WpFn 𝓤 H Cs Λ code.function) (self.clauses 𝓤 H A at-mem run)
   walks Cs Λ fm k₁ k₂ = walked 𝓤 H A self.ended stayed (self.clauses 𝓤 H A at-mem run) (WpFn 𝓤 H Cs Λ code.function) (λ κs. (ptr-vals, (slice-vals, tt))) (λ κs. (mut-tells (named 0) (κs .0) C.the-row, (mut-slice-tells (named 1) (κs .1 .0) R, tt)))
       (λ κs qs bounds a g are. via 𝓤 _ (fst∗ 𝓤 _ (emp 𝓤))
       (walk 𝓤 H A W at-mem run (κs .0) (κs .1 .0) (qs .0) (qs .1 .0) (a .0 .ptr .0) (a .0 .ptr .1) (a .0 .name) (a .0 .now) (a .1 .0) Cs Λ fm k₁ k₂ (are .1 .0)))
 
-  meets : (𝓣 : Tables 𝓤 H) → Triple 𝓤 (𝓣 .C #connection·begin) (Begin 𝓤 H A at-mem run) → Triple 𝓤 (𝓣 .C #board·empty) (Empty 𝓤 H A at-mem run) → Meets 𝓤 H A self.signature (WpFn 𝓤 H (𝓣 .C) (𝓣 .Λ) code.function) (self.spec 𝓤 H A at-mem run)
+  meets : (𝓣 : Tables 𝓤 H) → Triple 𝓤 (𝓣 .C #connection·begin) (Begin 𝓤 H A at-mem run) → Triple 𝓤 (𝓣 .C #calls·empty) (Empty 𝓤 H A at-mem run) → Meets 𝓤 H A self.signature (WpFn 𝓤 H (𝓣 .C) (𝓣 .Λ) code.function) (self.spec 𝓤 H A at-mem run)
   meets 𝓣 k₁ k₂ =
       walk-meets 𝓤 H A self.ended stayed W (goes-ref 𝓤 H A W 2 0 tt (plain (λ _. C.the-row)), (goes-gave-slice 𝓤 H A W 2 1 tt (plain (λ _. R)), tt)) (self.clauses 𝓤 H A at-mem run)
       (WpFn 𝓤 H (𝓣 .C) (𝓣 .Λ) code.function) (WpFn-mono 𝓤 H (W .laws) 𝓣 code.function) (walks (𝓣 .C) (𝓣 .Λ) (fmOf 𝓤 H (W .laws) 𝓣) k₁ k₂)
@@ -189,7 +189,7 @@ pub eistulko-start-spec : {M : Type 1} → stated.statement M
 unfolding code.routine tablesOf
 eistulko-start-spec 𝓤 H 𝓜 𝓖 𝓡 =
     entered 𝓤 H (tripleOf 𝓤 H (𝓖 .A) self.signature (self.spec 𝓤 H (𝓖 .A) (𝓜 .mem) (𝓡 .run)))
-    (tables 𝓤 H 𝓜 𝓡 code.env .C) (tables 𝓤 H 𝓜 𝓡 code.env .Λ) #board·eistulko-start code.function (code.unfolded 𝓤 H 𝓜 𝓡)
+    (tables 𝓤 H 𝓜 𝓡 code.env .C) (tables 𝓤 H 𝓜 𝓡 code.env .Λ) #calls·eistulko-start code.function (code.unfolded 𝓤 H 𝓜 𝓡)
     (meets 𝓤 H (𝓖 .A) (givenOf 𝓤 H 𝓜 𝓖) (𝓜 .mem) (𝓡 .run) (tablesOf 𝓤 H 𝓜 (tables 𝓤 H 𝓜 𝓡 code.env))
     (cited 𝓤 H (Begin 𝓤 H (𝓖 .A) (𝓜 .mem) (𝓡 .run)) 𝓜 𝓡 code.env #connection·begin begin-def.routine code.calls-connection·begin (begin-thm.met 𝓤 H 𝓜 𝓖 𝓡))
-    (cited 𝓤 H (Empty 𝓤 H (𝓖 .A) (𝓜 .mem) (𝓡 .run)) 𝓜 𝓡 code.env #board·empty empty-def.routine code.calls-board·empty (empty-thm.met 𝓤 H 𝓜 𝓖 𝓡)))
+    (cited 𝓤 H (Empty 𝓤 H (𝓖 .A) (𝓜 .mem) (𝓡 .run)) 𝓜 𝓡 code.env #calls·empty empty-def.routine code.calls-calls·empty (empty-thm.met 𝓤 H 𝓜 𝓖 𝓡)))

@@ -52,7 +52,7 @@ use Rattle.connection.proofs.swept.Symbol.{name as #connection·swept}
 use Rattle.connection.proofs.swept.Met as swept-thm
 use Rattle.calls.specs.Rows.{changed, changed-none, changed-length, changed-more, changed-all}
 use Rattle.calls.proofs.Laws.{R, size, vals, tells, rec-shows, rec-makes, typed, spelt-rec, at-val, offset-fits, next-fits, falls, tail}
-use Rattle.calls.proofs.empty.Key.{name as #board·empty}
+use Rattle.calls.proofs.empty.Key.{name as #calls·empty}
 use Rattle.calls.proofs.empty as empty
 use Rattle.calls.proofs.empty.Statement as stated
 use Rattle.calls.proofs.empty.Code as code
@@ -209,6 +209,6 @@ pub empty-spec : {M : Type 1} → stated.statement M
 unfolding code.routine tablesOf
 empty-spec 𝓤 H 𝓜 𝓖 𝓡 =
     entered 𝓤 H (tripleOf 𝓤 H (𝓖 .A) empty.signature (empty.spec 𝓤 H (𝓖 .A) (𝓜 .mem) (𝓡 .run)))
-    (tables 𝓤 H 𝓜 𝓡 code.env .C) (tables 𝓤 H 𝓜 𝓡 code.env .Λ) #board·empty code.function (code.unfolded 𝓤 H 𝓜 𝓡)
+    (tables 𝓤 H 𝓜 𝓡 code.env .C) (tables 𝓤 H 𝓜 𝓡 code.env .Λ) #calls·empty code.function (code.unfolded 𝓤 H 𝓜 𝓡)
     (meets 𝓤 H (𝓖 .A) (givenOf 𝓤 H 𝓜 𝓖) (𝓜 .mem) (𝓡 .run) (tablesOf 𝓤 H 𝓜 (tables 𝓤 H 𝓜 𝓡 code.env))
     (cited 𝓤 H (SweptC 𝓤 H (𝓖 .A) (𝓜 .mem) (𝓡 .run)) 𝓜 𝓡 code.env #connection·swept swept-def.routine code.calls-connection·swept (swept-thm.met 𝓤 H 𝓜 𝓖 𝓡)))

@@ -37,7 +37,7 @@ use denote.Triple.Walked.{says, Stays, stay-none, stay-none-slice, walkOf, goes-
 use denote.Exit.{yes}
 use Rattle.record.specs.declared.Record.{Record}
 use Rattle.calls.proofs.Laws.{R, size, vals, val, tells, rec-shows, rec-makes, rec-copy, typed, offset-fits}
-use Rattle.calls.proofs.fetch.Key.{name as #board·fetch}
+use Rattle.calls.proofs.fetch.Key.{name as #calls·fetch}
 use Rattle.calls.proofs.fetch as fetch
 use Rattle.calls.proofs.fetch.Statement as stated
 use Rattle.calls.proofs.fetch.Code as code
@@ -125,5 +125,5 @@ pub fetch-spec : {M : Type 1} → stated.statement M
 unfolding code.routine tablesOf
 fetch-spec 𝓤 H 𝓜 𝓖 𝓡 =
     entered 𝓤 H (tripleOf 𝓤 H (𝓖 .A) fetch.signature (fetch.spec 𝓤 H (𝓖 .A) (𝓜 .mem) (𝓡 .run)))
-    (tables 𝓤 H 𝓜 𝓡 code.env .C) (tables 𝓤 H 𝓜 𝓡 code.env .Λ) #board·fetch code.function (code.unfolded 𝓤 H 𝓜 𝓡)
+    (tables 𝓤 H 𝓜 𝓡 code.env .C) (tables 𝓤 H 𝓜 𝓡 code.env .Λ) #calls·fetch code.function (code.unfolded 𝓤 H 𝓜 𝓡)
     (fetch-meets 𝓤 H (𝓖 .A) (givenOf 𝓤 H 𝓜 𝓖) (𝓜 .mem) (𝓡 .run) (tablesOf 𝓤 H 𝓜 (tables 𝓤 H 𝓜 𝓡 code.env)))

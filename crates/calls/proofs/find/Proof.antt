@@ -57,7 +57,7 @@ use Rattle.connection.proofs.wanted.Met as wanted-thm
 use Rattle.calls.specs.Lent.{FirstIn}
 use Rattle.calls.specs.Search.{held-yes, held-no, Clear, clear-none, clear-more, hit, miss}
 use Rattle.calls.proofs.Laws.{R, size, vals, tells, rec-shows, rec-makes, rec-copy, typed, offset-fits, next-fits, falls, tail}
-use Rattle.calls.proofs.find.Key.{name as #board·find}
+use Rattle.calls.proofs.find.Key.{name as #calls·find}
 use Rattle.calls.proofs.find as find
 use Rattle.calls.proofs.find.Statement as stated
 use Rattle.calls.proofs.find.Code as code
@@ -222,6 +222,6 @@ pub find-spec : {M : Type 1} → stated.statement M
 unfolding code.routine tablesOf
 find-spec 𝓤 H 𝓜 𝓖 𝓡 =
     entered 𝓤 H (tripleOf 𝓤 H (𝓖 .A) find.signature (find.spec 𝓤 H (𝓖 .A) (𝓜 .mem) (𝓡 .run)))
-    (tables 𝓤 H 𝓜 𝓡 code.env .C) (tables 𝓤 H 𝓜 𝓡 code.env .Λ) #board·find code.function (code.unfolded 𝓤 H 𝓜 𝓡)
+    (tables 𝓤 H 𝓜 𝓡 code.env .C) (tables 𝓤 H 𝓜 𝓡 code.env .Λ) #calls·find code.function (code.unfolded 𝓤 H 𝓜 𝓡)
     (find-meets 𝓤 H (𝓖 .A) (givenOf 𝓤 H 𝓜 𝓖) (𝓜 .mem) (𝓡 .run) (tablesOf 𝓤 H 𝓜 (tables 𝓤 H 𝓜 𝓡 code.env))
     (cited 𝓤 H (WantedC 𝓤 H (𝓖 .A) (𝓜 .mem) (𝓡 .run)) 𝓜 𝓡 code.env #connection·wanted wanted-def.routine code.calls-connection·wanted (wanted-thm.met 𝓤 H 𝓜 𝓖 𝓡)))

@@ -51,9 +51,9 @@ use Rattle.calls.specs.Lent.{foundAt}
 use Rattle.calls.proofs.Laws.{R, vals, val, rec-shows, rec-makes, typed, spelt-rec, at-val}
 use Rattle.calls.proofs.fetch as fetch
 use Rattle.calls.proofs.fetch.Symbol as fetch-def
-use Rattle.calls.proofs.fetch.Symbol.{name as #board·fetch}
+use Rattle.calls.proofs.fetch.Symbol.{name as #calls·fetch}
 use Rattle.calls.proofs.fetch.Met as fetch-thm
-use Rattle.calls.proofs.pick.Key.{name as #board·pick}
+use Rattle.calls.proofs.pick.Key.{name as #calls·pick}
 use Rattle.calls.proofs.pick as self
 use Rattle.calls.proofs.pick.Statement as stated
 use Rattle.calls.proofs.pick.Code as code
@@ -123,7 +123,7 @@ module _ {M : Type 1} (𝓤 : URA M) (H : Heap 𝓤) (A : Atoms 𝓤) (W : Given
       frame ! $ nothing ! $ owned ! usize (Is usize) (uint-makes 𝓤 H A W w64) i _ (refl, i-fits) $ fjoin ! $ move ! (1 ∷ 0 ∷ []) $ fjoin ! $ frame ! $
       owned ! F.the-row (Is F.the-row) (LL.makes F.the-type F′.the-plain 𝓤 H A) (found r) _ is $ done !
 
-  module _ (C : Calls 𝓤 H) (Λ : Loops 𝓤 H) (fm : FmC 𝓤 H (W .laws) C) (known-free : Triple 𝓤 (C #record·free) (Free 𝓤 H A mem run)) (known-fetch : Triple 𝓤 (C #board·fetch) (Fetch 𝓤 H A mem run)) where
+  module _ (C : Calls 𝓤 H) (Λ : Loops 𝓤 H) (fm : FmC 𝓤 H (W .laws) C) (known-free : Triple 𝓤 (C #record·free) (Free 𝓤 H A mem run)) (known-fetch : Triple 𝓤 (C #calls·fetch) (Fetch 𝓤 H A mem run)) where
     walk : Is (ShrSlice (named 0) κ R) s (v ∷ []) → ent 𝓤 (onEntry 𝓤 H A self.signature (κ, tt) (q, tt) (s, (i, tt)) (v ∷ [], (vint w64 i ∷ [], tt))) (WpFn 𝓤 H C Λ code.function (v ∷ vint w64 i ∷ []) Post)
     walk p =
         qed W ((‵ (flft κ q) ⊛ ‵ ftrue) ∷ ‵ (owns (ShrSlice (named 0) κ R ∷ usize ∷ []) (s, (i, tt)) (v ∷ [], (vint w64 i ∷ [], tt))) ∷ []) ∵ enter ! C Λ code.function (v ∷ vint w64 i ∷ []) _ $
@@ -165,13 +165,13 @@ module _ {M : Type 1} (𝓤 : URA M) (H : Heap 𝓤) (A : Atoms 𝓤) (W : Given
         by ! (exits r (ap found (e″ ∙ ap (getD ys i) e′)) (made r (p .0 .1 .0) (at-val r u″ is″)))))))))))))))))
 
 module _ {M : Type 1} (𝓤 : URA M) (H : Heap 𝓤) (A : Atoms 𝓤) (W : Given 𝓤 H A) (mem : Memory → SProp 𝓤) (run : Routine → Fun 𝓤) where
-  pick-walks : (C : Calls 𝓤 H) (Λ : Loops 𝓤 H) → FmC 𝓤 H (W .laws) C → Triple 𝓤 (C #record·free) (Free 𝓤 H A mem run) → Triple 𝓤 (C #board·fetch) (Fetch 𝓤 H A mem run)
+  pick-walks : (C : Calls 𝓤 H) (Λ : Loops 𝓤 H) → FmC 𝓤 H (W .laws) C → Triple 𝓤 (C #record·free) (Free 𝓤 H A mem run) → Triple 𝓤 (C #calls·fetch) (Fetch 𝓤 H A mem run)
       → Walks 𝓤 H A self.ended stayed (WpFn 𝓤 H C Λ code.function) (self.clauses 𝓤 H A mem run)
   pick-walks C Λ fm k₁ k₂ = walked 𝓤 H A self.ended stayed (self.clauses 𝓤 H A mem run) (WpFn 𝓤 H C Λ code.function) (λ κs. (slice-vals, (uint-vals w64, tt))) (λ κs. (shr-slice-tells (named 0) (κs .0) R, (uint-tells w64, tt)))
       (λ κs qs bounds a g are. via 𝓤 _ (fst∗ 𝓤 _ (emp 𝓤)) (walk 𝓤 H A W mem run (κs .0) (qs .0) (a .0) (a .1 .0) (are .1 .0 .1) C Λ fm k₁ k₂ (are .0)))
 
 pick-meets : {M : Type 1} (𝓤 : URA M) (H : Heap 𝓤) (A : Atoms 𝓤) (W : Given 𝓤 H A) (mem : Memory → SProp 𝓤) (run : Routine → Fun 𝓤) (𝓣 : Tables 𝓤 H)
-    → Triple 𝓤 (𝓣 .C #record·free) (Free 𝓤 H A mem run) → Triple 𝓤 (𝓣 .C #board·fetch) (Fetch 𝓤 H A mem run)
+    → Triple 𝓤 (𝓣 .C #record·free) (Free 𝓤 H A mem run) → Triple 𝓤 (𝓣 .C #calls·fetch) (Fetch 𝓤 H A mem run)
     → Meets 𝓤 H A self.signature (WpFn 𝓤 H (𝓣 .C) (𝓣 .Λ) code.function) (self.spec 𝓤 H A mem run)
 pick-meets 𝓤 H A W mem run 𝓣 k₁ k₂ = walk-meets 𝓤 H A self.ended stayed W (goes-none-slice 𝓤 H A W 1 (0 ∷ []) tt (plain (λ _. R)) yes, (goes-none 𝓤 H A W 1 (λ _. usize) yes (λ κs x f. refl), tt)) (self.clauses 𝓤 H A mem run) (WpFn 𝓤 H (𝓣 .C) (𝓣 .Λ) code.function) (WpFn-mono 𝓤 H (W .laws) 𝓣 code.function)
     (pick-walks 𝓤 H A W mem run (𝓣 .C) (𝓣 .Λ) (fmOf 𝓤 H (W .laws) 𝓣) k₁ k₂)
@@ -180,7 +180,7 @@ pub pick-spec : {M : Type 1} → stated.statement M
 unfolding code.routine tablesOf
 pick-spec 𝓤 H 𝓜 𝓖 𝓡 =
     entered 𝓤 H (tripleOf 𝓤 H (𝓖 .A) self.signature (self.spec 𝓤 H (𝓖 .A) (𝓜 .mem) (𝓡 .run)))
-    (tables 𝓤 H 𝓜 𝓡 code.env .C) (tables 𝓤 H 𝓜 𝓡 code.env .Λ) #board·pick code.function (code.unfolded 𝓤 H 𝓜 𝓡)
+    (tables 𝓤 H 𝓜 𝓡 code.env .C) (tables 𝓤 H 𝓜 𝓡 code.env .Λ) #calls·pick code.function (code.unfolded 𝓤 H 𝓜 𝓡)
     (pick-meets 𝓤 H (𝓖 .A) (givenOf 𝓤 H 𝓜 𝓖) (𝓜 .mem) (𝓡 .run) (tablesOf 𝓤 H 𝓜 (tables 𝓤 H 𝓜 𝓡 code.env))
     (cited 𝓤 H (Free 𝓤 H (𝓖 .A) (𝓜 .mem) (𝓡 .run)) 𝓜 𝓡 code.env #record·free free-def.routine code.calls-record·free (free-thm.met 𝓤 H 𝓜 𝓖 𝓡))
-    (cited 𝓤 H (Fetch 𝓤 H (𝓖 .A) (𝓜 .mem) (𝓡 .run)) 𝓜 𝓡 code.env #board·fetch fetch-def.routine code.calls-board·fetch (fetch-thm.met 𝓤 H 𝓜 𝓖 𝓡)))
+    (cited 𝓤 H (Fetch 𝓤 H (𝓖 .A) (𝓜 .mem) (𝓡 .run)) 𝓜 𝓡 code.env #calls·fetch fetch-def.routine code.calls-calls·fetch (fetch-thm.met 𝓤 H 𝓜 𝓖 𝓡)))

@@ -75,7 +75,7 @@ use Rattle.connection.proofs.overhear.Symbol.{name as #connection·overhear}
 use Rattle.connection.proofs.overhear.Met as overhear-thm
 use Rattle.calls.proofs.Laws.{R, vals, rec-makes, then-of}
 use Rattle.calls.proofs.Conn.{conn-vals, conn-makes, conn-typed, doors-vals, doors-makes, doors-typed, doors-of, with-doors, opens-conn, closes-conn, as-named}
-use Rattle.calls.proofs.settle.Key.{name as #board·settle}
+use Rattle.calls.proofs.settle.Key.{name as #calls·settle}
 use Rattle.calls.proofs.settle as self
 use Rattle.calls.proofs.settle.Statement as stated
 use Rattle.calls.proofs.settle.Code as code
@@ -298,7 +298,7 @@ pub settle-spec : {M : Type 1} → stated.statement M
 unfolding code.routine tablesOf
 settle-spec 𝓤 H 𝓜 𝓖 𝓡 =
     entered 𝓤 H (tripleOf 𝓤 H (𝓖 .A) self.signature (self.spec 𝓤 H (𝓖 .A) (𝓜 .mem) (𝓡 .run)))
-    (tables 𝓤 H 𝓜 𝓡 code.env .C) (tables 𝓤 H 𝓜 𝓡 code.env .Λ) #board·settle code.function (code.unfolded 𝓤 H 𝓜 𝓡)
+    (tables 𝓤 H 𝓜 𝓡 code.env .C) (tables 𝓤 H 𝓜 𝓡 code.env .Λ) #calls·settle code.function (code.unfolded 𝓤 H 𝓜 𝓡)
     (meets 𝓤 H (𝓖 .A) (givenOf 𝓤 H 𝓜 𝓖) (𝓜 .mem) (𝓡 .run) (tablesOf 𝓤 H 𝓜 (tables 𝓤 H 𝓜 𝓡 code.env))
     (cited 𝓤 H (Answer 𝓤 H (𝓖 .A) (𝓜 .mem) (𝓡 .run)) 𝓜 𝓡 code.env #connection·answer answer-def.routine code.calls-connection·answer (answer-thm.met 𝓤 H 𝓜 𝓖 𝓡))
     (cited 𝓤 H (Overhear 𝓤 H (𝓖 .A) (𝓜 .mem) (𝓡 .run)) 𝓜 𝓡 code.env #connection·overhear overhear-def.routine code.calls-connection·overhear (overhear-thm.met 𝓤 H 𝓜 𝓖 𝓡)))

@@ -73,19 +73,19 @@ use Rattle.calls.proofs.Conn.{doors-of, opens-conn, closes-conn}
 use Rattle.calls.proofs.Lends.{conn-val, rows-val, bytes-val, OwnConn, OwnRow, OwnPiece}
 use Rattle.calls.proofs.Calls.{FindC, PickC, StepAtC, calls-find, calls-pick, gathered, calls-step-at}
 use Rattle.calls.proofs.find.Symbol as find-def
-use Rattle.calls.proofs.find.Symbol.{name as #board·find}
+use Rattle.calls.proofs.find.Symbol.{name as #calls·find}
 use Rattle.calls.proofs.find.Met as find-thm
 use Rattle.calls.proofs.pick.Symbol as pick-def
-use Rattle.calls.proofs.pick.Symbol.{name as #board·pick}
+use Rattle.calls.proofs.pick.Symbol.{name as #calls·pick}
 use Rattle.calls.proofs.pick.Met as pick-thm
 use Rattle.calls.proofs.step_at.Symbol as step-at-def
-use Rattle.calls.proofs.step_at.Symbol.{name as #board·step-at}
+use Rattle.calls.proofs.step_at.Symbol.{name as #calls·step-at}
 use Rattle.calls.proofs.step_at.Met as step-at-thm
 use Rattle.calls.proofs.store_content as store
 use Rattle.calls.proofs.store_content.Symbol as store-def
-use Rattle.calls.proofs.store_content.Symbol.{name as #board·store-content}
+use Rattle.calls.proofs.store_content.Symbol.{name as #calls·store-content}
 use Rattle.calls.proofs.store_content.Met as store-thm
-use Rattle.calls.proofs.step.Key.{name as #board·step}
+use Rattle.calls.proofs.step.Key.{name as #calls·step}
 use Rattle.calls.proofs.step as self
 use Rattle.calls.proofs.step.Statement as stated
 use Rattle.calls.proofs.step.Code as code
@@ -178,7 +178,7 @@ module _ {M : Type 1} (𝓤 : URA M) (H : Heap 𝓤) (A : Atoms 𝓤) (W : Given
       suffices ! _ (ends-at 𝓤 H A self.ended stayed (self.clauses 𝓤 H A mem run) W ((κs, qs, tt, a, at), tt) u r (c′, (zs, (tt, (tt, (tt, (tt, tt)))))) (tt, (l, (tt, (tt, (tt, (tt, tt))))))) $ says ! e $ move ! (1 ∷ []) $ frame ! $
       nothing ! $ move ! (4 ∷ 0 ∷ []) $ fjoin ! $ owned ! u64 (Is u64) (uint-makes 𝓤 H A W w64) allow _ (refl, allow-fits) $ fjoin ! $ owned ! u64 (Is u64) (uint-makes 𝓤 H A W w64) id _ (refl, id-fits) $ fjoin ! $ owned ! u64 (Is u64) (uint-makes 𝓤 H A W w64) k _ (refl, k-fits) $ fjoin ! $ move ! (3 ∷ 0 ∷ []) $ fjoin ! $ move ! (2 ∷ 0 ∷ []) $ fjoin ! $ frame ! $ done !
 
-  module _ (Cs : Calls 𝓤 H) (Λ : Loops 𝓤 H) (fm : FmC 𝓤 H (W .laws) Cs) (known-find : Triple 𝓤 (Cs #board·find) (FindC 𝓤 H A mem run)) (known-pick : Triple 𝓤 (Cs #board·pick) (PickC 𝓤 H A mem run)) (known-brisk : Triple 𝓤 (Cs #connection·brisk) (Brisk 𝓤 H A mem run)) (known-store : Triple 𝓤 (Cs #board·store-content) (Store 𝓤 H A mem run)) (known-at : Triple 𝓤 (Cs #board·step-at) (StepAtC 𝓤 H A mem run)) where
+  module _ (Cs : Calls 𝓤 H) (Λ : Loops 𝓤 H) (fm : FmC 𝓤 H (W .laws) Cs) (known-find : Triple 𝓤 (Cs #calls·find) (FindC 𝓤 H A mem run)) (known-pick : Triple 𝓤 (Cs #calls·pick) (PickC 𝓤 H A mem run)) (known-brisk : Triple 𝓤 (Cs #connection·brisk) (Brisk 𝓤 H A mem run)) (known-store : Triple 𝓤 (Cs #calls·store-content) (Store 𝓤 H A mem run)) (known-at : Triple 𝓤 (Cs #calls·step-at) (StepAtC 𝓤 H A mem run)) where
     -- where the locals lie
     module _ (l0 l1 l2 l3 l4 l5 l6 l7 l8 l9 l10 l11 l12 l13 l14 l15 l16 l17 l18 l19 l20 l21 l22 l23 l24 l25 l26 l27 l28 l29 l30 : ℕ) where
       abbrev En : Env 𝓤 H
@@ -330,7 +330,7 @@ module _ {M : Type 1} (𝓤 : URA M) (H : Heap 𝓤) (A : Atoms 𝓤) (W : Given
         wholly l0 l1 l2 l3 l4 l5 l6 l7 l8 l9 l10 l11 l12 l13 l14 l15 l16 l17 l18 l19 l20 l21 l22 l23 l24 l25 l26 l27 l28 l29 l30 p)))))))))))))))))))))))))))))))
 
 module _ {M : Type 1} (𝓤 : URA M) (H : Heap 𝓤) (A : Atoms 𝓤) (W : Given 𝓤 H A) (mem : Memory → SProp 𝓤) (run : Routine → Fun 𝓤) where
-  walks : (Cs : Calls 𝓤 H) (Λ : Loops 𝓤 H) → FmC 𝓤 H (W .laws) Cs → Triple 𝓤 (Cs #board·find) (FindC 𝓤 H A mem run) → Triple 𝓤 (Cs #board·pick) (PickC 𝓤 H A mem run) → Triple 𝓤 (Cs #connection·brisk) (Brisk 𝓤 H A mem run) → Triple 𝓤 (Cs #board·store-content) (Store 𝓤 H A mem run) → Triple 𝓤 (Cs #board·step-at) (StepAtC 𝓤 H A mem run)
+  walks : (Cs : Calls 𝓤 H) (Λ : Loops 𝓤 H) → FmC 𝓤 H (W .laws) Cs → Triple 𝓤 (Cs #calls·find) (FindC 𝓤 H A mem run) → Triple 𝓤 (Cs #calls·pick) (PickC 𝓤 H A mem run) → Triple 𝓤 (Cs #connection·brisk) (Brisk 𝓤 H A mem run) → Triple 𝓤 (Cs #calls·store-content) (Store 𝓤 H A mem run) → Triple 𝓤 (Cs #calls·step-at) (StepAtC 𝓤 H A mem run)
       → Walks 𝓤 H A self.ended stayed (WpFn 𝓤 H Cs Λ code.function) (self.clauses 𝓤 H A mem run)
   walks Cs Λ fm k₁ k₂ k₃ k₄ k₅ = walked 𝓤 H A self.ended stayed (self.clauses 𝓤 H A mem run) (WpFn 𝓤 H Cs Λ code.function) (λ κs. (ptr-vals, (slice-vals, (uint-vals w64, (uint-vals w64, (uint-vals w64, (slice-vals, tt)))))))
       (λ κs. (mut-tells (named 0) (κs .0) C.the-row, (mut-slice-tells (named 1) (κs .1 .0) R, (uint-tells w64, (uint-tells w64, (uint-tells w64, (shr-slice-tells (named 2) (κs .1 .1 .0) u8, tt)))))))
@@ -338,7 +338,7 @@ module _ {M : Type 1} (𝓤 : URA M) (H : Heap 𝓤) (A : Atoms 𝓤) (W : Given
       (walk 𝓤 H A W mem run (κs .0) (κs .1 .0) (κs .1 .1 .0) (qs .0) (qs .1 .0) (qs .1 .1 .0) (a .0 .ptr .0) (a .0 .ptr .1) (a .0 .name) (a .0 .now) (a .1 .0 .ptr .0) (a .1 .0 .ptr .1) (a .1 .0 .name) (a .1 .0 .now) (a .1 .1 .0) (a .1 .1 .1 .0) (a .1 .1 .1 .1 .0) (a .1 .1 .1 .1 .1 .0)
       (are .1 .1 .0 .1) (are .1 .1 .1 .0 .1) (are .1 .1 .1 .1 .0 .1) Cs Λ fm k₁ k₂ k₃ k₄ k₅ (are .1 .0) (are .1 .1 .1 .1 .1 .0)))
 
-  meets : (𝓣 : Tables 𝓤 H) → Triple 𝓤 (𝓣 .C #board·find) (FindC 𝓤 H A mem run) → Triple 𝓤 (𝓣 .C #board·pick) (PickC 𝓤 H A mem run) → Triple 𝓤 (𝓣 .C #connection·brisk) (Brisk 𝓤 H A mem run) → Triple 𝓤 (𝓣 .C #board·store-content) (Store 𝓤 H A mem run) → Triple 𝓤 (𝓣 .C #board·step-at) (StepAtC 𝓤 H A mem run)
+  meets : (𝓣 : Tables 𝓤 H) → Triple 𝓤 (𝓣 .C #calls·find) (FindC 𝓤 H A mem run) → Triple 𝓤 (𝓣 .C #calls·pick) (PickC 𝓤 H A mem run) → Triple 𝓤 (𝓣 .C #connection·brisk) (Brisk 𝓤 H A mem run) → Triple 𝓤 (𝓣 .C #calls·store-content) (Store 𝓤 H A mem run) → Triple 𝓤 (𝓣 .C #calls·step-at) (StepAtC 𝓤 H A mem run)
       → Meets 𝓤 H A self.signature (WpFn 𝓤 H (𝓣 .C) (𝓣 .Λ) code.function) (self.spec 𝓤 H A mem run)
   meets 𝓣 k₁ k₂ k₃ k₄ k₅ =
       walk-meets 𝓤 H A self.ended stayed W (goes-gave-ref 𝓤 H A W 3 0 tt (plain (λ _. C.the-row)), (goes-gave-slice 𝓤 H A W 3 1 tt (plain (λ _. R)), (goes-none 𝓤 H A W 3 (λ _. u64) yes (λ κs x f. refl), (goes-none 𝓤 H A W 3 (λ _. u64) yes (λ κs x f. refl), (goes-none 𝓤 H A W 3 (λ _. u64) yes (λ κs x f. refl), (goes-none-slice 𝓤 H A W 3 (2 ∷ []) tt (plain (λ _. u8)) yes, tt)))))) (self.clauses 𝓤 H A mem run)
@@ -348,10 +348,10 @@ pub step-spec : {M : Type 1} → stated.statement M
 unfolding code.routine tablesOf
 step-spec 𝓤 H 𝓜 𝓖 𝓡 =
     entered 𝓤 H (tripleOf 𝓤 H (𝓖 .A) self.signature (self.spec 𝓤 H (𝓖 .A) (𝓜 .mem) (𝓡 .run)))
-    (tables 𝓤 H 𝓜 𝓡 code.env .C) (tables 𝓤 H 𝓜 𝓡 code.env .Λ) #board·step code.function (code.unfolded 𝓤 H 𝓜 𝓡)
+    (tables 𝓤 H 𝓜 𝓡 code.env .C) (tables 𝓤 H 𝓜 𝓡 code.env .Λ) #calls·step code.function (code.unfolded 𝓤 H 𝓜 𝓡)
     (meets 𝓤 H (𝓖 .A) (givenOf 𝓤 H 𝓜 𝓖) (𝓜 .mem) (𝓡 .run) (tablesOf 𝓤 H 𝓜 (tables 𝓤 H 𝓜 𝓡 code.env))
-    (cited 𝓤 H (FindC 𝓤 H (𝓖 .A) (𝓜 .mem) (𝓡 .run)) 𝓜 𝓡 code.env #board·find find-def.routine code.calls-board·find (find-thm.met 𝓤 H 𝓜 𝓖 𝓡))
-    (cited 𝓤 H (PickC 𝓤 H (𝓖 .A) (𝓜 .mem) (𝓡 .run)) 𝓜 𝓡 code.env #board·pick pick-def.routine code.calls-board·pick (pick-thm.met 𝓤 H 𝓜 𝓖 𝓡))
+    (cited 𝓤 H (FindC 𝓤 H (𝓖 .A) (𝓜 .mem) (𝓡 .run)) 𝓜 𝓡 code.env #calls·find find-def.routine code.calls-calls·find (find-thm.met 𝓤 H 𝓜 𝓖 𝓡))
+    (cited 𝓤 H (PickC 𝓤 H (𝓖 .A) (𝓜 .mem) (𝓡 .run)) 𝓜 𝓡 code.env #calls·pick pick-def.routine code.calls-calls·pick (pick-thm.met 𝓤 H 𝓜 𝓖 𝓡))
     (cited 𝓤 H (Brisk 𝓤 H (𝓖 .A) (𝓜 .mem) (𝓡 .run)) 𝓜 𝓡 code.env #connection·brisk brisk-def.routine code.calls-connection·brisk (brisk-thm.met 𝓤 H 𝓜 𝓖 𝓡))
-    (cited 𝓤 H (Store 𝓤 H (𝓖 .A) (𝓜 .mem) (𝓡 .run)) 𝓜 𝓡 code.env #board·store-content store-def.routine code.calls-board·store-content (store-thm.met 𝓤 H 𝓜 𝓖 𝓡))
-    (cited 𝓤 H (StepAtC 𝓤 H (𝓖 .A) (𝓜 .mem) (𝓡 .run)) 𝓜 𝓡 code.env #board·step-at step-at-def.routine code.calls-board·step-at (step-at-thm.met 𝓤 H 𝓜 𝓖 𝓡)))
+    (cited 𝓤 H (Store 𝓤 H (𝓖 .A) (𝓜 .mem) (𝓡 .run)) 𝓜 𝓡 code.env #calls·store-content store-def.routine code.calls-calls·store-content (store-thm.met 𝓤 H 𝓜 𝓖 𝓡))
+    (cited 𝓤 H (StepAtC 𝓤 H (𝓖 .A) (𝓜 .mem) (𝓡 .run)) 𝓜 𝓡 code.env #calls·step-at step-at-def.routine code.calls-calls·step-at (step-at-thm.met 𝓤 H 𝓜 𝓖 𝓡)))

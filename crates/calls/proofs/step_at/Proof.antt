@@ -59,17 +59,17 @@ use Rattle.calls.proofs.Laws.{R, vals, rec-makes}
 use Rattle.calls.proofs.Lends.{conn-val, rows-val, bytes-val}
 use Rattle.calls.proofs.Calls.{PickC, calls-pick}
 use Rattle.calls.proofs.pick.Symbol as pick-def
-use Rattle.calls.proofs.pick.Symbol.{name as #board·pick}
+use Rattle.calls.proofs.pick.Symbol.{name as #calls·pick}
 use Rattle.calls.proofs.pick.Met as pick-thm
 use Rattle.calls.proofs.settle as settle
 use Rattle.calls.proofs.settle.Symbol as settle-def
-use Rattle.calls.proofs.settle.Symbol.{name as #board·settle}
+use Rattle.calls.proofs.settle.Symbol.{name as #calls·settle}
 use Rattle.calls.proofs.settle.Met as settle-thm
 use Rattle.calls.proofs.store as store
 use Rattle.calls.proofs.store.Symbol as store-def
-use Rattle.calls.proofs.store.Symbol.{name as #board·store}
+use Rattle.calls.proofs.store.Symbol.{name as #calls·store}
 use Rattle.calls.proofs.store.Met as store-thm
-use Rattle.calls.proofs.step_at.Key.{name as #board·step-at}
+use Rattle.calls.proofs.step_at.Key.{name as #calls·step-at}
 use Rattle.calls.proofs.step_at as self
 use Rattle.calls.proofs.step_at.Statement as stated
 use Rattle.calls.proofs.step_at.Code as code
@@ -166,7 +166,7 @@ module _ {M : Type 1} (𝓤 : URA M) (H : Heap 𝓤) (A : Atoms 𝓤) (W : Given
       nothing ! $ move ! (3 ∷ 0 ∷ []) $ fjoin ! $ owned ! u64 (Is u64) (uint-makes 𝓤 H A W w64) allow _ (refl, allow-fits) $ fjoin ! $ owned ! u64 (Is u64) (uint-makes 𝓤 H A W w64) id _ (refl, id-fits) $ fjoin ! $ owned ! u64 (Is u64) (uint-makes 𝓤 H A W w64) k _ (refl, k-fits) $ fjoin ! $ owned ! usize (Is usize) (uint-makes 𝓤 H A W w64) i _ (refl, i-fits) $ fjoin ! $ move ! (1 ∷ 0 ∷ []) $ fjoin ! $ move ! (1 ∷ 0 ∷ []) $ fjoin ! $ frame ! $
       owned ! N.the-row (Is N.the-row) (LL.makes N.the-type N′.the-plain 𝓤 H A) (t .report) _ is $ done !
 
-  module _ (Cs : Calls 𝓤 H) (Λ : Loops 𝓤 H) (fm : FmC 𝓤 H (W .laws) Cs) (known-pick : Triple 𝓤 (Cs #board·pick) (PickC 𝓤 H A at-mem run)) (known-settle : Triple 𝓤 (Cs #board·settle) (Settle 𝓤 H A at-mem run)) (known-store : Triple 𝓤 (Cs #board·store) (Store 𝓤 H A at-mem run)) where
+  module _ (Cs : Calls 𝓤 H) (Λ : Loops 𝓤 H) (fm : FmC 𝓤 H (W .laws) Cs) (known-pick : Triple 𝓤 (Cs #calls·pick) (PickC 𝓤 H A at-mem run)) (known-settle : Triple 𝓤 (Cs #calls·settle) (Settle 𝓤 H A at-mem run)) (known-store : Triple 𝓤 (Cs #calls·store) (Store 𝓤 H A at-mem run)) where
     walk : Is (MutSlice (named 1) κ₁ R) x (v ∷ []) → Is (ShrSlice (named 2) κ₂ u8) piece (pv ∷ []) → ent 𝓤 (onEntry 𝓤 H A self.signature κs qs a at) (WpFn 𝓤 H Cs Λ code.function (conn-val cr ∷ v ∷ vint w64 i ∷ vint w64 k ∷ vint w64 id ∷ vint w64 allow ∷ pv ∷ []) Post)
     walk p p′ =
         qed W ((‵ (flft κ₀ q₀) ⊛ ‵ (flft κ₁ q₁) ⊛ ‵ (flft κ₂ q₂) ⊛ ‵ ftrue) ∷ ‵ (owns (MutRef (named 0) κ₀ C.the-row ∷ MutSlice (named 1) κ₁ R ∷ usize ∷ u64 ∷ u64 ∷ u64 ∷ ShrSlice (named 2) κ₂ u8 ∷ []) a at) ∷ []) ∵
@@ -232,7 +232,7 @@ module _ {M : Type 1} (𝓤 : URA M) (H : Heap 𝓤) (A : Atoms 𝓤) (W : Given
         by ! (exits t (ws .0) (zs .0) (record { turn = turn (ws .0) (t .row) (t .report); turned = subst (λ g. Turned c g k id allow (piece .now) (turn (ws .0) (t .row) (t .report))) e e′; conn-left = refl; rows-left = e″; answered = refl }) l (fields .1 .0))))))))))))))))))))))))))))))
 
 module _ {M : Type 1} (𝓤 : URA M) (H : Heap 𝓤) (A : Atoms 𝓤) (W : Given 𝓤 H A) (at-mem : Memory → SProp 𝓤) (run : Routine → Fun 𝓤) where
-  step-at-walks : (Cs : Calls 𝓤 H) (Λ : Loops 𝓤 H) → FmC 𝓤 H (W .laws) Cs → Triple 𝓤 (Cs #board·pick) (PickC 𝓤 H A at-mem run) → Triple 𝓤 (Cs #board·settle) (Settle 𝓤 H A at-mem run) → Triple 𝓤 (Cs #board·store) (Store 𝓤 H A at-mem run)
+  step-at-walks : (Cs : Calls 𝓤 H) (Λ : Loops 𝓤 H) → FmC 𝓤 H (W .laws) Cs → Triple 𝓤 (Cs #calls·pick) (PickC 𝓤 H A at-mem run) → Triple 𝓤 (Cs #calls·settle) (Settle 𝓤 H A at-mem run) → Triple 𝓤 (Cs #calls·store) (Store 𝓤 H A at-mem run)
       → Walks 𝓤 H A self.ended stayed (WpFn 𝓤 H Cs Λ code.function) (self.clauses 𝓤 H A at-mem run)
   step-at-walks Cs Λ fm k₁ k₂ k₃ = walked 𝓤 H A self.ended stayed (self.clauses 𝓤 H A at-mem run) (WpFn 𝓤 H Cs Λ code.function) (λ κs. (ptr-vals, (slice-vals, (uint-vals w64, (uint-vals w64, (uint-vals w64, (uint-vals w64, (slice-vals, tt))))))))
       (λ κs. (mut-tells (named 0) (κs .0) C.the-row, (mut-slice-tells (named 1) (κs .1 .0) R, (uint-tells w64, (uint-tells w64, (uint-tells w64, (uint-tells w64, (shr-slice-tells (named 2) (κs .1 .1 .0) u8, tt))))))))
@@ -241,7 +241,7 @@ module _ {M : Type 1} (𝓤 : URA M) (H : Heap 𝓤) (A : Atoms 𝓤) (W : Given
       (are .1 .1 .0 .1) (are .1 .1 .1 .0 .1) (are .1 .1 .1 .1 .0 .1) (are .1 .1 .1 .1 .1 .0 .1) Cs Λ fm k₁ k₂ k₃ (are .1 .0) (are .1 .1 .1 .1 .1 .1 .0)))
 
 step-at-meets : {M : Type 1} (𝓤 : URA M) (H : Heap 𝓤) (A : Atoms 𝓤) (W : Given 𝓤 H A) (at-mem : Memory → SProp 𝓤) (run : Routine → Fun 𝓤) (𝓣 : Tables 𝓤 H)
-    → Triple 𝓤 (𝓣 .C #board·pick) (PickC 𝓤 H A at-mem run) → Triple 𝓤 (𝓣 .C #board·settle) (Settle 𝓤 H A at-mem run) → Triple 𝓤 (𝓣 .C #board·store) (Store 𝓤 H A at-mem run)
+    → Triple 𝓤 (𝓣 .C #calls·pick) (PickC 𝓤 H A at-mem run) → Triple 𝓤 (𝓣 .C #calls·settle) (Settle 𝓤 H A at-mem run) → Triple 𝓤 (𝓣 .C #calls·store) (Store 𝓤 H A at-mem run)
     → Meets 𝓤 H A self.signature (WpFn 𝓤 H (𝓣 .C) (𝓣 .Λ) code.function) (self.spec 𝓤 H A at-mem run)
 step-at-meets 𝓤 H A W at-mem run 𝓣 k₁ k₂ k₃ =
     walk-meets 𝓤 H A self.ended stayed W (goes-gave-ref 𝓤 H A W 3 0 tt (plain (λ _. C.the-row)), (goes-gave-slice 𝓤 H A W 3 1 tt (plain (λ _. R)), (goes-none 𝓤 H A W 3 (λ _. usize) yes (λ κs x f. refl), (goes-none 𝓤 H A W 3 (λ _. u64) yes (λ κs x f. refl), (goes-none 𝓤 H A W 3 (λ _. u64) yes (λ κs x f. refl), (goes-none 𝓤 H A W 3 (λ _. u64) yes (λ κs x f. refl), (goes-none-slice 𝓤 H A W 3 (2 ∷ []) tt (plain (λ _. u8)) yes, tt)))))))
@@ -251,8 +251,8 @@ pub step-at-spec : {M : Type 1} → stated.statement M
 unfolding code.routine tablesOf
 step-at-spec 𝓤 H 𝓜 𝓖 𝓡 =
     entered 𝓤 H (tripleOf 𝓤 H (𝓖 .A) self.signature (self.spec 𝓤 H (𝓖 .A) (𝓜 .mem) (𝓡 .run)))
-    (tables 𝓤 H 𝓜 𝓡 code.env .C) (tables 𝓤 H 𝓜 𝓡 code.env .Λ) #board·step-at code.function (code.unfolded 𝓤 H 𝓜 𝓡)
+    (tables 𝓤 H 𝓜 𝓡 code.env .C) (tables 𝓤 H 𝓜 𝓡 code.env .Λ) #calls·step-at code.function (code.unfolded 𝓤 H 𝓜 𝓡)
     (step-at-meets 𝓤 H (𝓖 .A) (givenOf 𝓤 H 𝓜 𝓖) (𝓜 .mem) (𝓡 .run) (tablesOf 𝓤 H 𝓜 (tables 𝓤 H 𝓜 𝓡 code.env))
-    (cited 𝓤 H (PickC 𝓤 H (𝓖 .A) (𝓜 .mem) (𝓡 .run)) 𝓜 𝓡 code.env #board·pick pick-def.routine code.calls-board·pick (pick-thm.met 𝓤 H 𝓜 𝓖 𝓡))
-    (cited 𝓤 H (Settle 𝓤 H (𝓖 .A) (𝓜 .mem) (𝓡 .run)) 𝓜 𝓡 code.env #board·settle settle-def.routine code.calls-board·settle (settle-thm.met 𝓤 H 𝓜 𝓖 𝓡))
-    (cited 𝓤 H (Store 𝓤 H (𝓖 .A) (𝓜 .mem) (𝓡 .run)) 𝓜 𝓡 code.env #board·store store-def.routine code.calls-board·store (store-thm.met 𝓤 H 𝓜 𝓖 𝓡)))
+    (cited 𝓤 H (PickC 𝓤 H (𝓖 .A) (𝓜 .mem) (𝓡 .run)) 𝓜 𝓡 code.env #calls·pick pick-def.routine code.calls-calls·pick (pick-thm.met 𝓤 H 𝓜 𝓖 𝓡))
+    (cited 𝓤 H (Settle 𝓤 H (𝓖 .A) (𝓜 .mem) (𝓡 .run)) 𝓜 𝓡 code.env #calls·settle settle-def.routine code.calls-calls·settle (settle-thm.met 𝓤 H 𝓜 𝓖 𝓡))
+    (cited 𝓤 H (Store 𝓤 H (𝓖 .A) (𝓜 .mem) (𝓡 .run)) 𝓜 𝓡 code.env #calls·store store-def.routine code.calls-calls·store (store-thm.met 𝓤 H 𝓜 𝓖 𝓡)))

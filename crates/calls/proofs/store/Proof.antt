@@ -41,7 +41,7 @@ use Rattle.record.specs.Row.{free-record}
 use Rattle.record.specs.declared.Record.{Record}
 use Rattle.calls.proofs.Laws.{R, size, vals, val, tells, rec-shows, rec-makes, typed, offset-fits}
 use Rattle.calls.specs.Rows.{set-past}
-use Rattle.calls.proofs.store.Key.{name as #board·store}
+use Rattle.calls.proofs.store.Key.{name as #calls·store}
 use Rattle.calls.proofs.store as store
 use Rattle.calls.proofs.store.Statement as stated
 use Rattle.calls.proofs.store.Code as code
@@ -129,5 +129,5 @@ pub store-spec : {M : Type 1} → stated.statement M
 unfolding code.routine tablesOf
 store-spec 𝓤 H 𝓜 𝓖 𝓡 =
     entered 𝓤 H (tripleOf 𝓤 H (𝓖 .A) store.signature (store.spec 𝓤 H (𝓖 .A) (𝓜 .mem) (𝓡 .run)))
-    (tables 𝓤 H 𝓜 𝓡 code.env .C) (tables 𝓤 H 𝓜 𝓡 code.env .Λ) #board·store code.function (code.unfolded 𝓤 H 𝓜 𝓡)
+    (tables 𝓤 H 𝓜 𝓡 code.env .C) (tables 𝓤 H 𝓜 𝓡 code.env .Λ) #calls·store code.function (code.unfolded 𝓤 H 𝓜 𝓡)
     (store-meets 𝓤 H (𝓖 .A) (givenOf 𝓤 H 𝓜 𝓖) (𝓜 .mem) (𝓡 .run) (tablesOf 𝓤 H 𝓜 (tables 𝓤 H 𝓜 𝓡 code.env)))

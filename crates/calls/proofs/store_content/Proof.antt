@@ -46,7 +46,7 @@ use Rattle.record.proofs.Record.Laws as T′
 use denote.Struct.Laws as LL
 use Rattle.calls.proofs.Laws.{R, size, vals, val, tells, rec-shows, rec-makes, typed, offset-fits}
 use Rattle.calls.specs.Rows.{set-past}
-use Rattle.calls.proofs.store_content.Key.{name as #board·store-content}
+use Rattle.calls.proofs.store_content.Key.{name as #calls·store-content}
 use Rattle.calls.proofs.store_content as store
 use Rattle.calls.proofs.store_content.Statement as stated
 use Rattle.calls.proofs.store_content.Code as code
@@ -155,5 +155,5 @@ pub store-content-spec : {M : Type 1} → stated.statement M
 unfolding code.routine tablesOf
 store-content-spec 𝓤 H 𝓜 𝓖 𝓡 =
     entered 𝓤 H (tripleOf 𝓤 H (𝓖 .A) store.signature (store.spec 𝓤 H (𝓖 .A) (𝓜 .mem) (𝓡 .run)))
-    (tables 𝓤 H 𝓜 𝓡 code.env .C) (tables 𝓤 H 𝓜 𝓡 code.env .Λ) #board·store-content code.function (code.unfolded 𝓤 H 𝓜 𝓡)
+    (tables 𝓤 H 𝓜 𝓡 code.env .C) (tables 𝓤 H 𝓜 𝓡 code.env .Λ) #calls·store-content code.function (code.unfolded 𝓤 H 𝓜 𝓡)
     (store-content-meets 𝓤 H (𝓖 .A) (givenOf 𝓤 H 𝓜 𝓖) (𝓜 .mem) (𝓡 .run) (tablesOf 𝓤 H 𝓜 (tables 𝓤 H 𝓜 𝓡 code.env)))
