@@ -329,7 +329,7 @@ static void welcome(struct server *s, const struct datagram *d) {
         else forget(c);
         return;
     }
-    if (s->half >= HALF_OPEN_EACH && count_of(s, false, &c->from) >= HALF_OPEN_EACH) dismiss(least(s, false, &c->from, 0));
+    if (mixed && s->half >= HALF_OPEN_EACH && count_of(s, false, &c->from) >= HALF_OPEN_EACH) dismiss(least(s, false, &c->from, 0));
     else if (s->half == HALF_OPEN) make_room(s, false);
     if (retried) *use_of(s, token) = (struct used){token, now()};
     place(c);
