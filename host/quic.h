@@ -12,7 +12,7 @@
 #define HALF_OPEN 256    /* places beside them that are kept for handshakes */
 #define HALF_OPEN_EACH 64 /* of these, the most that one host has: its own oldest gives way */
 #define RETRY_FROM 64    /* half-open connections from which on a client must show that it is where it says */
-#define MEASURES 4096    /* of hosts' handshakes, by their hash */
+#define MEASURES 4096    /* of hosts' handshakes, by their hash; and tokens that were used */
 #define NAMES 4096       /* a power of two, above what is named at once in a crowd */
 #define LISTENERS 2
 
@@ -57,6 +57,11 @@ struct server {
     size_t count, half; /* of connections, and of those without a handshake */
     struct name *names[NAMES]; /* connection IDs, each in the list of its hash */
     uint64_t spent[MEASURES]; /* when the measure is full again */
+    struct used {
+        uint64_t hash, at; /* of a token, and when */
+    } used[MEASURES];
+    struct address met; /* where the last first packet came from */
+    uint64_t mixed;     /* when the one before it came from another host; 0: never */
     struct timers timers;
     struct over over; /* since it was last said */
     struct connection *due, *last_due; /* those that may have something to write, in their turn */

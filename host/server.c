@@ -22,6 +22,7 @@
 #define TOKEN_TIME (10 * NGTCP2_SECONDS)
 #define HANDSHAKE_EVERY (5 * NGTCP2_MILLISECONDS) /* of one host, and of all that have not shown where they are: 200 a second, */
 #define HANDSHAKES_AT_ONCE 400 /* and so many at once */
+#define MIXED_TIME (10 * NGTCP2_SECONDS) /* for so long a host is measured after another was met */
 
 ngtcp2_tstamp now(void) {
     struct timespec t;
@@ -227,6 +228,18 @@ static bool may_shake_hands(struct server *s, const struct address *host) {
     return true;
 }
 
+/* First packets come from more than one host. A host that is alone takes nothing from another, and what its measure leaves out may be an honest client. */
+static bool are_mixed(struct server *s, const struct address *host) {
+    if (s->met.size && !is_same_host(&s->met, host)) s->mixed = now();
+    s->met = *host;
+    return s->mixed && now() < s->mixed + MIXED_TIME;
+}
+
+/* A token is good for one handshake: whoever sends its first packet again and again has no other. */
+static struct used *use_of(struct server *s, uint64_t token) { return &s->used[token % MEASURES]; }
+
+static bool is_used(struct server *s, uint64_t token) { return use_of(s, token)->hash == token && now() < use_of(s, token)->at + TOKEN_TIME; }
+
 /* All of these places are taken: one is made free, and it is one of a host that has too many, if there is such. */
 static void make_room(struct server *s, bool established) { dismiss(least(s, established, crowding_host(s, established), 0)); }
 
@@ -292,6 +305,8 @@ static void welcome(struct server *s, const struct datagram *d) {
     ngtcp2_pkt_hd head;
     if (s->draining || ngtcp2_accept(&head, d->bytes, d->count)) return;
     ngtcp2_cid original, *retried = NULL;
+    bool mixed = are_mixed(s, &d->from);
+    uint64_t token = hash_of(s, head.token.base, head.token.len);
     if (head.token.len) {
         if (ngtcp2_crypto_verify_retry_token(&original, head.token.base, head.token.len, s->secret, sizeof s->secret, head.version, &d->from.any,
                                              d->from.size, &head.dcid, TOKEN_TIME, now())) {
@@ -303,7 +318,7 @@ static void welcome(struct server *s, const struct datagram *d) {
         say_retry(s, d, &head);
         return;
     }
-    if (retried && !may_shake_hands(s, &d->from)) return; /* an honest client asks again */
+    if (retried && (is_used(s, token) || (mixed && !may_shake_hands(s, &d->from)))) return; /* an honest client asks again */
     struct connection *c = connection_new(s, d->at, &d->from, &head, retried);
     if (!c) return;
     int error = connection_read(c, d->bytes, d->count);
@@ -314,8 +329,9 @@ static void welcome(struct server *s, const struct datagram *d) {
         else forget(c);
         return;
     }
-    if (s->half >= HALF_OPEN_EACH && count_of(s, false, &c->from) >= HALF_OPEN_EACH) dismiss(least(s, false, &c->from, 0));
+    if (mixed && s->half >= HALF_OPEN_EACH && count_of(s, false, &c->from) >= HALF_OPEN_EACH) dismiss(least(s, false, &c->from, 0));
     else if (s->half == HALF_OPEN) make_room(s, false);
+    if (retried) *use_of(s, token) = (struct used){token, now()};
     place(c);
     make_due(c);
 }

@@ -487,12 +487,12 @@ static void half(void) {
 static int hello_socket;
 static int hello_sockets[1024];
 
-/* A packet with a token is kept, not sent; others go their way. */
+/* A first packet with a token is kept, not sent; one without goes its way. No other is sent, so that no handshake ends. */
 static void keep_hello(const uint8_t *packet, size_t count) {
     size_t to = 6 + packet[5], token = count > to ? to + 1 + packet[to] : count;
-    bool shown = (packet[0] & 0xf0) == 0xc0 && token < count && packet[token];
+    bool initial = (packet[0] & 0xf0) == 0xc0, shown = initial && token < count && packet[token];
     if (shown) keep_first(packet, count);
-    else if (write(hello_socket, packet, count) < 0) return; /* as one lost on the way */
+    else if (initial && write(hello_socket, packet, count) < 0) return; /* as one lost on the way */
 }
 
 static bool is_kept(void *any) {

@@ -72,19 +72,21 @@ fn quic(tls: rustls::ServerConfig) -> Result<ServerConfig, Failed> {
     Ok(config)
 }
 
-/// How many handshakes are under way. From some on, quinn asks new clients for a token.
+/// How many handshakes are under way. Once they were too many, quinn asks new clients for a token, and goes on to: were it told to stop, it would take a
+/// client that comes with its token for one that never had any, and the client would give up.
 struct Half {
     count: Cell<usize>,
+    asks: Cell<bool>,
     endpoint: Endpoint,
     config: ServerConfig,
 }
 
 impl Half {
     fn set(&self, count: usize) {
-        let asked = self.count.replace(count) >= RETRY_FROM;
-        if asked != (count >= RETRY_FROM) {
+        self.count.set(count);
+        if count >= RETRY_FROM && !self.asks.replace(true) {
             let mut config = self.config.clone();
-            config.use_retry(!asked);
+            config.use_retry(true);
             self.endpoint.set_server_config(Some(config));
         }
     }
@@ -103,7 +105,8 @@ async fn serve(socket: UdpSocket, words: &[String]) -> Result<(), Failed> {
     common.supported_versions(vec![VERSION]);
     let config = quic(tls(certificate, key)?)?;
     let endpoint = Endpoint::new(common, Some(config.clone()), socket, TokioRuntime)?;
-    let half = Rc::new(Half { count: Cell::new(0), endpoint: endpoint.clone(), config });
+    let half =
+        Rc::new(Half { count: Cell::new(0), asks: Cell::new(false), endpoint: endpoint.clone(), config });
     let mut terminated = signal(SignalKind::terminate())?;
     println!("process {} serves", process::id());
     loop {
