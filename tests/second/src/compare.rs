@@ -7,7 +7,7 @@ use std::sync::Mutex;
 use std::thread;
 
 use crate::generate::schedule;
-use crate::generate::frames::Streams;
+use crate::generate::streams::Streams;
 use crate::hex;
 use crate::lister;
 use crate::replay::{self, INPUT_LIMIT};

@@ -6,7 +6,7 @@ use std::process::ExitCode;
 
 use second::compare::{self, Program, Report};
 use second::generate::random::Random;
-use second::generate::frames::Streams;
+use second::generate::streams::Streams;
 use second::generate::{blocks, schedule};
 use second::sections::{judge_block, Part};
 use second::{hex, lister, replay, settings};

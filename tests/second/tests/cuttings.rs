@@ -6,7 +6,7 @@ use common::header_section;
 use second::calls::{self, Connection, Gave, Stream, RECORDS};
 use second::generate::drafts;
 use second::generate::random::Random;
-use second::generate::frames::Streams;
+use second::generate::streams::Streams;
 use second::hex;
 use second::lister;
 use second::reading::What;

@@ -5,7 +5,7 @@ use std::process::Command;
 
 use second::compare::{self, Program, Tally};
 use second::generate::schedule;
-use second::generate::frames::Streams;
+use second::generate::streams::Streams;
 use second::{hex, lister, numbers, replay, settings};
 
 const BINARY: &str = env!("CARGO_BIN_EXE_second");
