@@ -18,7 +18,7 @@ use play::{
 };
 use requests::Blocks;
 use second::generate::random::Random;
-use second::generate::frames::Streams;
+use second::generate::streams::Streams;
 use tally::{Came, Tally};
 
 const STREAMS: usize = 100_000;

@@ -7,7 +7,7 @@ use std::thread;
 
 use second::compare::{self, Program};
 use second::generate::random::Random;
-use second::generate::frames::Streams;
+use second::generate::streams::Streams;
 use second::{hex, lister};
 
 /// In one process, the program's object behind the driver.
