@@ -49,10 +49,9 @@ use Rattle.connection.proofs.Connection as C
 use Rattle.connection.proofs.Connection.Laws as C′
 use Rattle.connection.proofs.Report as N
 use Rattle.connection.proofs.Report.Laws as N′
-use Rattle.calls.specs.Promises.{Stepped}
+use Rattle.calls.specs.Lent.{Stepped}
 use Rattle.calls.proofs.Laws.{R}
-use Rattle.calls.proofs.Lends.{conn-val, rows-val, OwnPiece}
-use Rattle.calls.proofs.Thin.{StepC, calls-step}
+use Rattle.calls.proofs.Thin.{StepC, conn-val, rows-val, OwnPiece, calls-step}
 use Rattle.calls.proofs.step.Symbol.{name as #calls·step}
 use Rattle.calls.proofs.eistulko_end as self
 

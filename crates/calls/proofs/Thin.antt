@@ -35,14 +35,32 @@ use Rattle.connection.specs.declared.Connection.{Connection}
 use Rattle.connection.specs.declared.Report.{Report}
 use Rattle.connection.proofs.Connection as C
 use Rattle.connection.proofs.Report as N
-use Rattle.calls.specs.Promises.{Stepped}
+use Rattle.calls.specs.Lent.{Stepped}
 use Rattle.calls.proofs.Laws.{R}
-use Rattle.calls.proofs.Lends.{conn-val, rows-val, bytes-val, OwnConn, OwnRow, OwnPiece}
 use Rattle.calls.proofs.step as step
 use Rattle.calls.proofs.step.Symbol.{name as #calls·step}
 
 abbrev pub StepC : {M : Type 1} (𝓤 : URA M) (H : Heap 𝓤) (A : Atoms 𝓤) (mem : Memory → SProp 𝓤) (run : Routine → Fun 𝓤) → Contract 𝓤
 StepC 𝓤 H A mem run = tripleOf 𝓤 H A step.signature (step.spec 𝓤 H A mem run)
+
+-- what conn and row own, and their machine values
+abbrev pub conn-val : RefT Connection → Val
+conn-val cr = vptr (cr .ptr .0) (cr .ptr .1)
+
+abbrev pub rows-val : RefT (List Record) → Val
+rows-val x = sliceVal (x .ptr) (length (x .now))
+
+abbrev pub bytes-val : RefT (List ℕ) → Val
+bytes-val s = sliceVal (s .ptr) (length (s .now))
+
+abbrev pub OwnConn : Lft → RefT Connection → Fml
+OwnConn κ cr = MutRef (named 0) κ C.the-row .own cr (conn-val cr ∷ [])
+
+abbrev pub OwnRow : Lft → RefT (List Record) → Fml
+OwnRow κ x = MutSlice (named 1) κ R .own x (rows-val x ∷ [])
+
+abbrev pub OwnPiece : Lft → RefT (List ℕ) → Fml
+OwnPiece κ s = ShrSlice (named 2) κ u8 .own s (bytes-val s ∷ [])
 
 module _ {M : Type 1} {𝓤 : URA M} {H : Heap 𝓤} {A : Atoms 𝓤} (W : Given 𝓤 H A) (mem : Memory → SProp 𝓤) (run : Routine → Fun 𝓤) (κ₀ κ₁ κ₂ : Lft) (q₀ q₁ q₂ : Share) (cr : RefT Connection) (x : RefT (List Record)) (k id allow : ℕ) (piece : RefT (List ℕ)) (k-fits : k < 2 ^ 64) (id-fits : id < 2 ^ 64) (allow-fits : allow < 2 ^ 64) where
   abbrev κs : Lfts 3

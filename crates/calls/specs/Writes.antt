@@ -6,7 +6,7 @@ use Rattle.rules.specs.Writer.{Write}
 use Rattle.varint.specs.Write.{Meets}
 use Rattle.varint.specs.declared.Wrote.{Wrote}
 use Rattle.connection.specs.declared.Written.{Written}
-use Rattle.calls.specs.Promises.{writtenOf, WroteInto}
+pub use Rattle.calls.specs.Promises.{writtenOf, WroteInto}
 
 pub wrote-into : {w : Write} {room room′ : List ℕ} {a : Wrote} {r : Written} → Meets w room a room′ → r ≡ writtenOf a → WroteInto w room r room′
 wrote-into m e = record { answered = e ∙ ap writtenOf (m .answers); room-left = m .leaves }

@@ -13,9 +13,10 @@ ghost use lib.ListN.{length, set, getD};
 ghost use Rattle.record.specs.Row.{free-record};
 ghost use Rattle.record.specs.Sound.{cellsIn};
 ghost use Rattle.record.specs.Body.{contentIn};
+ghost use Rattle.connection.specs.Whose.{FoundIn};
 ghost use Rattle.connection.specs.Turned.{turn, Turned, sweptOf};
 ghost use Rattle.calls.specs.Layout.{connectionSize, recordSize, reportSize, writtenSize};
-ghost use Rattle.calls.specs.Lent.{FirstIn, foundAt, SteppedAt};
+ghost use Rattle.calls.specs.Lent.{FirstIn};
 ghost use Rattle.calls.specs.Promises.{Started, Stepped, Opened, Fed, Given, Ended, Reset, SaidGoaway, writtenOf, WroteHeader, WroteIntegerFrame, WroteOpening};
 
 // ---- the row
@@ -41,18 +42,6 @@ fn fetch(row: &[Record], i: usize, or: Record) -> Record
     if i < row.len() { row[i] } else { or }
 }
 
-// What a search of the row found that stopped at this place.
-fn pick(row: &[Record], at: usize) -> Found
-    ensures { λ r. ⌜ r ≡ foundAt (now (row .entry)) at ⌝ }
-{
-    let r = fetch(row, at, record::free());
-    Found {
-        len: row.len(),
-        at,
-        row: r,
-    }
-}
-
 // Nothing is stored past the end.
 fn store(row: &mut [Record], i: usize, r: Record)
     ensures { λ _. ⌜ now (row .exit) ≡ set (now (row .entry)) i r ⌝ }
@@ -70,6 +59,18 @@ fn store_content(row: &mut [Record], i: usize, r: Record)
         row[i].acc = r.acc;
         row[i].mode = r.mode;
         row[i].sum = r.sum;
+    }
+}
+
+fn seek(row: &[Record], call: u64, id: u64) -> Found
+    ensures { λ r. ⌜ FoundIn call id (now (row .entry)) r ⌝ }
+{
+    let at = find(row, call, id);
+    let r = fetch(row, at, record::free());
+    Found {
+        len: row.len(),
+        at,
+        row: r,
     }
 }
 
@@ -92,7 +93,7 @@ fn settle(conn: &mut Connection, f: Found, call: u64, id: u64, allow: u64, piece
 {
     let n = connection::answer(conn.doors, f, call, id, allow, piece);
     if n.aside {
-        let t = connection::overhear(*conn, f.row, call, allow, piece);
+        let t = connection::decide(*conn, f, call, id, allow, piece);
         *conn = t.conn;
         return Brief {
             row: t.row,
@@ -106,25 +107,6 @@ fn settle(conn: &mut Connection, f: Found, call: u64, id: u64, allow: u64, piece
     }
 }
 
-// A call on the record at this place.
-fn step_at(
-    conn: &mut Connection,
-    row: &mut [Record],
-    at: usize,
-    call: u64,
-    id: u64,
-    allow: u64,
-    piece: &[u8],
-) -> Report
-    ensures { λ r. ⌜ SteppedAt (now (conn .entry)) (now (row .entry)) at call id allow (now (piece .entry)) (now (conn .exit)) (now (row .exit)) r ⌝ }
-{
-    let f = pick(&*row, at);
-    let b = settle(conn, f, call, id, allow, piece);
-    store(row, at, b.row);
-    b.report
-}
-
-// The tests that the short way begins with only make it short: a feed of content has it, and what each way leaves and answers is the same.
 pub fn step(
     conn: &mut Connection,
     row: &mut [Record],
@@ -135,20 +117,10 @@ pub fn step(
 ) -> Report
     ensures { λ r. ⌜ Stepped (now (conn .entry)) (now (row .entry)) call id allow (now (piece .entry)) (now (conn .exit)) (now (row .exit)) r ⌝ }
 {
-    if call == rules::FEED {
-        if row.len() == 24 {
-            let at = find(&*row, call, id);
-            let f = pick(&*row, at);
-            let b = connection::brisk(conn.doors.code, f, call, allow, piece);
-            if b.report.number == 0 {
-                store_content(row, at, b.row);
-                return b.report;
-            }
-            return step_at(conn, row, at, call, id, allow, piece);
-        }
-    }
-    let at = find(&*row, call, id);
-    step_at(conn, row, at, call, id, allow, piece)
+    let f = seek(&*row, call, id);
+    let b = settle(conn, f, call, id, allow, piece);
+    store(row, f.at, b.row);
+    b.report
 }
 
 // ---- what a host calls
@@ -180,7 +152,16 @@ pub extern "C" fn eistulko_feed(
 ) -> Report
     ensures { λ r. ⌜ Fed (now (conn .entry)) (now (row .entry)) id (now (piece .entry)) allow (now (conn .exit)) (now (row .exit)) r ⌝ }
 {
-    step(conn, row, rules::FEED, id, allow, piece)
+    if row.len() == 24 {
+        let f = seek(&*row, rules::FEED, id);
+        let b = connection::brisk(conn.doors.code, f, allow, piece);
+        if b.report.number == 0 {
+            store_content(row, f.at, b.row);
+            return b.report;
+        }
+    }
+    let t = step(conn, row, rules::FEED, id, allow, piece);
+    t
 }
 
 #[no_mangle]

@@ -20,19 +20,19 @@ abbrev pub contentLeaves : Connection → Brief → Connection
 contentLeaves c b = c
 
 -- with number 0 it is what the call answers; any other number says nothing
-pub record Briefly (code : ℕ) (f : Found) (call allow : ℕ) (piece : List ℕ) (b : Brief) : Type 0 where
-  pub turns : b .report .number ≡ 0 → (c : Connection) (id : ℕ) → c .doors .code ≡ code → Turned c f call id allow piece (turn (contentLeaves c b) (b .row) (b .report))
+pub record Briefly (code : ℕ) (f : Found) (allow : ℕ) (piece : List ℕ) (b : Brief) : Type 0 where
+  pub turns : b .report .number ≡ 0 → (c : Connection) (id : ℕ) → c .doors .code ≡ code → Turned c f 1 id allow piece (turn (contentLeaves c b) (b .row) (b .report))
   pub alters : b .report .number ≡ 0 → b .row ≡ contentIn (f .row) (cellsIn (b .row))  -- three numbers of the record
 
-module _ {code : ℕ} {f : Found} {call allow : ℕ} {piece : List ℕ} where
-  pub briefly-not : {b : Brief} → b .report ≡ numbered 1 → Briefly code f call allow piece b
+module _ {code : ℕ} {f : Found} {allow : ℕ} {piece : List ℕ} where
+  pub briefly-not : {b : Brief} → b .report ≡ numbered 1 → Briefly code f allow piece b
   briefly-not {b} q = let y : b .report .number ≡ 1 = ap (λ (x : Report). x .number) q in record { turns = λ z. absurd (omega arith); alters = λ z. absurd (omega arith) }
 
-  pub briefly-so : call ≡ 1 → f .len ≡ 24 → code ≡ 0 → f .at < 24 → f .row .kind ≡ 1 → {a : Reply} → (a .number ≡ 0 → Keeps (f .row) (fedAs (f .row) allow piece) a × (a .row ≡ contentIn (f .row) (cellsIn (a .row))))
-      → Briefly code f call allow piece (record { row = a .row; report = told (a .number) (a .event) (a .start) (a .len) (a .used) (a .heads) 0 })
-  briefly-so fed l z w k {a} keeps = record {
+  pub briefly-so : f .len ≡ 24 → code ≡ 0 → f .at < 24 → f .row .kind ≡ 1 → {a : Reply} → (a .number ≡ 0 → Keeps (f .row) (fedAs (f .row) allow piece) a × (a .row ≡ contentIn (f .row) (cellsIn (a .row))))
+      → Briefly code f allow piece (record { row = a .row; report = told (a .number) (a .event) (a .start) (a .len) (a .used) (a .heads) 0 })
+  briefly-so l z w k {a} keeps = record {
     turns = λ y c id e.
-        on-request id allow (record { long = l; alive = e ∙ z }) (λ x. omega arith) w {a = a} k (asks-feed (f .row) call allow piece fed (keeps y .0))
+        on-request id allow (record { long = l; alive = e ∙ z }) (λ x. omega arith) w {a = a} k (asks-feed (f .row) 1 allow piece refl (keeps y .0))
         (ap (λ x. turn x (a .row) (told (a .number) (a .event) (a .start) (a .len) (a .used) (a .heads) 0)) (kept-small c (a .number) (omega arith)));
     alters = λ y. keeps y .1;
   }

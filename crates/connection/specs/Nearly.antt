@@ -8,6 +8,7 @@ use Rattle.record.specs.Body.{said-no}
 use Rattle.requests.specs.declared.Reply.{Reply}
 use Rattle.connection.specs.declared.doors.Doors.{Doors}
 use Rattle.oneway.specs.declared.calls.Side.{Side}
+use Rattle.oneway.specs.declared.calls.Heard.{Heard}
 use Rattle.oneway.specs.Mirror.{fresh-side}
 use Rattle.connection.specs.declared.Connection.{Connection}
 use Rattle.connection.specs.declared.Found.{Found}
@@ -15,7 +16,7 @@ use Rattle.connection.specs.declared.Near.{Near}
 use Rattle.connection.specs.declared.Report.{Report}
 use Rattle.connection.specs.declared.Turn.{Turn}
 use Rattle.connection.specs.Halves.{both}
-use Rattle.connection.specs.Turned.{numbered, beside, stays, opensAt, Asks, replies, Listens, Alive, Turned, other-row, dead, opens}
+use Rattle.connection.specs.Turned.{numbered, beside, stays, opensAt, Asks, replies, Hears, overhears, Alive, Turned, other-row, dead, opens}
 use Rattle.connection.specs.Ways.{past-row, on-request, on-one-way}
 use Rattle.connection.specs.One.{one-turn}
 
@@ -64,9 +65,9 @@ module _ {c : Connection} {f : Found} {call id allow : ℕ} {piece : List ℕ} {
   turned-near (here e o t) q = t (c .side)
   turned-near (aside a e) q = said-no (sym q ∙ ap (λ x. x .aside) e)
 
-  pub turned-aside : {t : Turn} → Nearly (c .doors) f call id allow piece n → n .aside ≡ true → Listens c (f .row) call allow piece t → Turned c f call id allow piece t
-  turned-aside (here e o t) q s = said-no (sym e ∙ q)
-  turned-aside (aside a e) q s = on-one-way id allow (a .live) (a .on) (a .within) (a .other) refl (s .hears) (s .is)
+  pub turned-aside : {a : Heard} {t : Turn} → Nearly (c .doors) f call id allow piece n → n .aside ≡ true → Hears (f .row) (c .side) call allow piece a → t ≡ overhears (c .doors) a → Turned c f call id allow piece t
+  turned-aside (here e o t) q h s = said-no (sym e ∙ q)
+  turned-aside (aside a e) q h s = on-one-way id allow (a .live) (a .on) (a .within) (a .other) refl h s
 
 -- ---- ONE ANSWER
 

@@ -4,18 +4,16 @@ use Prim.Native.Nat.{ℕ, _≤_, _<_}
 use native.Mathlib.Omega.{arith}
 use mathlib.Core.List.{List}
 use mathlib.Core.Logic.{_⊎_, inl, inr}
-use Rattle.record.specs.declared.Record.{Record}
 use Rattle.requests.specs.Reply.{Open, stateIn}
 use Rattle.connection.specs.declared.doors.Doors.{Doors}
 use Rattle.connection.specs.Goaway.{sends-one}
 use Rattle.oneway.specs.Heard.{Heeds, stateHere}
-use Rattle.oneway.specs.Feeds.{one-heard}
 use Rattle.connection.specs.declared.Connection.{Connection}
 use Rattle.connection.specs.declared.Found.{Found}
 use Rattle.connection.specs.declared.Turn.{Turn}
 use Rattle.connection.specs.declared.Gone.{Gone}
 use Rattle.connection.specs.Halves.{sideIn}
-use Rattle.connection.specs.Turned.{unaltered, openedAt, requestAs, replied, oneWayAs, overheard, Listens, Turned, other-row, dead, opens, not-open, request, one-way, goneBy, GoesAway}
+use Rattle.connection.specs.Turned.{unaltered, openedAt, requestAs, replied, oneWayAs, overheard, Turned, other-row, dead, opens, not-open, request, one-way, goneBy, GoesAway}
 
 -- one of two that shut each other out, each with one answer
 fork-one : {P Q A B C D E : Type 0} → (P → Q → ⊥) → (A → B → E) → (C → D → E) → (P × A) ⊎ (Q × C) → (P × B) ⊎ (Q × D) → E
@@ -71,10 +69,6 @@ module _ (c : Connection) (f : Found) (call id allow : ℕ) (piece : List ℕ) w
 
       on24 : On24 t → On24 u → t ≡ u
       on24 = fork-one (λ n e. n e) same living
-
--- and so has a call as the side decides it
-pub one-listens : {c : Connection} {r : Record} {call allow : ℕ} {piece : List ℕ} {t u : Turn} → Listens c r call allow piece t → Listens c r call allow piece u → t ≡ u
-one-listens {c} {r} x y = x .is ∙ ap (overheard c) (one-heard r (c .side) _ _ _ (x .hears .answers) (y .hears .answers)) ∙ sym (y .is)
 
 -- OUR GOAWAY HAS ONE ANSWER, and leaves the doors and the room in one way
 pub one-goaway : {d : Doors} {id : ℕ} {l a b : List ℕ} {r q : Gone} → GoesAway d id l r a → GoesAway d id l q b → (r ≡ q) × (a ≡ b)

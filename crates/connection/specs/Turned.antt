@@ -134,12 +134,6 @@ overhears d a = turn (both (codeIn d (a .number)) (a .side)) (a .row) (told (a .
 abbrev pub overheard : Connection → Heard → Turn
 overheard c a = overhears (c .doors) a
 
--- a call as the side decides it, whatever the doors say
-pub record Listens (c : Connection) (r : Record) (call allow : ℕ) (piece : List ℕ) (t : Turn) : Type 0 where
-  pub heard : Heard
-  pub hears : Hears r (c .side) call allow piece heard
-  pub is : t ≡ overheard c heard
-
 -- ---- EVERY WAY A CALL CAN GO
 
 -- neither 9 nor a dead connection

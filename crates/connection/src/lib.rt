@@ -14,7 +14,7 @@ ghost use Rattle.connection.specs.Whose.{Wanted};
 ghost use Rattle.record.specs.Row.{recordAt, no-cells};
 ghost use Rattle.rules.specs.Numbers.{leaves, named};
 ghost use Rattle.connection.specs.Faults.{keeps, codeIn};
-ghost use Rattle.connection.specs.Turned.{fresh-connection, numbered, stays, firstRecord, takenBy, freeAt, opensAt, Asks, replies, Hears, overhears, Listens, begunOf, sweptOf, GoesAway};
+ghost use Rattle.connection.specs.Turned.{fresh-connection, numbered, stays, firstRecord, takenBy, freeAt, opensAt, Asks, replies, Hears, overhears, Turned, begunOf, sweptOf, GoesAway};
 ghost use Rattle.connection.specs.Nearly.{Nearly};
 ghost use Rattle.connection.specs.Briefly.{Briefly};
 
@@ -328,13 +328,26 @@ pub fn answer(d: Doors, f: Found, call: u64, id: u64, allow: u64, piece: &[u8]) 
     }
 }
 
-// What a one-way stream's call leaves and answers, where `answer` has left it to the side.
-pub fn overhear(c: Connection, r: Record, call: u64, allow: u64, piece: &[u8]) -> Turn
-    ensures { λ t. ⌜ Listens c r call allow (now (piece .entry)) t ⌝ }
+// A call on one stream.
+pub fn decide(c: Connection, f: Found, call: u64, id: u64, allow: u64, piece: &[u8]) -> Turn
+    ensures { λ r. ⌜ Turned c f call id allow (now (piece .entry)) r ⌝ }
 {
     let d = c.doors;
     let side = c.side;
-    heard_turn(d, heed(r, side, call, allow, piece))
+    let row = f.row;
+    let n = answer(d, f, call, id, allow, piece);
+    if n.aside {
+        heard_turn(d, heed(row, side, call, allow, piece))
+    } else {
+        let doors = n.doors;
+        let left = n.row;
+        let report = n.report;
+        Turn {
+            conn: Connection { doors, side },
+            row: left,
+            report,
+        }
+    }
 }
 
 // What a feed leaves of the record and answers, where it leaves the connection as it is.
@@ -343,31 +356,29 @@ pub struct Brief {
     pub report: Report,
 }
 
-// A call, if it is a feed of content of a request: number 0, and the connection stays as it is. With any other number the answer says nothing.
-pub fn brisk(code: u64, f: Found, call: u64, allow: u64, piece: &[u8]) -> Brief
-    ensures { λ r. ⌜ Briefly code f call allow (now (piece .entry)) r ⌝ }
+// A feed, if it is content of a request: number 0, and the connection stays as it is. With any other number the answer says nothing.
+pub fn brisk(code: u64, f: Found, allow: u64, piece: &[u8]) -> Brief
+    ensures { λ r. ⌜ Briefly code f allow (now (piece .entry)) r ⌝ }
 {
     let row = f.row;
-    if call == rules::FEED {
-        if f.len == 24 {
-            if code == 0 {
-                if f.at < 24 {
-                    if row.kind == record::REQUEST_KIND {
-                        let a = requests::brisk(row, piece, allow);
-                        let q = a.row;
-                        return Brief {
-                            row: q,
-                            report: Report {
-                                number: a.number,
-                                event: a.event,
-                                start: a.start as u64,
-                                len: a.len,
-                                used: a.used as u64,
-                                heads: a.heads,
-                                value: 0,
-                            },
-                        };
-                    }
+    if f.len == 24 {
+        if code == 0 {
+            if f.at < 24 {
+                if row.kind == record::REQUEST_KIND {
+                    let a = requests::brisk(row, piece, allow);
+                    let q = a.row;
+                    return Brief {
+                        row: q,
+                        report: Report {
+                            number: a.number,
+                            event: a.event,
+                            start: a.start as u64,
+                            len: a.len,
+                            used: a.used as u64,
+                            heads: a.heads,
+                            value: 0,
+                        },
+                    };
                 }
             }
         }

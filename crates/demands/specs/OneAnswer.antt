@@ -46,7 +46,7 @@ use Rattle.connection.specs.Faults.{withCode}
 use Rattle.connection.specs.Turned.{fresh-connection}
 use Rattle.connection.specs.Briefly.{Briefly}
 use Rattle.connection.specs.Nearly.{one-near}
-use Rattle.connection.specs.One.{one-listens, one-turn, one-goaway}
+use Rattle.connection.specs.One.{one-turn, one-goaway}
 use Rattle.calls.specs.Once as once
 use Rattle.varint.proofs.fresh as varint-fresh
 use Rattle.varint.proofs.fresh.Symbol as varint-fresh-is
@@ -156,8 +156,8 @@ use Rattle.connection.proofs.answer as connection-answer
 use Rattle.connection.proofs.answer.Symbol as connection-answer-is
 use Rattle.connection.proofs.wanted as connection-wanted
 use Rattle.connection.proofs.wanted.Symbol as connection-wanted-is
-use Rattle.connection.proofs.overhear as connection-overhear
-use Rattle.connection.proofs.overhear.Symbol as connection-overhear-is
+use Rattle.connection.proofs.decide as connection-decide
+use Rattle.connection.proofs.decide.Symbol as connection-decide-is
 use Rattle.connection.proofs.begin as connection-begin
 use Rattle.connection.proofs.begin.Symbol as connection-begin-is
 use Rattle.connection.proofs.swept as connection-swept
@@ -259,7 +259,7 @@ pub one-record : (s : Stream) (r q : Record) → Written s r → Written s q →
 one-record s r q e f = one-written s r q e f
 
 -- a short way that was taken
-pub one-brief : {code : ℕ} {f : Found} {call allow : ℕ} {piece : List ℕ} {x y : Brief} → Briefly code f call allow piece x → Briefly code f call allow piece y → x .report .number ≡ 0 → y .report .number ≡ 0 → x ≡ y
+pub one-brief : {code : ℕ} {f : Found} {allow : ℕ} {piece : List ℕ} {x y : Brief} → Briefly code f allow piece x → Briefly code f allow piece y → x .report .number ≡ 0 → y .report .number ≡ 0 → x ≡ y
 one-brief {code} b d s t = let c = withCode code fresh-connection in let e = one-turn c _ _ 0 _ _ (b .turns s c 0 refl) (d .turns t c 0 refl) in
     ap₂ (λ r p. record { row = r; report = p }) (ap (λ z. z .row) e) (ap (λ z. z .report) e)
 
@@ -395,7 +395,7 @@ module _ (w : World) where
       function connection-fresh-is.name connection-fresh.ended (connection-fresh.clauses (w .𝓤) (w .H) (w .𝓖 .A) (w .𝓜 .mem) (w .𝓡 .run)) (λ κs a g r q ws vs. equal)
       ∷ function connection-wanted-is.name connection-wanted.ended (connection-wanted.clauses (w .𝓤) (w .H) (w .𝓖 .A) (w .𝓜 .mem) (w .𝓡 .run)) (λ κs a g r q ws vs. facts (λ x y. (one-decided r q x y, refl)))
       ∷ function connection-answer-is.name connection-answer.ended (connection-answer.clauses (w .𝓤) (w .H) (w .𝓖 .A) (w .𝓜 .mem) (w .𝓡 .run)) (λ κs a g r q ws vs. facts (λ x y. (one-near _ _ _ _ _ _ x y, refl)))
-      ∷ function connection-overhear-is.name connection-overhear.ended (connection-overhear.clauses (w .𝓤) (w .H) (w .𝓖 .A) (w .𝓜 .mem) (w .𝓡 .run)) (λ κs a g r q ws vs. facts (λ x y. (one-listens x y, refl)))
+      ∷ function connection-decide-is.name connection-decide.ended (connection-decide.clauses (w .𝓤) (w .H) (w .𝓖 .A) (w .𝓜 .mem) (w .𝓡 .run)) (λ κs a g r q ws vs. facts (λ x y. (one-turn _ _ _ _ _ _ x y, refl)))
       ∷ function connection-begin-is.name connection-begin.ended (connection-begin.clauses (w .𝓤) (w .H) (w .𝓖 .A) (w .𝓜 .mem) (w .𝓡 .run)) (λ κs a g r q ws vs. equal)
       ∷ function connection-swept-is.name connection-swept.ended (connection-swept.clauses (w .𝓤) (w .H) (w .𝓖 .A) (w .𝓜 .mem) (w .𝓡 .run)) (λ κs a g r q ws vs. equal)
       ∷ function connection-say-goaway-is.name connection-say-goaway.ended (connection-say-goaway.clauses (w .𝓤) (w .H) (w .𝓖 .A) (w .𝓜 .mem) (w .𝓡 .run)) (λ κs a g r q ws vs. facts (λ x y. let e = one-goaway x y in (e .0, ap (λ l. (tt, (tt, (l, tt)))) (e .1))))
@@ -425,7 +425,7 @@ module _ (w : World) where
   functions = of-varint ++ (of-ids ++ (of-wire ++ (of-settings ++ (of-fields ++ (of-section ++ (of-streams ++ (of-record ++ (of-given ++ (of-oneway ++ (of-control ++ (of-requests ++ (of-doors ++ (of-oneways ++ (of-connection ++ (of-board)))))))))))))))
 
   pub listed : _≡_ {A = List Name} (map (λ (f : Function). f .name) functions)
-      ("varint::fresh" ∷ "varint::read_step" ∷ "varint::ends" ∷ "varint::value" ∷ "varint::read" ∷ "varint::size" ∷ "varint::put" ∷ "varint::write" ∷ "wire::ids::is_request" ∷ "wire::write_header" ∷ "wire::write_integer_frame" ∷ "wire::write_opening" ∷ "wire::write_goaway" ∷ "control::settings::judge" ∷ "control::settings::only" ∷ "fields::has_byte" ∷ "fields::begins_with" ∷ "fields::same_bytes" ∷ "fields::any_outside" ∷ "fields::bad_line" ∷ "fields::decimal_of" ∷ "fields::line_at" ∷ "section::code" ∷ "section::header_section" ∷ "section::trailers" ∷ "frames::ruled" ∷ "frames::end" ∷ "record::cells_in" ∷ "record::free" ∷ "record::is_free" ∷ "record::read" ∷ "record::row" ∷ "record::write" ∷ "record::in_content" ∷ "requests::given::give" ∷ "oneway::close" ∷ "control::judge" ∷ "requests::reset" ∷ "requests::end" ∷ "requests::feed" ∷ "requests::give" ∷ "connection::doors::fresh" ∷ "connection::doors::open" ∷ "connection::doors::send_goaway" ∷ "oneway::calls::fresh" ∷ "oneway::calls::feed" ∷ "oneway::calls::give" ∷ "oneway::calls::close" ∷ "connection::fresh" ∷ "connection::wanted" ∷ "connection::answer" ∷ "connection::overhear" ∷ "connection::begin" ∷ "connection::swept" ∷ "connection::say_goaway" ∷ "calls::step" ∷ "calls::eistulko_start" ∷ "calls::eistulko_open" ∷ "calls::eistulko_feed" ∷ "calls::eistulko_give" ∷ "calls::eistulko_end" ∷ "calls::eistulko_reset" ∷ "calls::eistulko_goaway" ∷ "calls::eistulko_write_header" ∷ "calls::eistulko_write_integer_frame" ∷ "calls::eistulko_write_opening" ∷ "calls::eistulko_connection_size" ∷ "calls::eistulko_record_size" ∷ "calls::eistulko_report_size" ∷ "calls::eistulko_written_size" ∷ [])
+      ("varint::fresh" ∷ "varint::read_step" ∷ "varint::ends" ∷ "varint::value" ∷ "varint::read" ∷ "varint::size" ∷ "varint::put" ∷ "varint::write" ∷ "wire::ids::is_request" ∷ "wire::write_header" ∷ "wire::write_integer_frame" ∷ "wire::write_opening" ∷ "wire::write_goaway" ∷ "control::settings::judge" ∷ "control::settings::only" ∷ "fields::has_byte" ∷ "fields::begins_with" ∷ "fields::same_bytes" ∷ "fields::any_outside" ∷ "fields::bad_line" ∷ "fields::decimal_of" ∷ "fields::line_at" ∷ "section::code" ∷ "section::header_section" ∷ "section::trailers" ∷ "frames::ruled" ∷ "frames::end" ∷ "record::cells_in" ∷ "record::free" ∷ "record::is_free" ∷ "record::read" ∷ "record::row" ∷ "record::write" ∷ "record::in_content" ∷ "requests::given::give" ∷ "oneway::close" ∷ "control::judge" ∷ "requests::reset" ∷ "requests::end" ∷ "requests::feed" ∷ "requests::give" ∷ "connection::doors::fresh" ∷ "connection::doors::open" ∷ "connection::doors::send_goaway" ∷ "oneway::calls::fresh" ∷ "oneway::calls::feed" ∷ "oneway::calls::give" ∷ "oneway::calls::close" ∷ "connection::fresh" ∷ "connection::wanted" ∷ "connection::answer" ∷ "connection::decide" ∷ "connection::begin" ∷ "connection::swept" ∷ "connection::say_goaway" ∷ "calls::step" ∷ "calls::eistulko_start" ∷ "calls::eistulko_open" ∷ "calls::eistulko_feed" ∷ "calls::eistulko_give" ∷ "calls::eistulko_end" ∷ "calls::eistulko_reset" ∷ "calls::eistulko_goaway" ∷ "calls::eistulko_write_header" ∷ "calls::eistulko_write_integer_frame" ∷ "calls::eistulko_write_opening" ∷ "calls::eistulko_connection_size" ∷ "calls::eistulko_record_size" ∷ "calls::eistulko_report_size" ∷ "calls::eistulko_written_size" ∷ [])
   listed = refl
 
   -- ---- and those that do not

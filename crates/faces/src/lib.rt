@@ -6,7 +6,7 @@ use record::Record;
 ghost use Prim.Native.Nat.{_≤_};
 ghost use lib.ListN.{take, drop};
 ghost use mathlib.Core.Path.{_≡_};
-ghost use Rattle.calls.specs.Promises.{Stepped, Started, SaidGoaway};
+ghost use Rattle.calls.specs.Lent.{Stepped, Started, SaidGoaway};
 
 // What a call leaves of the connection's record and of the records, and what it answers.
 pub struct Driven {

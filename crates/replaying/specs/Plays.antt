@@ -12,7 +12,7 @@ use Rattle.record.specs.Row.{free-record}
 use Rattle.connection.specs.declared.Connection.{Connection}
 use Rattle.connection.specs.declared.Report.{Report}
 use Rattle.connection.specs.declared.Written.{Written}
-use Rattle.calls.specs.Promises.{Stepped, Started, SaidGoaway}
+use Rattle.calls.specs.Lent.{Stepped, Started, SaidGoaway}
 use Rattle.script.specs.Words.{LineAt}
 use Rattle.script.specs.declared.Line.{Line}
 use Rattle.replaying.specs.Lines.{startLine, reportLine, writtenLine, writeOf, writeLine, readLine, stateLine, badLine, longLine}

@@ -42,10 +42,9 @@ use Rattle.connection.specs.declared.Report.{Report}
 use Rattle.connection.proofs.Connection as C
 use Rattle.connection.proofs.Report as N
 use Rattle.connection.proofs.Report.Laws as N′
-use Rattle.calls.specs.Promises.{Stepped}
+use Rattle.calls.specs.Lent.{Stepped}
 use Rattle.calls.proofs.Laws.{R}
-use Rattle.calls.proofs.Lends.{conn-val, rows-val, bytes-val, OwnPiece}
-use Rattle.calls.proofs.Thin.{StepC, handed, calls-step}
+use Rattle.calls.proofs.Thin.{StepC, conn-val, rows-val, bytes-val, OwnPiece, handed, calls-step}
 use Rattle.calls.proofs.step.Symbol as step-def
 use Rattle.calls.proofs.step.Symbol.{name as #calls·step}
 use Rattle.calls.proofs.step.Met as step-thm

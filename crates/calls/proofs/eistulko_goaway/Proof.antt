@@ -54,7 +54,7 @@ use Rattle.connection.proofs.say_goaway as say
 use Rattle.connection.proofs.say_goaway.Symbol as say-def
 use Rattle.connection.proofs.say_goaway.Symbol.{name as #connection·say-goaway}
 use Rattle.connection.proofs.say_goaway.Met as say-thm
-use Rattle.calls.specs.Promises.{SaidGoaway}
+use Rattle.calls.specs.Lent.{SaidGoaway}
 use Rattle.calls.proofs.Conn.{doors-vals, doors-makes, doors-typed, doors-of, with-doors, opens-conn, closes-conn, as-named}
 use Rattle.calls.proofs.eistulko_goaway.Key.{name as #calls·eistulko-goaway}
 use Rattle.calls.proofs.eistulko_goaway as self

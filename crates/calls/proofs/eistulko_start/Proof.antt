@@ -50,7 +50,7 @@ use Rattle.connection.proofs.begin as begin
 use Rattle.connection.proofs.begin.Symbol as begin-def
 use Rattle.connection.proofs.begin.Symbol.{name as #connection·begin}
 use Rattle.connection.proofs.begin.Met as begin-thm
-use Rattle.calls.specs.Promises.{Started}
+use Rattle.calls.specs.Lent.{Started}
 use Rattle.calls.proofs.Laws.{R}
 use Rattle.calls.proofs.Conn.{conn-vals, conn-makes, conn-typed, opens-conn, closes-conn}
 use Rattle.calls.proofs.empty as empty

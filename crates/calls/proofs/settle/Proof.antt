@@ -1,5 +1,5 @@
 -- `settle` meets its contract: a walk of its MIR, by hand. conn's borrow is open from the read of the doors to the last store: of the doors alone, which the compiled code copies for every call, or, for a one-way stream, of the whole connection, which is read again.
--- All that the proof knows of `answer` and `overhear` is that each meets its contract.
+-- All that the proof knows of `answer` and `decide` is that each meets its contract.
 -- Assumes nothing.
 use mathlib.Core.Path.{_≡_, refl, ap, subst}
 use Prim.Native.Nat.{ℕ, _<_, _^_}
@@ -53,8 +53,8 @@ use Rattle.connection.specs.declared.Brief.{Brief}
 use Rattle.connection.specs.declared.Near.{Near}
 use Rattle.connection.specs.declared.Turn.{Turn}
 use Rattle.connection.specs.Halves.{withDoors}
-use Rattle.connection.specs.Turned.{turn, Turned, Listens}
-use Rattle.connection.specs.Nearly.{Nearly, turned-near, turned-aside}
+use Rattle.connection.specs.Turned.{turn, Turned}
+use Rattle.connection.specs.Nearly.{Nearly, turned-near}
 use Rattle.connection.proofs.Connection as C
 use Rattle.connection.proofs.Connection.Laws as C′
 use Rattle.connection.proofs.Found as F
@@ -69,11 +69,11 @@ use Rattle.connection.proofs.answer as answer
 use Rattle.connection.proofs.answer.Symbol as answer-def
 use Rattle.connection.proofs.answer.Symbol.{name as #connection·answer}
 use Rattle.connection.proofs.answer.Met as answer-thm
-use Rattle.connection.proofs.overhear as overhear
-use Rattle.connection.proofs.overhear.Symbol as overhear-def
-use Rattle.connection.proofs.overhear.Symbol.{name as #connection·overhear}
-use Rattle.connection.proofs.overhear.Met as overhear-thm
-use Rattle.calls.proofs.Laws.{R, vals, rec-makes, then-of}
+use Rattle.connection.proofs.decide as decide
+use Rattle.connection.proofs.decide.Symbol as decide-def
+use Rattle.connection.proofs.decide.Symbol.{name as #connection·decide}
+use Rattle.connection.proofs.decide.Met as decide-thm
+use Rattle.calls.proofs.Laws.{then-of}
 use Rattle.calls.proofs.Conn.{conn-vals, conn-makes, conn-typed, doors-vals, doors-makes, doors-typed, doors-of, with-doors, opens-conn, closes-conn, as-named}
 use Rattle.calls.proofs.settle.Key.{name as #calls·settle}
 use Rattle.calls.proofs.settle as self
@@ -89,8 +89,8 @@ module _ {M : Type 1} (𝓤 : URA M) (H : Heap 𝓤) (A : Atoms 𝓤) (at-mem : 
   abbrev Answer : Contract 𝓤
   Answer = tripleOf 𝓤 H A answer.signature (answer.spec 𝓤 H A at-mem run)
 
-  abbrev Overhear : Contract 𝓤
-  Overhear = tripleOf 𝓤 H A overhear.signature (overhear.spec 𝓤 H A at-mem run)
+  abbrev Decide : Contract 𝓤
+  Decide = tripleOf 𝓤 H A decide.signature (decide.spec 𝓤 H A at-mem run)
 
 abbrev found-vals : Found → List Val
 found-vals = LL.vals F.the-type F′.the-laws
@@ -109,9 +109,6 @@ bytes-ref = sliceTy (tyRef (named 1) imm (tyInt w8))
 
 abbrev brief : Record → Report → Brief
 brief r p = record { row = r; report = p }
-
-aside-yes : (b : Bool) → Holds b → b ≡ true
-aside-yes true h = refl
 
 aside-no : (b : Bool) → Holds (not b) → b ≡ false
 aside-no false h = refl
@@ -153,23 +150,17 @@ module _ {M : Type 1} (𝓤 : URA M) (H : Heap 𝓤) (A : Atoms 𝓤) (W : Given
   answer-said : (n : Near) → ent 𝓤 (ensured 𝓤 H A answer.ended (answer.clauses 𝓤 H A at-mem run) (κ₁, tt) (c .doors, (f, (k, (id, (allow, (piece, tt)))))) tt n) (fact 𝓤 (Nearly (c .doors) f k id allow (piece .now) n))
   answer-said n = exE 𝓤 _ (λ ws. snd∗ 𝓤 (sem 𝓤 H A (lasts answer.ended (κ₁, tt) (c .doors, (f, (k, (id, (allow, (piece, tt)))))) ws)) (fact 𝓤 (Nearly (c .doors) f k id allow (piece .now) n)))
 
-  -- the call of `overhear`, with the whole connection
-  abbrev Heeded : Type 0
-  Heeded = Connection × (Record × (ℕ × (ℕ × (RefT (List ℕ) × Unit {0}))))
+  -- the call of `decide`, with the whole connection
+  abbrev to-decide : Decide 𝓤 H A at-mem run .Ghost
+  to-decide = (((κ₁, tt), (q₁, tt), tt, (c, (f, (k, (id, (allow, (piece, tt)))))), (conn-vals c, (found-vals f, (vint w64 k ∷ [], (vint w64 id ∷ [], (vint w64 allow ∷ [], (pv ∷ [], tt))))))), tt)
 
-  abbrev heeded : Heeded
-  heeded = (c, (f .row, (k, (allow, (piece, tt)))))
+  goes-decide : Is C.the-row c (conn-vals c) → ent 𝓤 (⋆ 𝓤 H A ((‵ (flft κ₁ q₁) ⊛ ‵ ftrue) ∷ ‵ OwnPiece ∷ [])) (Decide 𝓤 H A at-mem run .pre to-decide)
+  goes-decide is-c = qed W ((‵ (flft κ₁ q₁) ⊛ ‵ ftrue) ∷ ‵ OwnPiece ∷ []) ∵
+      nothing ! $ move ! (2 ∷ 0 ∷ []) $ fjoin ! $ owned ! u64 (Is u64) (uint-makes 𝓤 H A W w64) allow _ (refl, allow-fits) $ fjoin ! $ owned ! u64 (Is u64) (uint-makes 𝓤 H A W w64) id _ (refl, id-fits) $ fjoin ! $ owned ! u64 (Is u64) (uint-makes 𝓤 H A W w64) k _ (refl, k-fits) $ fjoin ! $
+      owned ! F.the-row (Is F.the-row) (LL.makes F.the-type F′.the-plain 𝓤 H A) f _ is-f $ fjoin ! $ owned ! C.the-row (Is C.the-row) (conn-makes 𝓤 H A) c _ is-c $ fjoin ! $ move ! (1 ∷ 0 ∷ []) $ join ! $ frame ! $ done !
 
-  abbrev to-overhear : Overhear 𝓤 H A at-mem run .Ghost
-  to-overhear = (((κ₁, tt), (q₁, tt), tt, heeded, (conn-vals c, (vals (f .row), (vint w64 k ∷ [], (vint w64 allow ∷ [], (pv ∷ [], tt)))))), tt)
-
-  goes-overhear : Is C.the-row c (conn-vals c) → ent 𝓤 (⋆ 𝓤 H A ((‵ (flft κ₁ q₁) ⊛ ‵ ftrue) ∷ ‵ OwnPiece ∷ [])) (Overhear 𝓤 H A at-mem run .pre to-overhear)
-  goes-overhear is-c = qed W ((‵ (flft κ₁ q₁) ⊛ ‵ ftrue) ∷ ‵ OwnPiece ∷ []) ∵
-      nothing ! $ move ! (2 ∷ 0 ∷ []) $ fjoin ! $ owned ! u64 (Is u64) (uint-makes 𝓤 H A W w64) allow _ (refl, allow-fits) $ fjoin ! $ owned ! u64 (Is u64) (uint-makes 𝓤 H A W w64) k _ (refl, k-fits) $ fjoin ! $
-      owned ! R (Is R) (rec-makes 𝓤 H A) (f .row) _ (LL.owed F.the-type F′.the-laws f _ is-f .1 .1 .0) $ fjoin ! $ owned ! C.the-row (Is C.the-row) (conn-makes 𝓤 H A) c _ is-c $ fjoin ! $ move ! (1 ∷ 0 ∷ []) $ join ! $ frame ! $ done !
-
-  overhear-said : (t : Turn) → ent 𝓤 (ensured 𝓤 H A overhear.ended (overhear.clauses 𝓤 H A at-mem run) (κ₁, tt) heeded tt t) (fact 𝓤 (Listens c (f .row) k allow (piece .now) t))
-  overhear-said t = exE 𝓤 _ (λ ws. snd∗ 𝓤 (sem 𝓤 H A (lasts overhear.ended (κ₁, tt) heeded ws)) (fact 𝓤 (Listens c (f .row) k allow (piece .now) t)))
+  decide-said : (t : Turn) → ent 𝓤 (ensured 𝓤 H A decide.ended (decide.clauses 𝓤 H A at-mem run) (κ₁, tt) (c, (f, (k, (id, (allow, (piece, tt)))))) tt t) (fact 𝓤 (Turned c f k id allow (piece .now) t))
+  decide-said t = exE 𝓤 _ (λ ws. snd∗ 𝓤 (sem 𝓤 H A (lasts decide.ended (κ₁, tt) (c, (f, (k, (id, (allow, (piece, tt)))))) ws)) (fact 𝓤 (Turned c f k id allow (piece .now) t)))
 
   exits : (r : Brief) (c′ : Connection) → Turned c f k id allow (piece .now) (turn c′ (r .row) (r .report)) → Is B.the-row r (brief-vals r)
       → ent 𝓤 (⋆ 𝓤 H A (‵ (fobs γ₀ (C.the-row .coded .code c′)) ∷ ‵ (fbor κ₀ (Body (mem C.the-row) b₀ o₀ γ₀)) ∷ ‵ (flft κ₀ q₀) ∷ (‵ (flft κ₁ q₁) ⊛ ‵ ftrue) ∷ ‵ OwnPiece ∷ [])) (Post (only (brief-vals r)))
@@ -181,7 +172,7 @@ module _ {M : Type 1} (𝓤 : URA M) (H : Heap 𝓤) (A : Atoms 𝓤) (W : Given
       nothing ! $ move ! (3 ∷ 0 ∷ []) $ fjoin ! $ owned ! u64 (Is u64) (uint-makes 𝓤 H A W w64) allow _ (refl, allow-fits) $ fjoin ! $ owned ! u64 (Is u64) (uint-makes 𝓤 H A W w64) id _ (refl, id-fits) $ fjoin ! $ owned ! u64 (Is u64) (uint-makes 𝓤 H A W w64) k _ (refl, k-fits) $ fjoin ! $ owned ! F.the-row (Is F.the-row) (LL.makes F.the-type F′.the-plain 𝓤 H A) f _ is-f $ fjoin ! $
       move ! (1 ∷ 2 ∷ []) $ feqI ! (List Val) (vptr b₀ o₀ ∷ []) (vptr b₀ o₀ ∷ []) refl $ fjoin3 ! $ fjoin ! $ frame ! $ owned ! B.the-row (Is B.the-row) (LL.makes B.the-type B′.the-plain 𝓤 H A) r _ is $ done !
 
-  module _ (Cs : Calls 𝓤 H) (Λ : Loops 𝓤 H) (fm : FmC 𝓤 H (W .laws) Cs) (known-answer : Triple 𝓤 (Cs #connection·answer) (Answer 𝓤 H A at-mem run)) (known-overhear : Triple 𝓤 (Cs #connection·overhear) (Overhear 𝓤 H A at-mem run)) where
+  module _ (Cs : Calls 𝓤 H) (Λ : Loops 𝓤 H) (fm : FmC 𝓤 H (W .laws) Cs) (known-answer : Triple 𝓤 (Cs #connection·answer) (Answer 𝓤 H A at-mem run)) (known-decide : Triple 𝓤 (Cs #connection·decide) (Decide 𝓤 H A at-mem run)) where
     -- where the locals lie
     module _ (l0 l1 l2 l3 l4 l5 l6 l7 l8 l9 l10 l11 : ℕ) where
       abbrev En : Env 𝓤 H
@@ -199,16 +190,16 @@ module _ {M : Type 1} (𝓤 : URA M) (H : Heap 𝓤) (A : Atoms 𝓤) (W : Given
           ∷ ‵ (fat fullShare F′.mir l2 0 (only (found-vals f))) ∷ ‵ (fdies F′.mir l2) ∷ ‵ (fat fullShare conn-ref l1 0 (vptr b₀ o₀)) ∷ ‵ (fdies conn-ref l1) ∷ ‵ (froom B′.mir l0 0) ∷ ‵ (fdies B′.mir l0) ∷ []
 
       -- the side is asked: the whole connection is read and stored
-      aside-walk : (n : Near) → Is C.the-row c (conn-vals c) → Nearly (c .doors) f k id allow (piece .now) n → n .aside ≡ true → Sq W (Frame (‵ (froom E′.mir l7 0))) (runs Cs Λ En (then-of m.s-4) arm)
-      aside-walk n is-c e so =
+      aside-walk : Is C.the-row c (conn-vals c) → Sq W (Frame (‵ (froom E′.mir l7 0))) (runs Cs Λ En (then-of m.s-4) arm)
+      aside-walk is-c =
           assigns ! (of-opd ! (load ! (from ! (hop ! (look ! 26 refl) (stop !))) (look-raw ! 2 refl))) (from ! (stop !)) (init ! 6 refl (conn-typed 𝓤 H A W c is-c)) $
           move ! (1 ∷ []) $ use1 W (‵ OwnPiece ⊛ ‵ OwnPiece) (shr-slice-copy 𝓤 H A W (named 1) κ₁ u8 .twice piece (pv ∷ [])) $ split ! $
           move ! (2 ∷ 0 ∷ []) $
-          use2 W (raw (Overhear 𝓤 H A at-mem run .pre to-overhear)) (goes-overhear is-c) $
-          calls-at ! fm (Overhear 𝓤 H A at-mem run) known-overhear to-overhear (and-then ! (load ! (from ! (stop !)) (look ! 6 refl)) (and-then ! (load ! (from ! (fld ! refl (stop !))) (look-in ! 24 (sub ! 2 refl (whole !)))) (and-then ! (load ! (from ! (stop !)) (look ! 22 refl)) (and-then ! (load ! (from ! (stop !)) (look ! 18 refl)) (and-then ! (load ! (from ! (stop !)) (look ! 16 refl)) (no-more !)))))) (λ u′.
-          use1 W (later (some (λ (t : Turn). ((‵ (flft κ₁ q₁) ⊛ ‵ ftrue) ⊛ ‵ (O.the-row .own t (u′ ∷ []))) ⊛ raw (ensured 𝓤 H A overhear.ended (overhear.clauses 𝓤 H A at-mem run) (κ₁, tt) heeded tt t)))) (id⊢ 𝓤 _) $ await ! tt $ pick ! (λ t.
+          use2 W (raw (Decide 𝓤 H A at-mem run .pre to-decide)) (goes-decide is-c) $
+          calls-at ! fm (Decide 𝓤 H A at-mem run) known-decide to-decide (and-then ! (load ! (from ! (stop !)) (look ! 6 refl)) (and-then ! (load ! (from ! (stop !)) (look ! 24 refl)) (and-then ! (load ! (from ! (stop !)) (look ! 22 refl)) (and-then ! (load ! (from ! (stop !)) (look ! 20 refl)) (and-then ! (load ! (from ! (stop !)) (look ! 18 refl)) (and-then ! (load ! (from ! (stop !)) (look ! 16 refl)) (no-more !))))))) (λ u′.
+          use1 W (later (some (λ (t : Turn). ((‵ (flft κ₁ q₁) ⊛ ‵ ftrue) ⊛ ‵ (O.the-row .own t (u′ ∷ []))) ⊛ raw (ensured 𝓤 H A decide.ended (decide.clauses 𝓤 H A at-mem run) (κ₁, tt) (c, (f, (k, (id, (allow, (piece, tt)))))) tt t)))) (id⊢ 𝓤 _) $ await ! tt $ pick ! (λ t.
           split ! $ move ! (1 ∷ []) $
-          use1 W (raw (fact 𝓤 (Listens c (f .row) k allow (piece .now) t))) (overhear-said t) $ heard ! (Listens c (f .row) k allow (piece .now) t) (λ e′.
+          use1 W (raw (fact 𝓤 (Turned c f k id allow (piece .now) t))) (decide-said t) $ heard ! (Turned c f k id allow (piece .now) t) (λ e′.
           split ! $ move ! (1 ∷ []) $
           peeks ! O.the-row (Is O.the-row) (shows 𝓤 H A O.the-row) t (u′ ∷ []) (λ is-t. let fields = LL.owed O.the-type O′.the-laws t _ is-t in let is-r = LL.owes B.the-type B′.the-laws (brief (t .row) (t .report)) (fields .1) in
           land ! (from ! (stop !)) (init ! 13 refl (LL.lawful O.the-type O′.the-laws 𝓤 H A W .typed t _ is-t .0)) $
@@ -222,7 +213,7 @@ module _ {M : Type 1} (𝓤 : URA M) (H : Heap 𝓤) (A : Atoms 𝓤) (W : Given
           returns-within ! Post refl (look ! 27 refl) $
           forget ! 5 refl $ forget ! 11 refl $ forget ! 15 refl $ forget ! 17 refl $ forget ! 19 refl $ forget ! 21 refl $ forget ! 23 refl $ forget ! 25 refl $ forget ! 27 refl $
           move ! (27 ∷ 28 ∷ []) $ free1 ! $ move ! (25 ∷ 26 ∷ []) $ free1 ! $ move ! (23 ∷ 24 ∷ []) $ free1 ! $ move ! (21 ∷ 22 ∷ []) $ free1 ! $ move ! (19 ∷ 20 ∷ []) $ free1 ! $ move ! (17 ∷ 18 ∷ []) $ free1 ! $ move ! (15 ∷ 16 ∷ []) $ free1 ! $ move ! (13 ∷ 14 ∷ []) $ free1 ! $ move ! (11 ∷ 12 ∷ []) $ free1 ! $ move ! (9 ∷ 10 ∷ []) $ free1 ! $ move ! (7 ∷ 8 ∷ []) $ free1 ! $ move ! (5 ∷ 6 ∷ []) $ free1 ! $ free0 ! $
-          keep ! (0 ∷ 1 ∷ 2 ∷ 3 ∷ 4 ∷ []) $ by ! (exits (brief (t .row) (t .report)) (t .conn) (turned-aside e so e′) is-r)))))
+          keep ! (0 ∷ 1 ∷ 2 ∷ 3 ∷ 4 ∷ []) $ by ! (exits (brief (t .row) (t .report)) (t .conn) e′ is-r)))))
 
       -- the doors alone are stored
       near-walk : (n : Near) → Is C.the-row c (conn-vals c) → Is E.the-row n (near-vals n) → Nearly (c .doors) f k id allow (piece .now) n → n .aside ≡ false
@@ -263,7 +254,7 @@ module _ {M : Type 1} (𝓤 : URA M) (H : Heap 𝓤) (A : Atoms 𝓤) (W : Given
           -- [κ₁; piece; cell; open; obs; auth; _11; …; _0]
           assigns ! (of-opd ! (load ! (from ! (fld ! refl (stop !))) (look-in ! 14 (sub ! 0 refl (whole !))))) (from ! (stop !)) (init ! 8 refl (tt, tt)) $
           first ! $ branches ! (load ! (from ! (stop !)) (look ! 8 refl))
-          (λ so. forget ! 8 refl $ forget ! 10 refl $ forget ! 14 refl $ aside-walk n is-c e (aside-yes (n .aside) so))
+          (λ so. forget ! 8 refl $ forget ! 10 refl $ forget ! 14 refl $ aside-walk is-c)
           (λ not-so. skips ! $ exec ! Cs Λ En m.t-5 (atRet En Post) $ forget ! 8 refl $ forget ! 10 refl $
           near-walk n is-c (subst (Is E.the-row n) (LL.tells E.the-type E′.the-laws n _ is-n) is-n) e (aside-no (n .aside) not-so)))))))
 
@@ -282,14 +273,14 @@ module _ {M : Type 1} (𝓤 : URA M) (H : Heap 𝓤) (A : Atoms 𝓤) (W : Given
         body-walk l0 l1 l2 l3 l4 l5 l6 l7 l8 l9 l10 l11))))))))))))
 
 module _ {M : Type 1} (𝓤 : URA M) (H : Heap 𝓤) (A : Atoms 𝓤) (W : Given 𝓤 H A) (at-mem : Memory → SProp 𝓤) (run : Routine → Fun 𝓤) where
-  walks : (Cs : Calls 𝓤 H) (Λ : Loops 𝓤 H) → FmC 𝓤 H (W .laws) Cs → Triple 𝓤 (Cs #connection·answer) (Answer 𝓤 H A at-mem run) → Triple 𝓤 (Cs #connection·overhear) (Overhear 𝓤 H A at-mem run) → Walks 𝓤 H A self.ended stayed (WpFn 𝓤 H Cs Λ code.function) (self.clauses 𝓤 H A at-mem run)
+  walks : (Cs : Calls 𝓤 H) (Λ : Loops 𝓤 H) → FmC 𝓤 H (W .laws) Cs → Triple 𝓤 (Cs #connection·answer) (Answer 𝓤 H A at-mem run) → Triple 𝓤 (Cs #connection·decide) (Decide 𝓤 H A at-mem run) → Walks 𝓤 H A self.ended stayed (WpFn 𝓤 H Cs Λ code.function) (self.clauses 𝓤 H A at-mem run)
   walks Cs Λ fm k₁ k₂ = walked 𝓤 H A self.ended stayed (self.clauses 𝓤 H A at-mem run) (WpFn 𝓤 H Cs Λ code.function) (λ κs. (ptr-vals, (found-vals, (uint-vals w64, (uint-vals w64, (uint-vals w64, (slice-vals, tt)))))))
       (λ κs. (mut-tells (named 0) (κs .0) C.the-row, (LL.tells F.the-type F′.the-laws, (uint-tells w64, (uint-tells w64, (uint-tells w64, (shr-slice-tells (named 1) (κs .1 .0) u8, tt)))))))
       (λ κs qs bounds a g are. via 𝓤 _ (fst∗ 𝓤 _ (emp 𝓤))
       (walk 𝓤 H A W at-mem run (κs .0) (κs .1 .0) (qs .0) (qs .1 .0) (a .0 .ptr .0) (a .0 .ptr .1) (a .0 .name) (a .0 .now) (a .1 .0) (a .1 .1 .0) (a .1 .1 .1 .0) (a .1 .1 .1 .1 .0) (a .1 .1 .1 .1 .1 .0)
       (are .1 .1 .0 .1) (are .1 .1 .1 .0 .1) (are .1 .1 .1 .1 .0 .1) (are .1 .0) Cs Λ fm k₁ k₂ (are .1 .1 .1 .1 .1 .0)))
 
-  meets : (𝓣 : Tables 𝓤 H) → Triple 𝓤 (𝓣 .C #connection·answer) (Answer 𝓤 H A at-mem run) → Triple 𝓤 (𝓣 .C #connection·overhear) (Overhear 𝓤 H A at-mem run) → Meets 𝓤 H A self.signature (WpFn 𝓤 H (𝓣 .C) (𝓣 .Λ) code.function) (self.spec 𝓤 H A at-mem run)
+  meets : (𝓣 : Tables 𝓤 H) → Triple 𝓤 (𝓣 .C #connection·answer) (Answer 𝓤 H A at-mem run) → Triple 𝓤 (𝓣 .C #connection·decide) (Decide 𝓤 H A at-mem run) → Meets 𝓤 H A self.signature (WpFn 𝓤 H (𝓣 .C) (𝓣 .Λ) code.function) (self.spec 𝓤 H A at-mem run)
   meets 𝓣 k₁ k₂ =
       walk-meets 𝓤 H A self.ended stayed W (goes-ref 𝓤 H A W 2 0 tt (plain (λ _. C.the-row)), (goes-none 𝓤 H A W 2 (λ _. F.the-row) yes (λ κs x f. refl), (goes-none 𝓤 H A W 2 (λ _. u64) yes (λ κs x f. refl), (goes-none 𝓤 H A W 2 (λ _. u64) yes (λ κs x f. refl), (goes-none 𝓤 H A W 2 (λ _. u64) yes (λ κs x f. refl), (goes-none-slice 𝓤 H A W 2 (1 ∷ []) tt (plain (λ _. u8)) yes, tt)))))) (self.clauses 𝓤 H A at-mem run)
       (WpFn 𝓤 H (𝓣 .C) (𝓣 .Λ) code.function) (WpFn-mono 𝓤 H (W .laws) 𝓣 code.function) (walks (𝓣 .C) (𝓣 .Λ) (fmOf 𝓤 H (W .laws) 𝓣) k₁ k₂)
@@ -301,4 +292,4 @@ settle-spec 𝓤 H 𝓜 𝓖 𝓡 =
     (tables 𝓤 H 𝓜 𝓡 code.env .C) (tables 𝓤 H 𝓜 𝓡 code.env .Λ) #calls·settle code.function (code.unfolded 𝓤 H 𝓜 𝓡)
     (meets 𝓤 H (𝓖 .A) (givenOf 𝓤 H 𝓜 𝓖) (𝓜 .mem) (𝓡 .run) (tablesOf 𝓤 H 𝓜 (tables 𝓤 H 𝓜 𝓡 code.env))
     (cited 𝓤 H (Answer 𝓤 H (𝓖 .A) (𝓜 .mem) (𝓡 .run)) 𝓜 𝓡 code.env #connection·answer answer-def.routine code.calls-connection·answer (answer-thm.met 𝓤 H 𝓜 𝓖 𝓡))
-    (cited 𝓤 H (Overhear 𝓤 H (𝓖 .A) (𝓜 .mem) (𝓡 .run)) 𝓜 𝓡 code.env #connection·overhear overhear-def.routine code.calls-connection·overhear (overhear-thm.met 𝓤 H 𝓜 𝓖 𝓡)))
+    (cited 𝓤 H (Decide 𝓤 H (𝓖 .A) (𝓜 .mem) (𝓡 .run)) 𝓜 𝓡 code.env #connection·decide decide-def.routine code.calls-connection·decide (decide-thm.met 𝓤 H 𝓜 𝓖 𝓡)))

@@ -13,7 +13,7 @@ brisk-requires c κs = search needs
 
 -- src/lib.rt:449:21
 returns : tie.Need-returns
-returns c = briefly-so (c .before .before .before .before .before .before .before .before .before .if1 .taken) (c .before .before .before .before .before .before .before .if2 .taken) (c .before .before .before .before .before .before .if3 .taken) (c .before .before .before .before .if4 .taken) (c .before .before .if5 .taken) (c .before .brisk .ensures)
+returns c = briefly-so (c .before .before .before .before .before .before .before .if1 .taken) (c .before .before .before .before .before .before .if2 .taken) (c .before .before .before .before .if3 .taken) (c .before .before .if4 .taken) (c .before .brisk .ensures)
 
 -- src/lib.rt:467:17
 numbered-report-requires : tie.Need-numbered-report-requires

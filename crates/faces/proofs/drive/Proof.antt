@@ -53,7 +53,7 @@ use Rattle.connection.proofs.Connection.Laws as C′
 use Rattle.connection.specs.declared.Report.{Report}
 use Rattle.connection.proofs.Report as N
 use Rattle.connection.proofs.Report.Laws as N′
-use Rattle.calls.specs.Promises.{Stepped}
+use Rattle.calls.specs.Lent.{Stepped}
 use Rattle.calls.proofs.step as callee
 use Rattle.calls.proofs.step.Symbol as callee-def
 use Rattle.calls.proofs.step.Symbol.{name as #callee}

@@ -46,7 +46,7 @@ use Rattle.connection.proofs.Connection.Laws as C′
 use Rattle.connection.specs.declared.Written.{Written}
 use Rattle.connection.proofs.Written as N
 use Rattle.connection.proofs.Written.Laws as N′
-use Rattle.calls.specs.Promises.{SaidGoaway}
+use Rattle.calls.specs.Lent.{SaidGoaway}
 use Rattle.calls.proofs.eistulko_goaway as callee
 use Rattle.calls.proofs.eistulko_goaway.Symbol as callee-def
 use Rattle.calls.proofs.eistulko_goaway.Symbol.{name as #callee}

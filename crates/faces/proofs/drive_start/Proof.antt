@@ -48,7 +48,7 @@ use Rattle.record.proofs.Record.Laws as T′
 use Rattle.connection.specs.declared.Connection.{Connection}
 use Rattle.connection.proofs.Connection as C
 use Rattle.connection.proofs.Connection.Laws as C′
-use Rattle.calls.specs.Promises.{Started}
+use Rattle.calls.specs.Lent.{Started}
 use Rattle.calls.proofs.eistulko_start as callee
 use Rattle.calls.proofs.eistulko_start.Symbol as callee-def
 use Rattle.calls.proofs.eistulko_start.Symbol.{name as #callee}
