@@ -44,3 +44,4 @@ pub mod InMemory
 pub mod Rebuilt
 pub mod ExportedMemory
 pub mod RunInMemory
+pub mod Stops

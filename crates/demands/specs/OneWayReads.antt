@@ -489,7 +489,7 @@ struck-by s w allow u h piece k t q =
 pub unhurt-by : {s : Shown streams} {w : O.OneState} → Reached₁ alone s w → NoFault [] (s .bytes)
 unhurt-by {s} {w} t = been-unhurt [] s w (been t)
 
-heard-reached : {s : Shown streams} {w : O.OneState} → Reached₁ alone s w → Hears [] s
+pub heard-reached : {s : Shown streams} {w : O.OneState} → Reached₁ alone s w → Hears [] s
 heard-reached {s} {w} t = hears [] s (O.lives w) (been t)
 
 -- ---- the second of its type
