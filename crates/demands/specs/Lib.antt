@@ -45,3 +45,4 @@ pub mod Rebuilt
 pub mod ExportedMemory
 pub mod RunInMemory
 pub mod Stops
+pub mod ExportedStops
