@@ -46,3 +46,4 @@ pub mod ExportedMemory
 pub mod RunInMemory
 pub mod Stops
 pub mod ExportedStops
+pub mod WrongStops
