@@ -56,12 +56,19 @@ told-last n skipped b = refl
 told-last n (section t) b = refl
 told-last n (kept k) b = refl
 
+abbrev pub InPayload : {P : Type 0} → State P → Type 0
+InPayload (in-type g p) = ⊥
+InPayload (in-length t g p) = ⊥
+InPayload (in-payload u k left p) = Unit {0}
+InPayload (due t p) = ⊥
+
 module _ (G : Grammar) where
-  -- behind `at` bytes, where the last payload ends at e: between two frames and where a section is due that is here, in a payload it is to come
+  -- behind `at` bytes, where the last payload ends at e: between two frames and where a section is due that is here, in a header it has been, in a
+  -- payload it is to come
   abbrev pub EndsBy : (at e : ℕ) → M.Run (G .P) → Type 0
   EndsBy at e (reads bl (in-type M.fresh p)) = at ≡ e
-  EndsBy at e (reads bl (in-type (M.need k v) p)) = Unit {0}
-  EndsBy at e (reads bl (in-length t g p)) = Unit {0}
+  EndsBy at e (reads bl (in-type (M.need k v) p)) = e ≤ at
+  EndsBy at e (reads bl (in-length t g p)) = e ≤ at
   EndsBy at e (reads bl (in-payload u k left p)) = at + suc left ≡ e
   EndsBy at e (reads bl (due t p)) = ⊥  -- a section is taken from the list, or the machine is stuck
   EndsBy at e (stuck whole) = Unit {0}
@@ -100,22 +107,22 @@ module _ (G : Grammar) where
   rule-ends at e begun t len bl (refuse n) = unfold M.settled in tt
   rule-ends at e begun t len bl (accept u p) = left-ends at bl u [] len p
 
-  size-ends : (at e begun t : ℕ) (bl : List Section) (p : G .P) (x : M.Fed) → EndsBy at (lastEnd e (M.size-says G begun at t p x)) (M.settled G at bl (M.sized G t p x))
+  size-ends : (at e begun t : ℕ) (bl : List Section) (p : G .P) (x : M.Fed) → e ≤ at → EndsBy at (lastEnd e (M.size-says G begun at t p x)) (M.settled G at bl (M.sized G t p x))
   unfolding M.size-says M.sized
-  size-ends at e begun t bl p (M.going g) = unfold M.settled M.supplied in tt
-  size-ends at e begun t bl p (M.value len) = rule-ends at e begun t len bl (G .rule p t len)
+  size-ends at e begun t bl p (M.going g) l = unfold M.settled M.supplied lastEnd in l
+  size-ends at e begun t bl p (M.value len) l = rule-ends at e begun t len bl (G .rule p t len)
 
-  after-ends : (at e k v : ℕ) (bl : List Section) (p : G .P) → EndsBy at e (M.settled G at bl (lives (M.typed p (M.after k v))))
+  after-ends : (at e k v : ℕ) (bl : List Section) (p : G .P) → e ≤ at → EndsBy at e (M.settled G at bl (lives (M.typed p (M.after k v))))
   unfolding M.after M.typed M.settled M.supplied
-  after-ends at e zero v bl p = tt
-  after-ends at e (suc k) v bl p = tt
+  after-ends at e zero v bl p l = l
+  after-ends at e (suc k) v bl p l = l
 
   -- one byte
   step-ends : (at e begun b : ℕ) (bl : List Section) (s : State (G .P)) → EndsBy at e (reads bl s) → EndsBy (suc at) (lastEnd e (M.says G begun (suc at) s b)) (M.settled G (suc at) bl (M.step G s b))
   unfolding M.says M.step M.fed lastEnd
-  step-ends at e begun b bl (in-type M.fresh p) h = after-ends (suc at) e _ _ bl p
-  step-ends at e begun b bl (in-type (M.need k v) p) h = after-ends (suc at) e _ _ bl p
-  step-ends at e begun b bl (in-length t g p) h = size-ends (suc at) e begun t bl p (M.fed g b)
+  step-ends at e begun b bl (in-type M.fresh p) h = after-ends (suc at) e _ _ bl p (omega arith)
+  step-ends at e begun b bl (in-type (M.need k v) p) h = after-ends (suc at) e _ _ bl p (omega arith)
+  step-ends at e begun b bl (in-length t g p) h = size-ends (suc at) e begun t bl p (M.fed g b) (omega arith)
   step-ends at e begun b bl (in-payload u k left p) h =
       let z : e ≡ suc at + left = omega arith in
       let q = last-append e (told u (b ∷ [])) (M.left-says G u (M.keep u k b) left p) ∙ ap (λ n. lastEnd n (M.left-says G u (M.keep u k b) left p)) (told-last e u b ∙ z) in
@@ -148,6 +155,15 @@ module _ (G : Grammar) where
   not-behind at e (in-length t g p) h n = absurd (n tt)
   not-behind at e (in-payload u k left p) h n = omega arith
   not-behind at e (due t p) h n = omega arith
+
+  -- outside a payload, the last one has come whole
+  pub payload-come : (at e : ℕ) (s : State (G .P)) → EndsBy at e (M.settled G at [] (lives s)) → (InPayload s → ⊥) → e ≤ at
+  unfolding M.settled M.supplied
+  payload-come at e (in-type M.fresh p) h n = omega arith
+  payload-come at e (in-type (M.need k v) p) h n = h
+  payload-come at e (in-length t g p) h n = h
+  payload-come at e (in-payload u k left p) h n = absurd (n tt)
+  payload-come at e (due t p) h n = omega arith
 
 -- ---- a feed that finished as many headers as it was allowed stops inside none
 
@@ -246,14 +262,18 @@ asks-so = asking-rules document
 abbrev pub NoFurther : (bytes : List ℕ) (sections : List (List ℕ)) → Type 0
 NoFurther bytes sections = length bytes ≤ lastEnd 0 (readingOf bytes sections .said)
 
-none-further : (s : Shown streams) (r : State Message) → Reached s r → (InHeader r → ⊥) → NoFurther (s .bytes) (s .sections)
-none-further s r t n =
+-- where the last payload ends, in the words of the reading
+pub ends-there : (s : Shown streams) (r : State Message) → Reached s r → let n = length (s .bytes) in EndsBy asks-so n (lastEnd 0 (readingOf (s .bytes) (s .sections) .said)) (M.settled asks-so n [] (lives r))
+ends-there s r t =
     let bl = sectionsOf (s .sections) in
     let a = run-ends asks-so 0 0 0 (M.fresh-run asks-so bl) (s .bytes) refl in
     let e = rw (append-nil bl) at (runs-there t []) in
     let z : 0 + length (s .bytes) ≡ length (s .bytes) = omega arith in
     let b = subst (EndsBy asks-so (length (s .bytes)) (lastEnd 0 (M.lists asks-so 0 0 (M.fresh-run asks-so bl) (s .bytes)))) (sym e) (rw z at a) in
-    rw (read-is asks-so bl (s .bytes)) (not-behind asks-so (length (s .bytes)) _ r b n)
+    rw (read-is asks-so bl (s .bytes)) b
+
+none-further : (s : Shown streams) (r : State Message) → Reached s r → (InHeader r → ⊥) → NoFurther (s .bytes) (s .sections)
+none-further s r t n = not-behind asks-so (length (s .bytes)) _ r (ends-there s r t) n
 
 fed-outside : (r r′ : State Message) (allow u h : ℕ) (piece : List ℕ) (e : Event) → streams .feed r allow piece ≡ goes u h e r′ → h ≡ allow → 1 ≤ u → InHeader r′ → ⊥
 fed-outside r r′ allow u h piece e q z l =

@@ -44,3 +44,6 @@ pub mod InMemory
 pub mod Rebuilt
 pub mod ExportedMemory
 pub mod RunInMemory
+pub mod Stops
+pub mod ExportedStops
+pub mod WrongStops

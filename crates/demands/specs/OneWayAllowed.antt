@@ -47,7 +47,7 @@ NoFurther₁ bytes = (r : Reading) → W.oneWay [] bytes ≡ W.of-control r → 
 
 -- ---- where a control stream's machine is, behind its bytes
 
-record ControlAt (bytes : List ℕ) (o : Outcome Control) : Type 0 where
+pub record ControlAt (bytes : List ℕ) (o : Outcome Control) : Type 0 where
   type : ℕ
   next : ℕ
   rest : List ℕ
@@ -55,7 +55,7 @@ record ControlAt (bytes : List ℕ) (o : Outcome Control) : Type 0 where
   kind : typeRule [] type ≡ W.is W.a-control
   state : M.settled control (length bytes) [] o ≡ M.run control next (M.fresh-run control []) rest
 
-abbrev At : List ℕ → O.OneState → Type 0
+abbrev pub At : List ℕ → O.OneState → Type 0
 At bytes (O.in-stream-type g) = (y : List ℕ) → integer 0 (bytes ++ y) ≡ resumed g (length bytes) y
 At bytes (O.in-control s) = ControlAt bytes (M.lives s)
 At bytes (O.in-qpack q) = Unit {0}
@@ -168,7 +168,7 @@ unfolding aloneBy
 alone-goes u₀ h₀ e₀ (O.lives s) q = (cc, cc, cc)
 alone-goes u₀ h₀ e₀ (O.dies code) q = let z : _≡_ {A = ℕ} 0 1 = cc in absurd (omega arith)
 
-reached-at : {s : Shown streams} {w : O.OneState} → Reached₁ alone s w → At (s .bytes) w
+pub reached-at : {s : Shown streams} {w : O.OneState} → Reached₁ alone s w → At (s .bytes) w
 unfolding nothing plusFeed
 reached-at at-first = unfold resumed in (λ y. refl)
 reached-at (by-feed {s = s} {w = w} {w′ = w′} {allow = allow} {u = u} {piece = piece} t q) =
@@ -230,17 +230,24 @@ one-outside allow O.in-skipped piece q l = tt
 
 -- ---- over traces
 
-none-further₁ : (bytes : List ℕ) (s : State Control) → ControlAt bytes (M.lives s) → (InHeader s → ⊥) → NoFurther₁ bytes
+-- the reading of a control stream's bytes, and where its last payload ends
+pub control-reads : (bytes : List ℕ) (s : State Control) → ControlAt bytes (M.lives s) → (r : Reading) × (W.oneWay [] bytes ≡ W.of-control r)
+    × EndsBy control (length bytes) (lastEnd (typeEnd (integer 0 bytes)) (r .said)) (M.settled control (length bytes) [] (M.lives s))
 unfolding W.oneWay W.behind-type W.typed typeEnd
-none-further₁ bytes s w n r e =
+control-reads bytes s w =
     let i = integer-length 0 bytes (w .read) in
     let z : w .next + length (w .rest) ≡ length bytes = omega arith in
     let a = rw z at (run-ends control (w .next) (w .next) (w .next) (M.fresh-run control []) (w .rest) refl) in
     let b = subst (EndsBy control (length bytes) (lastEnd (w .next) (M.lists control (w .next) (w .next) (M.fresh-run control []) (w .rest)))) (sym (w .state)) a in
-    let q : W.oneWay [] bytes ≡ W.of-control (record { said = M.lists control (w .next) (w .next) (M.fresh-run control []) (w .rest); verdict = M.finished control (length bytes) (M.run control (w .next) (M.fresh-run control []) (w .rest)) })
-    = (rw (w .read, w .kind) refl) ∙ ap W.of-control (read-from-is control (w .next) (length bytes) [] (w .rest) z) in
-    let k = one-reading (sym e ∙ q) in
-    rw (w .read, k) (not-behind control (length bytes) _ s b n)
+    let r : Reading = record { said = M.lists control (w .next) (w .next) (M.fresh-run control []) (w .rest); verdict = M.finished control (length bytes) (M.run control (w .next) (M.fresh-run control []) (w .rest)) } in
+    let q : W.oneWay [] bytes ≡ W.of-control r = (rw (w .read, w .kind) refl) ∙ ap W.of-control (read-from-is control (w .next) (length bytes) [] (w .rest) z) in
+    (r, q, rw (w .read) b)
+
+none-further₁ : (bytes : List ℕ) (s : State Control) → ControlAt bytes (M.lives s) → (InHeader s → ⊥) → NoFurther₁ bytes
+none-further₁ bytes s w n r e =
+    let c = control-reads bytes s w in
+    let k = one-reading (sym e ∙ c .1) in
+    rw k (not-behind control (length bytes) _ s (c .2) n)
   where
     one-reading : {x y : Reading} → W.of-control x ≡ W.of-control y → x ≡ y
     one-reading e = cc

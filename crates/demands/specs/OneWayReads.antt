@@ -389,7 +389,7 @@ module _ (seen : List ℕ) where
 
 -- ---- every stream that accepted feeds lead to
 
-alone-goes : (u₀ h₀ : ℕ) (e₀ : O.OneEvent) (o : O.OneOutcome) {u h : ℕ} {e : Event} {w : O.OneState} → aloneBy u₀ h₀ e₀ o ≡ goes u h e w
+pub alone-goes : (u₀ h₀ : ℕ) (e₀ : O.OneEvent) (o : O.OneOutcome) {u h : ℕ} {e : Event} {w : O.OneState} → aloneBy u₀ h₀ e₀ o ≡ goes u h e w
     → (o ≡ O.lives w) × (u₀ ≡ u) × (h₀ ≡ h) × (oneEvent u₀ e₀ ≡ e)
 unfolding aloneBy
 alone-goes u₀ h₀ e₀ (O.lives s) q = (cc, cc, cc, cc)
@@ -489,7 +489,7 @@ struck-by s w allow u h piece k t q =
 pub unhurt-by : {s : Shown streams} {w : O.OneState} → Reached₁ alone s w → NoFault [] (s .bytes)
 unhurt-by {s} {w} t = been-unhurt [] s w (been t)
 
-heard-reached : {s : Shown streams} {w : O.OneState} → Reached₁ alone s w → Hears [] s
+pub heard-reached : {s : Shown streams} {w : O.OneState} → Reached₁ alone s w → Hears [] s
 heard-reached {s} {w} t = hears [] s (O.lives w) (been t)
 
 -- ---- the second of its type

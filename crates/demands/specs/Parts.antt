@@ -585,7 +585,7 @@ module _ (s : Settings) (g m : Option ℕ) (next : Control) where
   cancel-loud none e = let z : _≡_ {A = ℕ} 0 1 = cc in absurd (omega arith)
   cancel-loud (some id) e = let z : _≡_ {A = ℕ} 0 1 = cc in absurd (omega arith)
 
-taken-loud : (k : Kept) (place next : Control) (payload : List ℕ) → ControlFits (kept k) place → judged k place payload ≡ go next → Loud (noticeOf (tells k payload))
+pub taken-loud : (k : Kept) (place next : Control) (payload : List ℕ) → ControlFits (kept k) place → judged k place payload ≡ go next → Loud (noticeOf (tells k payload))
 unfolding judged tells
 taken-loud Kept.settings place next payload f e = settings-loud (settings-of payload) next (rw f at e)
 taken-loud Kept.goaway unset next payload f e = absurd f
