@@ -43,4 +43,6 @@ pub mod OneWayAllowed
 pub mod InMemory
 pub mod Rebuilt
 pub mod ExportedMemory
+pub mod Said
+pub mod ExportedRecords
 pub mod RunInMemory
