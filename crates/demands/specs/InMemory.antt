@@ -482,7 +482,7 @@ one-way-none call allow piece r d s =
     by-own NoStreamFault call (λ z. heard-none r d (f .used) (f .heads) (f .event) (f .after) (λ k e. one-way-listed seen allow s piece k e)) (small-none 5 (omega arith)) (close-none r d s) (close-none r d s)
 
 module _ {c : Connection} {f : Found} {call id allow : ℕ} {piece : List ℕ} {t : Turn} (alive : c .doors .code ≡ 0) (z : IsStreamFault (t .report .number)) where
-  turned-freed : ¬ (call ≡ 0) → Turned c f call id allow piece t → (t .conn ≡ c) × (t .row ≡ free-record) × (f .at < f .len)
+  pub turned-freed : ¬ (call ≡ 0) → Turned c f call id allow piece t → (t .conn ≡ c) × (t .row ≡ free-record) × (f .at < f .len)
   turned-freed b (other-row x q) = never 9 (omega arith) (ap (λ y. y .report .number) q) z
   turned-freed b (dead l x q) = absurd (x alive)
   turned-freed b (opens v e q) = absurd (b e)

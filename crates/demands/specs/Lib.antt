@@ -43,6 +43,8 @@ pub mod OneWayAllowed
 pub mod InMemory
 pub mod Rebuilt
 pub mod ExportedMemory
+pub mod Said
+pub mod ExportedRecords
 pub mod RunInMemory
 pub mod Stops
 pub mod ExportedStops

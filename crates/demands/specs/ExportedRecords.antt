@@ -1,0 +1,316 @@
+-- WHAT EACH CALL LEAVES OF THE HOST'S RECORDS, OF THE EXPORTED FUNCTIONS: a start one content, whatever memory it is lent; a call on a stream one record
+-- altered, in its place; and at every moment of a run the connection's record keeps of the client what its notices have told (Said). Exported says what
+-- `Every` is. Assumes nothing.
+use mathlib.Core.Path.{_≡_, refl, sym, ap, _∙_}
+use Prim.Native.Nat.{ℕ, zero, suc, _<_}
+use native.Mathlib.Decide.{decLt}
+use native.Mathlib.Omega.{arith}
+use mathlib.Core.List.{List, [], _∷_, _++_, map}
+use lib.ListN.{length, getD, set, replicate}
+use Rattle.rules.specs.Reading.{Verdict, whole, fault, waits}
+use Rattle.rules.specs.Message.{Message}
+use Rattle.rules.specs.Request.{document, request as asking-rules}
+use Rattle.rules.specs.Control.{Control, unset, set as has-set}
+use Rattle.meaning.specs.NumberLaws.{code-high}
+use Rattle.meaning.specs.Machine.{State, finish}
+use Rattle.meaning.specs.OneWayFeed.{OneState}
+use Rattle.rules.specs.Calls.{feed, section, end, reset, done, Pair, Call, start, open′, on, goaway, gave, same, fresh, call, trace}
+use Rattle.record.specs.declared.Record.{Record}
+use Rattle.record.specs.Row.{free-record}
+use Rattle.requests.specs.Reply as reply
+use Rattle.requests.specs.Reply.{stateIn}
+use Rattle.control.specs.Rules.{someIf, limitsIs, controlAt, controlOf}
+use Rattle.oneway.specs.declared.calls.Side.{Side}
+use Rattle.oneway.specs.Heard as side
+use Rattle.oneway.specs.Heard.{stateHere}
+use Rattle.oneway.specs.Closed.{closes}
+use Rattle.connection.specs.declared.doors.Doors.{Doors}
+use Rattle.connection.specs.declared.doors.Opening.{Opening}
+use Rattle.connection.specs.declared.Connection.{Connection}
+use Rattle.connection.specs.declared.Report.{Report}
+use Rattle.connection.specs.declared.Found.{Found}
+use Rattle.connection.specs.declared.Turn.{Turn}
+use Rattle.connection.specs.Openings.{openedOf}
+use Rattle.connection.specs.OpeningWays as ways
+use Rattle.connection.specs.Halves.{sideIn}
+use Rattle.connection.specs.Faults.{withCode, Fault}
+use Rattle.connection.specs.Whose.{Belongs, Wanted, FoundIn, belongs-wanted, wanted-belongs}
+use Rattle.connection.specs.Turned.{fresh-connection, firstRecord, takenBy, freeAt, byCall, requestAs, oneWayAs, Turned, other-row, dead, opens, not-open, request, one-way, begunOf, sweptOf}
+use Rattle.connection.specs.Ways.{begun-fresh, swept-free, none-at}
+use Rattle.calls.specs.Promises.{Started, Stepped}
+use Rattle.demands.specs.Streams.{streams}
+use Rattle.demands.specs.Demands.{Calls}
+use Rattle.demands.specs.Means.{reportOf}
+use Rattle.demands.specs.Runs.{Seen, a-written, Does, starts, opens-one, feeds, gives, ends, resets, goes-away, numberIn, start-nine, fault-alters, SettingsAre}
+use Rattle.demands.specs.Host.{Run, then-called, meant}
+use Rattle.demands.specs.InMemory.{IsStreamFault, turned-freed, stream-fault}
+use Rattle.demands.specs.Said.{toldIn, said-is-told}
+use Rattle.demands.specs.Exports.{CallSays, StartSays, World, OfStart, of-start, Every, every}
+
+-- ---- DEFINITION: what a start leaves
+
+-- on a row of 24 it answers 0 and leaves the fresh connection record and 24 free records; on a row of another length it answers 9 and alters nothing
+pub record StartsAnew (c : Connection) (rows : List Record) (n : ℕ) (c′ : Connection) (rows′ : List Record) : Type 0 where
+  pub anew : length rows ≡ 24 → (n ≡ 0) × (c′ ≡ fresh-connection) × (rows′ ≡ replicate 24 free-record)
+  pub refused : ¬ (length rows ≡ 24) → (n ≡ 9) × (c′ ≡ c) × (rows′ ≡ rows)
+
+-- ---- DEFINITION: which record, and what is left of the row
+
+-- the lowest free record
+pub record LowestFree (rows : List Record) (at : ℕ) : Type 0 where
+  pub there : at < length rows
+  pub is-free : getD rows at free-record ≡ free-record
+  pub lowest : (j : ℕ) → j < at → ¬ (getD rows j free-record ≡ free-record)
+
+-- the first record of an open stream that has this ID
+pub record FirstOf (id : ℕ) (rows : List Record) (at : ℕ) : Type 0 where
+  pub there : at < length rows
+  pub own : Belongs id (getD rows at free-record)
+  pub first : (j : ℕ) → j < at → ¬ (Belongs id (getD rows j free-record))
+
+-- the stream's record holds another content, every other is as it was and where it was
+abbrev pub Alters : (id : ℕ) (rows rows′ : List Record) → Type 0
+Alters id rows rows′ = (at : ℕ) × FirstOf id rows at × ((x : Record) × (rows′ ≡ set rows at x))
+
+-- the stream's record is free, every other is as it was and where it was
+abbrev pub FreesFirst : (id : ℕ) (rows rows′ : List Record) → Type 0
+FreesFirst id rows rows′ = (at : ℕ) × FirstOf id rows at × (rows′ ≡ set rows at free-record)
+
+-- after a call that is accepted
+abbrev pub LeavesRow : Call streams → (rows rows′ : List Record) → Type 0
+LeavesRow start rows rows′ = rows′ ≡ replicate 24 free-record
+LeavesRow (open′ id) rows rows′ = (at : ℕ) × LowestFree rows at × (rows′ ≡ set rows at (firstRecord id))
+LeavesRow (on id (feed allow piece)) rows rows′ = Alters id rows rows′
+LeavesRow (on id (section block)) rows rows′ = Alters id rows rows′
+LeavesRow (on id end) rows rows′ = FreesFirst id rows rows′
+LeavesRow (on id reset) rows rows′ = FreesFirst id rows rows′
+LeavesRow (goaway id room) rows rows′ = rows′ ≡ rows
+
+-- after a stream fault (of an opening: a barred request; neither a start nor our GOAWAY answers with one)
+abbrev pub FaultLeavesRow : Call streams → (rows rows′ : List Record) → Type 0
+FaultLeavesRow start rows rows′ = ⊥
+FaultLeavesRow (open′ id) rows rows′ = rows′ ≡ rows
+FaultLeavesRow (on id o) rows rows′ = FreesFirst id rows rows′
+FaultLeavesRow (goaway id room) rows rows′ = ⊥
+
+-- ---- start
+
+swept-all : (n : ℕ) → n ≡ 24 → (rows : List Record) → map (sweptOf n) rows ≡ replicate (length rows) free-record
+swept-all n e [] = refl
+swept-all n e (r ∷ rows) = ap (λ x. x ∷ map (sweptOf n) rows) (sym (swept-free n r e refl)) ∙ ap (λ x. free-record ∷ x) (swept-all n e rows)
+
+starts-anew : {c : Connection} {rows : List Record} {n : ℕ} {c′ : Connection} {rows′ : List Record} → Started c rows c′ rows′ n → StartsAnew c rows n c′ rows′
+unfolding reportOf
+starts-anew {c} {rows} m = record {
+  anew = λ long. let b = sym (begun-fresh c (length rows) long refl) in
+      (m .answered ∙ ap (λ y. y .number) b, m .conn-left ∙ ap (λ y. y .conn) b, m .rows-left ∙ swept-all (length rows) long rows ∙ ap (λ k. replicate k free-record) long);
+  refused = λ other. let u = start-nine other m in (u .2, u .0, u .1);
+}
+
+-- EVERY START, whatever memory it is lent, a dead connection's too
+pub start-exactly : (w : World) → OfStart w StartsAnew
+start-exactly w = of-start w StartsAnew (λ c rows n c′ rows′ m. starts-anew m)
+
+-- and over traces
+pub start-accepted : (p : Pair streams) → call start p ≡ same (gave done) fresh
+unfolding call
+start-accepted p = refl
+
+-- ---- which record was found
+
+lowest-free : {id : ℕ} {rows : List Record} {f : Found} → FoundIn 0 id rows f → f .at < length rows → LowestFree rows (f .at)
+unfolding Wanted
+lowest-free x l = record { there = l; is-free = x .there l; lowest = x .before }
+
+first-of : {call id : ℕ} {rows : List Record} {f : Found} → ¬ (call ≡ 0) → FoundIn call id rows f → f .at < length rows → FirstOf id rows (f .at)
+first-of {call} {id} {rows} {f} n x l =
+    record { there = l; own = wanted-belongs id (getD rows (f .at) free-record) call n (x .there l); first = λ j m b. x .before j m (belongs-wanted id (getD rows j free-record) call n b) }
+
+below : (at : ℕ) → 0 < freeAt at → at < 24
+below at l = by (decLt at 24)
+  where
+    by : Dec (at < 24) → at < 24
+    by (yes x) = x
+    by (no x) = let z = none-at at (omega arith) in absurd (omega arith)
+
+opened-below : {d : Doors} {id at : ℕ} {o : Opening} → ways.Went d id (freeAt at) o → o .number ≡ 0 → at < 24
+opened-below (ways.refused n z) e = absurd (z e)
+opened-below (ways.barred a b) e = absurd (omega arith)
+opened-below {at = at} (ways.a-request a b c l) e = below at l
+opened-below {at = at} (ways.a-one-way a b c l) e = below at l
+
+-- ---- what an end or a reset leaves
+
+ended-frees : (r : Record) (v : Verdict) → reply.endedBy r v .number ≡ 0 → reply.endedBy r v .row ≡ free-record
+unfolding reply.endedBy
+ended-frees r whole e = refl
+ended-frees r (fault n place) e = let h = code-high n in absurd (omega arith)
+ended-frees r (waits place) e = absurd (omega arith)
+
+closed-frees : (r : Record) (d : Side) (n : ℕ) → side.closedBy r d n .number ≡ 0 → side.closedBy r d n .row ≡ free-record
+unfolding side.closedBy
+closed-frees r d zero e = refl
+closed-frees r d (suc n) e = absurd (omega arith)
+
+data Closing : ℕ → Type 0 where
+  an-end : Closing 3
+  a-reset : Closing 4
+
+request-frees : {call : ℕ} → Closing call → (allow : ℕ) (piece : List ℕ) (r : Record) (s : State Message) → requestAs call allow piece r s .number ≡ 0 → requestAs call allow piece r s .row ≡ free-record
+unfolding byCall
+request-frees an-end allow piece r s e = ended-frees r (finish (asking-rules document) 0 s) e
+request-frees a-reset allow piece r s e = refl
+
+one-way-frees : {call : ℕ} → Closing call → (allow : ℕ) (piece : List ℕ) (r : Record) (d : Side) (s : OneState) → oneWayAs call allow piece r d s .number ≡ 0 → oneWayAs call allow piece r d s .row ≡ free-record
+unfolding byCall
+one-way-frees an-end allow piece r d s e = closed-frees r d (closes s) e
+one-way-frees a-reset allow piece r d s e = closed-frees r d (closes s) e
+
+-- ---- a call that is accepted
+
+module _ {c : Connection} {f : Found} {call id allow : ℕ} {piece : List ℕ} {t : Turn} (z : t .report .number ≡ 0) where
+  turned-opens : call ≡ 0 → Turned c f call id allow piece t → (f .at < 24) × (t .row ≡ firstRecord id)
+  unfolding takenBy
+  turned-opens b (other-row x q) = let e = ap (λ y. y .report .number) q in absurd (omega arith)
+  turned-opens b (dead l x q) = absurd (x (sym (ap (λ y. y .report .number) q) ∙ z))
+  turned-opens b (opens v e q) =
+      let n = sym (ap (λ y. y .report .number) q) ∙ z in
+      (opened-below (ways.went (c .doors) id (freeAt (f .at))) n, ap (λ y. y .row) q ∙ ap (λ k. takenBy k id (f .row)) n)
+  turned-opens b (not-open v x s q) = absurd (x b)
+  turned-opens b (request v x l o q s) = absurd (x b)
+  turned-opens b (one-way v x l h q s) = absurd (x b)
+
+  module _ (n : ¬ (call ≡ 0)) where
+    turned-place : Turned c f call id allow piece t → f .at < 24
+    turned-place (other-row x q) = let e = ap (λ y. y .report .number) q in absurd (omega arith)
+    turned-place (dead l x q) = absurd (x (sym (ap (λ y. y .report .number) q) ∙ z))
+    turned-place (opens v e q) = absurd (n e)
+    turned-place (not-open v x s q) = let e = ap (λ y. y .report .number) q in absurd (omega arith)
+    turned-place (request v x l o q s) = l
+    turned-place (one-way v x l h q s) = l
+
+    turned-closes : Closing call → Turned c f call id allow piece t → t .row ≡ free-record
+    turned-closes k (other-row x q) = let e = ap (λ y. y .report .number) q in absurd (omega arith)
+    turned-closes k (dead l x q) = absurd (x (sym (ap (λ y. y .report .number) q) ∙ z))
+    turned-closes k (opens v e q) = absurd (n e)
+    turned-closes k (not-open v x s q) = let e = ap (λ y. y .report .number) q in absurd (omega arith)
+    turned-closes k (request v x l o q s) = ap (λ y. y .row) q ∙ request-frees k allow piece (f .row) (stateIn (f .row)) (sym (ap (λ y. y .report .number) q) ∙ z)
+    turned-closes k (one-way v x l h q s) = ap (λ y. y .row) q ∙ one-way-frees k allow piece (f .row) (sideIn c) (stateHere (f .row) (sideIn c)) (sym (ap (λ y. y .report .number) q) ∙ z)
+
+module _ {c : Connection} {rows : List Record} {call id allow : ℕ} {piece : List ℕ} {c′ : Connection} {rows′ : List Record} {r : Report} (long : length rows ≡ 24) (m : Stepped c rows call id allow piece c′ rows′ r) where
+  -- the one record, and what it holds then
+  set-to : {x : Record} → m .turn .row ≡ x → rows′ ≡ set rows (m .found .at) x
+  set-to q = m .rows-left ∙ ap (set rows (m .found .at)) q
+
+  module _ (z : r .number ≡ 0) where
+    accepted : m .turn .report .number ≡ 0
+    accepted = sym (ap (λ y. y .number) (m .answered)) ∙ z
+
+    altered : ¬ (call ≡ 0) → Alters id rows rows′
+    altered n = let l = turned-place accepted n (m .turned) in (m .found .at, first-of n (m .is-found) (omega arith), (m .turn .row, m .rows-left))
+
+    closed : ¬ (call ≡ 0) → Closing call → FreesFirst id rows rows′
+    closed n k = let l = turned-place accepted n (m .turned) in (m .found .at, first-of n (m .is-found) (omega arith), set-to (turned-closes accepted n k (m .turned)))
+
+  faulted : c .doors .code ≡ 0 → IsStreamFault (r .number) → ¬ (call ≡ 0) → FreesFirst id rows rows′
+  faulted a z n =
+      let u = turned-freed a (z .0, sym (ap (λ y. y .number) (m .answered)) ∙ z .1) n (m .turned) in
+      let k = m .is-found .long in
+      (m .found .at, first-of n (m .is-found) (let l = u .2 in omega arith), set-to (u .1))
+
+opened-lowest : {c : Connection} {rows : List Record} {id : ℕ} {c′ : Connection} {rows′ : List Record} {r : Report} → length rows ≡ 24 → Stepped c rows 0 id 0 [] c′ rows′ r → r .number ≡ 0 → LeavesRow (open′ id) rows rows′
+opened-lowest long m z =
+    let u = turned-opens (accepted long m z) refl (m .turned) in
+    (m .found .at, lowest-free (m .is-found) (let l = u .0 in omega arith), set-to long m (u .1))
+
+leaves-row : {c : Connection} {rows : List Record} {k : Call streams} {x : Seen} {c′ : Connection} {rows′ : List Record} → Does c rows k x c′ rows′ → length rows ≡ 24 → numberIn x ≡ 0 → LeavesRow k rows rows′
+unfolding numberIn
+leaves-row (starts m) long z = starts-anew m .anew long .2
+leaves-row (opens-one m) long z = opened-lowest long m z
+leaves-row (feeds m) long z = altered long m z (λ e. omega arith)
+leaves-row (gives m) long z = altered long m z (λ e. omega arith)
+leaves-row (ends m) long z = closed long m z (λ e. omega arith) an-end
+leaves-row (resets m) long z = closed long m z (λ e. omega arith) a-reset
+leaves-row (goes-away m) long z = refl
+
+-- AFTER A CALL THAT IS ACCEPTED, whatever memory is lent with a row of 24
+abbrev pub AltersOne : CallSays
+AltersOne c rows k x c′ rows′ = length rows ≡ 24 → numberIn x ≡ 0 → LeavesRow k rows rows′
+
+pub accepted-alters-one : (w : World) → Every w AltersOne
+accepted-alters-one w = every w AltersOne (λ c rows k x c′ rows′ m. leaves-row m)
+
+fault-leaves-row : {c : Connection} {rows : List Record} {k : Call streams} {x : Seen} {c′ : Connection} {rows′ : List Record} → Does c rows k x c′ rows′ → c .doors .code ≡ 0 → length rows ≡ 24 → IsStreamFault (numberIn x) → FaultLeavesRow k rows rows′
+unfolding numberIn
+fault-leaves-row (starts m) a long z = absurd (stream-fault a (starts m) z)
+fault-leaves-row (opens-one m) a long z = stream-fault a (opens-one m) z .1
+fault-leaves-row (feeds m) a long z = faulted long m a z (λ e. omega arith)
+fault-leaves-row (gives m) a long z = faulted long m a z (λ e. omega arith)
+fault-leaves-row (ends m) a long z = faulted long m a z (λ e. omega arith)
+fault-leaves-row (resets m) a long z = faulted long m a z (λ e. omega arith)
+fault-leaves-row {c} {rows} (goes-away {c′ = c′} {w = w} {id = id} {room = room} m) a long z = let d : Does c rows (goaway id (length room)) (a-written w) c′ rows = goes-away m in absurd (stream-fault a d z)
+
+-- AFTER A STREAM FAULT on a live connection, whatever memory is lent with a row of 24
+abbrev pub FaultFreesOne : CallSays
+FaultFreesOne c rows k x c′ rows′ = c .doors .code ≡ 0 → length rows ≡ 24 → IsStreamFault (numberIn x) → FaultLeavesRow k rows rows′
+
+pub fault-frees-one : (w : World) → Every w FaultFreesOne
+fault-frees-one w = every w FaultFreesOne (λ c rows k x c′ rows′ m. fault-leaves-row m)
+
+-- AFTER A CONNECTION FAULT of a call on a stream, whatever memory is lent: the code is kept, and every other byte is as it was
+abbrev pub OnStream : Call streams → Type 0
+OnStream start = ⊥
+OnStream (open′ id) = ⊥
+OnStream (on id o) = Unit {0}
+OnStream (goaway id room) = ⊥
+
+abbrev pub KeepsCode : CallSays
+KeepsCode c rows k x c′ rows′ = OnStream k → Fault (numberIn x) → (c′ ≡ withCode (numberIn x) c) × (rows′ ≡ rows)
+
+keeps-code : {c : Connection} {rows : List Record} {k : Call streams} {x : Seen} {c′ : Connection} {rows′ : List Record} → Does c rows k x c′ rows′ → KeepsCode c rows k x c′ rows′
+unfolding numberIn
+keeps-code (starts m) l z = absurd l
+keeps-code (opens-one m) l z = absurd l
+keeps-code (feeds m) l z = fault-alters (λ e. omega arith) m z
+keeps-code (gives m) l z = fault-alters (λ e. omega arith) m z
+keeps-code (ends m) l z = fault-alters (λ e. omega arith) m z
+keeps-code (resets m) l z = fault-alters (λ e. omega arith) m z
+keeps-code (goes-away m) l z = absurd l
+
+pub fault-keeps-code : (w : World) → Every w KeepsCode
+fault-keeps-code w = every w KeepsCode (λ c rows k x c′ rows′ m. keeps-code m)
+
+-- ---- WHAT THE CONNECTION'S RECORD KEEPS OF THE CLIENT
+
+-- no settings have come; or these, and of GOAWAY and MAX_PUSH_ID the last, if any
+abbrev pub KeptIs : Connection → Control → Type 0
+KeptIs c unset = c .side .kept .set ≡ 0
+KeptIs c (has-set s g m) =
+    let k = c .side .kept in
+    SettingsAre c (s .section-size) (s .table-capacity) (s .blocked-streams) × (someIf (k .goaways) (k .goaway .0) ≡ g) × (someIf (k .pushes) (k .push .0) ≡ m)
+
+kept-is : (c : Connection) (p : Control) → controlOf (sideIn c .kept) ≡ p → KeptIs c p
+kept-is c p e = by (c .side .kept .set) refl p e
+  where
+    by : (n : ℕ) → c .side .kept .set ≡ n → (p : Control) → controlAt n (sideIn c .kept) ≡ p → KeptIs c p
+    by zero q unset e = q
+    by zero q (has-set s g m) e = let z : _≡_ {A = ℕ} 0 1 = (unfold controlAt in cc) in absurd (omega arith)
+    by (suc n) q unset e = let z : _≡_ {A = ℕ} 0 1 = (unfold controlAt in cc) in absurd (omega arith)
+    by (suc n) q (has-set s g m) e =
+        let k = sideIn c .kept in
+        let z : limitsIs k ≡ s = (unfold controlAt in cc) in
+        let y : someIf (k .goaways) (k .goaway .0) ≡ g = (unfold controlAt in cc) in
+        let x : someIf (k .pushes) (k .push .0) ≡ m = (unfold controlAt in cc) in
+        (record { have-come = λ o. omega arith; section-size = ap (λ v. v .section-size) z; table-capacity = ap (λ v. v .table-capacity) z; blocked-streams = ap (λ v. v .blocked-streams) z }, y, x)
+
+-- a start leaves none, whatever was there
+pub fresh-keeps-none : KeptIs fresh-connection unset
+fresh-keeps-none = refl
+
+-- and after every call of a run: what the notices have told since the last start
+abbrev pub KeepsWhatWasTold : CallSays
+KeepsWhatWasTold c rows k x c′ rows′ = (ks : Calls) (xs : List Seen) → Run ks xs c rows → KeptIs c′ (toldIn (trace fresh (ks ++ (k ∷ []))))
+
+pub keeps-what-was-told : (w : World) → Every w KeepsWhatWasTold
+keeps-what-was-told w = every w KeepsWhatWasTold (λ c rows k x c′ rows′ m ks xs r.
+    kept-is c′ (toldIn (trace fresh (ks ++ (k ∷ [])))) (ap (λ p. p .conn .kept .said) (meant (then-called r m) .holds) ∙ said-is-told (ks ++ (k ∷ []))))
