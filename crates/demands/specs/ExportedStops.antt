@@ -16,7 +16,7 @@ use Rattle.demands.specs.Stops.{ComesInTime, AtAllowance, AtAllowance₁
 -- a request stream that runs: a part lies within one payload, and a feed that reports nothing and leaves bytes of its piece stopped at its allowance
 abbrev pub RequestStops : FeedSays
 RequestStops c rows id piece allow r c′ rows′ = (ks : Calls) (xs : List Seen) → Run ks xs c rows → kindOf id ≡ some request → shows id ks .fate ≡ running
-    → (a : Answer) × (r ≡ reportOf a) × ((used heads : ℕ) (e : Event) → a ≡ gave (fed used heads e) → OnePayload (shows id ks .shown) piece e)
+    → (a : Answer) × (r ≡ reportOf a) × ((used heads : ℕ) (e : Event) → a ≡ gave (fed used heads e) → OnePayload (shows id ks .shown) used piece e)
     × ((used heads : ℕ) → a ≡ gave (fed used heads quiet) → used < length piece → let s = shows id ks .shown in AtAllowance allow heads (s .bytes ++ take used piece) (s .sections))
 
 pub demand-2-stops : (w : World) → OfFeed w RequestStops

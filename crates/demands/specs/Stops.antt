@@ -69,13 +69,15 @@ pub record AtAllowance₁ (allow heads : ℕ) (bytes : List ℕ) : Type 0 where
   pub is-control : W.oneWay [] bytes ≡ W.of-control said
   pub payloads-come : lastEnd (typeEnd (integer 0 bytes)) (said .said) ≤ length bytes
 
--- 3. A PART LIES WITHIN ONE PAYLOAD: the bytes before it carry what was handed over before, and no more. So each byte of the part is carried (Rebuilt: the part is all
--- that the bytes used add), and none of them is a header's
-abbrev pub OnePayload : (before : Shown streams) (piece : List ℕ) → Event → Type 0
-OnePayload s piece quiet = Unit {0}
-OnePayload s piece (section-bytes from len last) = reading .blocks (s .bytes ++ take from piece) (s .sections) ≡ s .blocks
-OnePayload s piece (content-bytes from len) = reading .carried (s .bytes ++ take from piece) (s .sections) ≡ s .content
-OnePayload s piece (notice what) = Unit {0}
+-- 3. A PART LIES WITHIN ONE PAYLOAD: the bytes before it carry what was handed over before, and no more; and no header is finished within it
+abbrev pub NoHeader : (before : Shown streams) (from used : ℕ) (piece : List ℕ) → Type 0
+NoHeader s from u piece = reading .heads (s .bytes ++ take from piece) (s .sections) ≡ reading .heads (s .bytes ++ take u piece) (s .sections)
+
+abbrev pub OnePayload : (before : Shown streams) (used : ℕ) (piece : List ℕ) → Event → Type 0
+OnePayload s u piece quiet = Unit {0}
+OnePayload s u piece (section-bytes from len last) = (reading .blocks (s .bytes ++ take from piece) (s .sections) ≡ s .blocks) × NoHeader s from u piece
+OnePayload s u piece (content-bytes from len) = (reading .carried (s .bytes ++ take from piece) (s .sections) ≡ s .content) × NoHeader s from u piece
+OnePayload s u piece (notice what) = Unit {0}
 
 -- ---- a feed given only the bytes before its event
 
@@ -92,40 +94,90 @@ before-less (F.section-bytes len last) n u h = (h .0, omega (arith, h .1))
 before-less (F.content-bytes len) n u h = (h .0, omega (arith, h .1))
 before-less (F.taken k payload) n u h = omega arith
 
+abbrev IsPart : F.Event → Type 0
+IsPart F.quiet = ⊥
+IsPart (F.section-bytes len last) = Unit {0}
+IsPart (F.content-bytes len) = Unit {0}
+IsPart (F.taken k payload) = ⊥
+
+longer-within : (e : F.Event) (u : ℕ) → Within e u → Within e (suc u)
+longer-within F.quiet u w = tt
+longer-within (F.section-bytes len last) u w = omega (arith, w)
+longer-within (F.content-bytes len) u w = omega (arith, w)
+longer-within (F.taken k payload) u w = tt
+
+-- a part with nothing before it, behind a byte: there is none
+none-before : (e : F.Event) (u : ℕ) → Within e u → IsPart e → Before e 0 (suc u) → ⊥
+none-before F.quiet u w i h = h
+none-before (F.section-bytes len last) u w i h = omega (arith, w, h .1)
+none-before (F.content-bytes len) u w i h = omega (arith, w, h .1)
+none-before (F.taken k payload) u w i h = i
+
 module _ (G : Grammar) where
-  -- it uses them and reports nothing
-  record Silent (n : ℕ) (f : Feeding (G .P)) : Type 0 where
+  -- it uses them and reports nothing, and the part finishes no header
+  record Silent (n : ℕ) (whole f : Feeding (G .P)) : Type 0 where
+    heads : IsPart (whole .event) → f .heads ≡ whole .heads
     used : f .used ≡ n
     event : f .event ≡ F.quiet
     state : State (G .P)
     after : f .after ≡ lives state
 
-  abbrev Ahead : (List ℕ → Feeding (G .P)) → List ℕ → Type 0
-  Ahead f bs = (n : ℕ) → Before (f bs .event) n (f bs .used) → Silent n (f (take n bs))
+  record Ahead (f : List ℕ → Feeding (G .P)) (bs : List ℕ) : Type 0 where
+    within : Within (f bs .event) (f bs .used)
+    silent : (n : ℕ) → Before (f bs .event) n (f bs .used) → Silent n (f bs) (f (take n bs))
 
-  none-ahead : (s : State (G .P)) → Silent 0 (halt F.quiet (lives s))
+  none-ahead : (s : State (G .P)) (whole : Feeding (G .P)) → (IsPart (whole .event) → whole .heads ≡ 0) → Silent 0 whole (halt F.quiet (lives s))
   unfolding halt
-  none-ahead s = record { used = refl; event = refl; state = s; after = refl }
+  none-ahead s whole h = record { heads = λ i. sym (h i); used = refl; event = refl; state = s; after = refl }
 
-  also-ahead : (h n : ℕ) (f : List ℕ → Feeding (G .P)) (bs : List ℕ) → Ahead f bs → Before (also h (f bs) .event) (suc n) (also h (f bs) .used) → Silent (suc n) (also h (f (take n bs)))
+  also-within : (h : ℕ) (f : Feeding (G .P)) → Within (f .event) (f .used) → Within (also h f .event) (also h f .used)
   unfolding also
-  also-ahead h n f bs a b = let s = a n (before-less (f bs .event) n (f bs .used) b) in record { used = ap suc (s .used); event = s .event; state = s .state; after = s .after }
+  also-within h f w = longer-within (f .event) (f .used) w
 
-  ahead-by : (f : List ℕ → Feeding (G .P)) (b : ℕ) (bs : List ℕ) → Silent 0 (f []) → ((m : ℕ) → Before (f (b ∷ bs) .event) (suc m) (f (b ∷ bs) .used) → Silent (suc m) (f (b ∷ take m bs))) → Ahead f (b ∷ bs)
-  ahead-by f b bs z g zero h = z
-  ahead-by f b bs z g (suc m) h = g m h
+  also-none : (h : ℕ) (f : Feeding (G .P)) → Within (f .event) (f .used) → IsPart (also h f .event) → Before (also h f .event) 0 (also h f .used) → ⊥
+  unfolding also
+  also-none h f w i b = none-before (f .event) (f .used) w i b
+
+  also-silent : (h m : ℕ) (f : List ℕ → Feeding (G .P)) (bs : List ℕ) → Ahead f bs → Before (also h (f bs) .event) (suc m) (also h (f bs) .used) → Silent (suc m) (also h (f bs)) (also h (f (take m bs)))
+  unfolding also
+  also-silent h m f bs a b =
+      let w = a .silent m (before-less (f bs .event) m (f bs .used) b) in
+      record { heads = λ i. ap (λ x. h + x) (w .heads i); used = ap suc (w .used); event = w .event; state = w .state; after = w .after }
+
+  -- a feed that reads a byte, and then goes on as another
+  module _ (s : State (G .P)) (φ : List ℕ → Feeding (G .P)) (b : ℕ) (bs : List ℕ) (empty : φ [] ≡ halt F.quiet (lives s)) (h : ℕ) (f : List ℕ → Feeding (G .P))
+      (so : (xs : List ℕ) → φ (b ∷ xs) ≡ also h (f xs)) (a : Ahead f bs) where
+    silent-by : (n : ℕ) → Before (φ (b ∷ bs) .event) n (φ (b ∷ bs) .used) → Silent n (φ (b ∷ bs)) (φ (take n (b ∷ bs)))
+    silent-by zero k =
+        let k′ = subst (λ x. Before (x .event) 0 (x .used)) (so bs) k in
+        subst (Silent 0 (φ (b ∷ bs))) (sym empty) (none-ahead s (φ (b ∷ bs)) (λ i. absurd (also-none h (f bs) (a .within) (subst (λ x. IsPart (x .event)) (so bs) i) k′)))
+    silent-by (suc m) k =
+        let k′ = subst (λ x. Before (x .event) (suc m) (x .used)) (so bs) k in
+        let w = also-silent h m f bs a k′ in
+        subst (λ x. Silent (suc m) x (φ (b ∷ take m bs))) (sym (so bs)) (subst (Silent (suc m) (also h (f bs))) (sym (so (take m bs))) w)
+
+    ahead-by : Ahead φ (b ∷ bs)
+    ahead-by = record { within = subst (λ x. Within (x .event) (x .used)) (sym (so bs)) (also-within h (f bs) (a .within)); silent = silent-by }
+
+  -- one that reads nothing reports nothing
+  halt-ahead : (φ : List ℕ → Feeding (G .P)) (bs : List ℕ) (o : Outcome (G .P)) → φ bs ≡ halt F.quiet o → Ahead φ bs
+  unfolding halt
+  halt-ahead φ bs o q = record {
+    within = subst (λ x. Within (x .event) (x .used)) (sym q) tt;
+    silent = λ n h. absurd (subst (λ x. Before (x .event) n (x .used)) q h);
+  }
 
   judged-ahead : (k : Kept) (payload : List ℕ) (x : Next (G .P)) (f : State (G .P) → List ℕ → Feeding (G .P)) (bs : List ℕ) → Ahead (λ bs. onward (judged-event k payload x) (M.answered x) (λ s. f s bs)) bs
   unfolding onward judged-event M.answered halt
-  judged-ahead k payload (stop c) f bs n h = absurd h
-  judged-ahead k payload (go p) f bs n h = absurd (omega (arith, h))
+  judged-ahead k payload (stop c) f bs = record { within = tt; silent = λ n h. absurd h }
+  judged-ahead k payload (go p) f bs = record { within = tt; silent = λ n h. absurd (omega (arith, h)) }
 
   module _ (f : State (G .P) → List ℕ → Feeding (G .P)) (bs : List ℕ) (next : (s : State (G .P)) → Ahead (f s) bs) where
     left-ahead : (u : Use) (k : List ℕ) (l : ℕ) (p : G .P) → Ahead (λ bs. onward (left-event G u k l p) (M.with-left G u k l p) (λ s. f s bs)) bs
     unfolding onward left-event over-event M.with-left M.over halt
     left-ahead content k zero p = next (between p)
     left-ahead skipped k zero p = next (between p)
-    left-ahead (section t) k zero p = λ n h. absurd (omega (arith, h .0))
+    left-ahead (section t) k zero p = record { within = omega arith; silent = λ n h. absurd (omega (arith, h .0)) }
     left-ahead (kept x) k zero p = judged-ahead x k (G .judged x p k) f bs
     left-ahead u k (suc l) p = next (in-payload u k l p)
 
@@ -136,7 +188,7 @@ module _ (G : Grammar) where
 
     behind-ahead : (len : ℕ) (r : Ruling (G .P)) → Ahead (λ bs. behind-header G len r (λ s. f s bs)) bs
     unfolding behind-header halt
-    behind-ahead len (refuse c) = λ n h. absurd h
+    behind-ahead len (refuse c) = record { within = tt; silent = λ n h. absurd h }
     behind-ahead len (accept u p) = left-ahead u [] len p
 
   abbrev sizedBy : (n t : ℕ) (p : G .P) (bs : List ℕ) → M.Fed → Feeding (G .P)
@@ -145,32 +197,46 @@ module _ (G : Grammar) where
     | M.value len ↦ also 1 (behind-header G len (G .rule p t len) (λ s. F.feed G n s bs))
   ]
 
-  length-ahead : (n t : ℕ) (p : G .P) (bs : List ℕ) → ((n : ℕ) (s : State (G .P)) → Ahead (F.feed G n s) bs) → (m : ℕ) (x : M.Fed)
-      → Before (sizedBy n t p bs x .event) (suc m) (sizedBy n t p bs x .used) → Silent (suc m) (sizedBy n t p (take m bs) x)
-  length-ahead n t p bs ih m (M.going g) h = also-ahead 0 m (F.feed G (suc n) (in-length t g p)) bs (ih (suc n) (in-length t g p)) h
-  length-ahead n t p bs ih m (M.value len) h = also-ahead 1 m (λ bs. behind-header G len (G .rule p t len) (λ s. F.feed G n s bs)) bs (behind-ahead (F.feed G n) bs (ih n) len (G .rule p t len)) h
+  length-ahead : (n t : ℕ) (g : Prog) (p : G .P) (b : ℕ) (bs : List ℕ) → ((n : ℕ) (s : State (G .P)) → Ahead (F.feed G n s) bs) → (x : M.Fed) → M.fed g b ≡ x → Ahead (F.feed G (suc n) (in-length t g p)) (b ∷ bs)
+  unfolding F.feed
+  length-ahead n t g p b bs ih (M.going g′) e = ahead-by (in-length t g p) (F.feed G (suc n) (in-length t g p)) b bs refl 0 (F.feed G (suc n) (in-length t g′ p)) (λ xs. ap (sizedBy n t p xs) e) (ih (suc n) (in-length t g′ p))
+  length-ahead n t g p b bs ih (M.value len) e =
+      ahead-by (in-length t g p) (F.feed G (suc n) (in-length t g p)) b bs refl 1 (λ bs. behind-header G len (G .rule p t len) (λ s. F.feed G n s bs)) (λ xs. ap (sizedBy n t p xs) e) (behind-ahead (F.feed G n) bs (ih n) len (G .rule p t len))
 
-  -- a part that the feed begins with has none before it
-  content-first : (m j l : ℕ) (p : G .P) → Before (taking G content j l p .event) (suc m) (taking G content j l p .used) → ⊥
-  unfolding taking named
-  content-first m j l p h = omega (arith, h .1)
+  -- a part that the feed begins with has none before it, and no header
+  begins-part : (s : State (G .P)) (φ : List ℕ → Feeding (G .P)) (b : ℕ) (bs : List ℕ) → φ [] ≡ halt F.quiet (lives s) → Within (φ (b ∷ bs) .event) (φ (b ∷ bs) .used)
+      → ((m : ℕ) → Before (φ (b ∷ bs) .event) (suc m) (φ (b ∷ bs) .used) → ⊥) → φ (b ∷ bs) .heads ≡ 0 → Ahead φ (b ∷ bs)
+  begins-part s φ b bs empty w first z = record { within = w; silent = by }
+    where
+      by : (n : ℕ) → Before (φ (b ∷ bs) .event) n (φ (b ∷ bs) .used) → Silent n (φ (b ∷ bs)) (φ (take n (b ∷ bs)))
+      by zero h = subst (Silent 0 (φ (b ∷ bs))) (sym empty) (none-ahead s (φ (b ∷ bs)) (λ i. z))
+      by (suc m) h = absurd (first m h)
 
-  section-first : (t : Part) (m j l : ℕ) (p : G .P) → Before (taking G (section t) j l p .event) (suc m) (taking G (section t) j l p .used) → ⊥
-  unfolding taking named
-  section-first t m j l p h = omega (arith, h .1)
+  content-ahead : (n : ℕ) (k : List ℕ) (l : ℕ) (p : G .P) (b : ℕ) (bs : List ℕ) → Ahead (F.feed G n (in-payload content k l p)) (b ∷ bs)
+  unfolding F.feed taking named
+  content-ahead n k l p b bs = begins-part (in-payload content k l p) (F.feed G n (in-payload content k l p)) b bs refl (omega arith) (λ m h. omega (arith, h .1)) refl
+
+  section-ahead : (n : ℕ) (t : Part) (k : List ℕ) (l : ℕ) (p : G .P) (b : ℕ) (bs : List ℕ) → Ahead (F.feed G n (in-payload (section t) k l p)) (b ∷ bs)
+  unfolding F.feed taking named
+  section-ahead n t k l p b bs = begins-part (in-payload (section t) k l p) (F.feed G n (in-payload (section t) k l p)) b bs refl (omega arith) (λ m h. omega (arith, h .1)) refl
 
   feed-ahead : (n : ℕ) (s : State (G .P)) (bs : List ℕ) → Ahead (F.feed G n s) bs
   unfolding F.feed
-  feed-ahead n s [] = λ m h. absurd (unfold halt in h)
-  feed-ahead zero (in-type g p) (b ∷ bs) = ahead-by (F.feed G zero (in-type g p)) b bs (none-ahead (in-type g p)) (λ m h. absurd (unfold halt in h))
-  feed-ahead (suc n) (in-type g p) (b ∷ bs) = ahead-by (F.feed G (suc n) (in-type g p)) b bs (none-ahead (in-type g p)) (λ m h. also-ahead 0 m (F.feed G (suc n) (M.typed p (M.fed g b))) bs (feed-ahead (suc n) (M.typed p (M.fed g b)) bs) h)
-  feed-ahead zero (in-length t g p) (b ∷ bs) = ahead-by (F.feed G zero (in-length t g p)) b bs (none-ahead (in-length t g p)) (λ m h. absurd (unfold halt in h))
-  feed-ahead (suc n) (in-length t g p) (b ∷ bs) = ahead-by (F.feed G (suc n) (in-length t g p)) b bs (none-ahead (in-length t g p)) (λ m h. length-ahead n t p bs (λ n s. feed-ahead n s bs) m (M.fed g b) h)
-  feed-ahead n (in-payload content k l p) (b ∷ bs) = ahead-by (F.feed G n (in-payload content k l p)) b bs (none-ahead (in-payload content k l p)) (λ m h. absurd (content-first m (min l (length bs)) (l - min l (length bs)) p h))
-  feed-ahead n (in-payload (section t) k l p) (b ∷ bs) = ahead-by (F.feed G n (in-payload (section t) k l p)) b bs (none-ahead (in-payload (section t) k l p)) (λ m h. absurd (section-first t m (min l (length bs)) (l - min l (length bs)) p h))
-  feed-ahead n (in-payload skipped k l p) (b ∷ bs) = ahead-by (F.feed G n (in-payload skipped k l p)) b bs (none-ahead (in-payload skipped k l p)) (λ m h. also-ahead 0 m (λ bs. onward F.quiet (M.with-left G skipped [] l p) (λ s. F.feed G n s bs)) bs (skip-ahead (F.feed G n) bs (λ s. feed-ahead n s bs) l p) h)
-  feed-ahead n (in-payload (kept x) k l p) (b ∷ bs) = ahead-by (F.feed G n (in-payload (kept x) k l p)) b bs (none-ahead (in-payload (kept x) k l p)) (λ m h. (let k′ = k ++ (b ∷ []) in also-ahead 0 m (λ bs. onward (left-event G (kept x) k′ l p) (M.with-left G (kept x) k′ l p) (λ s. F.feed G n s bs)) bs (left-ahead (F.feed G n) bs (λ s. feed-ahead n s bs) (kept x) k′ l p) h))
-  feed-ahead n (due t p) (b ∷ bs) = ahead-by (F.feed G n (due t p)) b bs (none-ahead (due t p)) (λ m h. absurd (unfold halt in h))
+  feed-ahead n s [] = halt-ahead (F.feed G n s) [] (lives s) refl
+  feed-ahead zero (in-type g p) (b ∷ bs) = halt-ahead (F.feed G zero (in-type g p)) (b ∷ bs) (lives (in-type g p)) refl
+  feed-ahead (suc n) (in-type g p) (b ∷ bs) =
+      ahead-by (in-type g p) (F.feed G (suc n) (in-type g p)) b bs refl 0 (F.feed G (suc n) (M.typed p (M.fed g b))) (λ xs. refl) (feed-ahead (suc n) (M.typed p (M.fed g b)) bs)
+  feed-ahead zero (in-length t g p) (b ∷ bs) = halt-ahead (F.feed G zero (in-length t g p)) (b ∷ bs) (lives (in-length t g p)) refl
+  feed-ahead (suc n) (in-length t g p) (b ∷ bs) = length-ahead n t g p b bs (λ n s. feed-ahead n s bs) (M.fed g b) refl
+  feed-ahead n (in-payload content k l p) (b ∷ bs) = content-ahead n k l p b bs
+  feed-ahead n (in-payload (section t) k l p) (b ∷ bs) = section-ahead n t k l p b bs
+  feed-ahead n (in-payload skipped k l p) (b ∷ bs) =
+      ahead-by (in-payload skipped k l p) (F.feed G n (in-payload skipped k l p)) b bs refl 0 (λ bs. onward F.quiet (M.with-left G skipped [] l p) (λ s. F.feed G n s bs)) (λ xs. refl) (skip-ahead (F.feed G n) bs (λ s. feed-ahead n s bs) l p)
+  feed-ahead n (in-payload (kept x) k l p) (b ∷ bs) =
+      let k′ = k ++ (b ∷ []) in
+      ahead-by (in-payload (kept x) k l p) (F.feed G n (in-payload (kept x) k l p)) b bs refl 0 (λ bs. onward (left-event G (kept x) k′ l p) (M.with-left G (kept x) k′ l p) (λ s. F.feed G n s bs)) (λ xs. refl)
+      (left-ahead (F.feed G n) bs (λ s. feed-ahead n s bs) (kept x) k′ l p)
+  feed-ahead n (due t p) (b ∷ bs) = halt-ahead (F.feed G n (due t p)) (b ∷ bs) (lives (due t p)) refl
 
   -- what is reported came with a byte
   abbrev Reported : Feeding (G .P) → Type 0
@@ -308,7 +374,7 @@ control-ahead : (allow : ℕ) (s : State Control) (bs : List ℕ) → Ahead₁ (
 unfolding O.of-control O.controlled
 control-ahead allow s bs n h =
     let f = F.feed control allow s bs in
-    let w = feed-ahead control allow s bs n (before-frames (f .event) n (f .used) h) in
+    let w = feed-ahead control allow s bs .silent n (before-frames (f .event) n (f .used) h) in
     record { used = w .used; event = ap O.of-frames (w .event); state = O.in-control (w .state); after = ap O.controlled (w .after) }
 
 qpack-ahead : (q : Qpack) (bs : List ℕ) → Ahead₁ (O.qpack-feed q) bs
@@ -435,43 +501,53 @@ module _ (seen : List ℕ) (allow : ℕ) where
 abbrev asks-so : Grammar
 asks-so = asking-rules document
 
-silent-goes : (n : ℕ) (f : Feeding Message) (w : Silent asks-so n f) → fedBy (f .used) (f .heads) (f .event) (f .after) ≡ goes n (f .heads) quiet (w .state)
+silent-goes : (n : ℕ) (whole f : Feeding Message) (w : Silent asks-so n whole f) → fedBy (f .used) (f .heads) (f .event) (f .after) ≡ goes n (f .heads) quiet (w .state)
 unfolding fedBy eventOf
-silent-goes n f w = rw (w .used, w .event, w .after) refl
+silent-goes n whole f w = rw (w .used, w .event, w .after) refl
 
 -- what the bytes before a part carry is what was handed over before
 module _ (s : Shown streams) (r : State Message) (allow : ℕ) (piece : List ℕ) (t : Reached s r) (d : isDue r ≡ false) where
   abbrev this : Feeding Message
   this = F.feed asks-so allow r piece
 
-  before-part : (n : ℕ) → Before (this .event) n (this .used)
-      → (reading .carried (s .bytes ++ take n piece) (s .sections) ≡ s .content) × (reading .blocks (s .bytes ++ take n piece) (s .sections) ≡ s .blocks)
+  record BeforePart (n : ℕ) : Type 0 where
+    carried : reading .carried (s .bytes ++ take n piece) (s .sections) ≡ s .content
+    blocks : reading .blocks (s .bytes ++ take n piece) (s .sections) ≡ s .blocks
+    heads : IsPart (this .event) → reading .heads (s .bytes ++ take n piece) (s .sections) ≡ s .heads + this .heads
+
+  before-part : (n : ℕ) → Before (this .event) n (this .used) → BeforePart n
   unfolding plusFeed contentIn sectionIn
   before-part n b =
-      let w = feed-ahead asks-so allow r piece n b in
+      let w = feed-ahead asks-so allow r piece .silent n b in
       let g = F.feed asks-so allow r (take n piece) in
-      let t′ : Reached (plusFeed n (g .heads) quiet (take n piece) s) (w .state) = by-feed t d (silent-goes n g w) in
+      let t′ : Reached (plusFeed n (g .heads) quiet (take n piece) s) (w .state) = by-feed t d (silent-goes n this g w) in
       let x = reads .so-far t′ in
       let z = take-take n n piece (omega arith) in
-      (sym (rw (z, append-nil (s .content)) at (x .content)), sym (rw (z, append-nil (s .blocks)) at (x .blocks)))
+      record {
+        carried = sym (rw (z, append-nil (s .content)) at (x .content));
+        blocks = sym (rw (z, append-nil (s .blocks)) at (x .blocks));
+        heads = λ i. sym (rw z at (x .heads)) ∙ ap (λ h. s .heads + h) (w .heads i);
+      }
 
-  part-of : (h : ℕ) (x : F.Event) → this .event ≡ x → Within x (this .used) → Shows reading (plusFeed (this .used) h (eventOf (this .used) x) piece s) → OnePayload s piece (eventOf (this .used) x)
+  part-of : (x : F.Event) → this .event ≡ x → Within x (this .used) → Shows reading (plusFeed (this .used) (this .heads) (eventOf (this .used) x) piece s) → OnePayload s (this .used) piece (eventOf (this .used) x)
   unfolding eventOf plusFeed contentIn sectionIn part
-  part-of h F.quiet q w f = tt
-  part-of h (F.section-bytes zero last) q w f = let z : this .used - 0 ≡ this .used = omega arith in rw z (sym (rw (append-nil (s .blocks)) at (f .blocks)))
-  part-of h (F.section-bytes (suc l) last) q w f = before-part (this .used - suc l) (subst (λ x. Before x (this .used - suc l) (this .used)) (sym q) (omega arith, omega (arith, w))) .1
-  part-of h (F.content-bytes zero) q w f = let z : this .used - 0 ≡ this .used = omega arith in rw z (sym (rw (append-nil (s .content)) at (f .content)))
-  part-of h (F.content-bytes (suc l)) q w f = before-part (this .used - suc l) (subst (λ x. Before x (this .used - suc l) (this .used)) (sym q) (omega arith, omega (arith, w))) .0
-  part-of h (F.taken k payload) q w f = tt
+  part-of F.quiet q w f = tt
+  part-of (F.section-bytes zero last) q w f = let z : this .used - 0 ≡ this .used = omega arith in rw z (sym (rw (append-nil (s .blocks)) at (f .blocks)), refl)
+  part-of (F.section-bytes (suc l) last) q w f =
+      let b = before-part (this .used - suc l) (subst (λ x. Before x (this .used - suc l) (this .used)) (sym q) (omega arith, omega (arith, w))) in (b .blocks, b .heads (subst IsPart (sym q) tt) ∙ f .heads)
+  part-of (F.content-bytes zero) q w f = let z : this .used - 0 ≡ this .used = omega arith in rw z (sym (rw (append-nil (s .content)) at (f .content)), refl)
+  part-of (F.content-bytes (suc l)) q w f =
+      let b = before-part (this .used - suc l) (subst (λ x. Before x (this .used - suc l) (this .used)) (sym q) (omega arith, omega (arith, w))) in (b .carried, b .heads (subst IsPart (sym q) tt) ∙ f .heads)
+  part-of (F.taken k payload) q w f = tt
 
   module _ (r′ : State Message) (u h : ℕ) (e : Event) (so : streams .feed r allow piece ≡ goes u h e r′) where
     was : (this .after ≡ lives r′) × (this .used ≡ u) × (this .heads ≡ h) × (eventOf (this .used) (this .event) ≡ e)
     was = fed-goes (this .used) (this .heads) (this .event) (this .after) so
 
-    one-payload : OnePayload s piece e
+    one-payload : OnePayload s u piece e
     one-payload =
-        let f : Shows reading (plusFeed (this .used) h (eventOf (this .used) (this .event)) piece s) = rw (was .3, was .1) (reads .so-far (by-feed t d so)) in
-        subst (OnePayload s piece) (was .3) (part-of h (this .event) refl (feed-runs asks-so allow 0 r piece .within) f)
+        let f : Shows reading (plusFeed (this .used) (this .heads) (eventOf (this .used) (this .event)) piece s) = rw (was .3, was .2, was .1) (reads .so-far (by-feed t d so)) in
+        subst (λ e. OnePayload s u piece e) (was .3) (subst (λ n. OnePayload s n piece (eventOf (this .used) (this .event))) (was .1) (part-of (this .event) refl (feed-runs asks-so allow 0 r piece .within) f))
 
     quiet-only : (x : F.Event) → EventSuits asks-so RequestFits x (this .after) → eventOf (this .used) x ≡ quiet → x ≡ F.quiet
     unfolding eventOf
@@ -484,7 +560,7 @@ module _ (s : Shown streams) (r : State Message) (allow : ℕ) (piece : List ℕ
     out-of w q l = subst OutOf (was .0) (feed-leaves asks-so allow r piece (quiet-only (this .event) (request-suits allow r w piece .event) (was .3 ∙ q)) (omega (arith, l, was .1)))
 
 payload-agrees : (id : ℕ) (p : Pair streams) (v : View streams) (allow u h : ℕ) (piece : List ℕ) (e : Event) → v .fate ≡ running → call (on id (feed allow piece)) p .answer ≡ gave (fed u h e)
-    → Agrees Asks Story id p v → OnePayload (v .shown) piece e
+    → Agrees Asks Story id p v → OnePayload (v .shown) u piece e
 unfolding act
 payload-agrees id p v allow u h piece e n q (over {f = f} t g) = absurd (not-running f (shut t) n)
 payload-agrees id p v allow u h piece e n q (open-still {s = s} a (asks {r = r} t) f) =
@@ -510,7 +586,7 @@ spent-by allow piece u h l (at-allowance x) = x
 
 -- A PART LIES WITHIN ONE PAYLOAD, of a request stream that runs
 pub within-one-payload : (id : ℕ) → kindOf id ≡ some request → (cs : List (Call streams)) (allow used heads : ℕ) (piece : List ℕ) (e : Event) → view id (trace fresh cs) .fate ≡ running
-    → call (on id (feed allow piece)) (run fresh cs) .answer ≡ gave (fed used heads e) → OnePayload (view id (trace fresh cs) .shown) piece e
+    → call (on id (feed allow piece)) (run fresh cs) .answer ≡ gave (fed used heads e) → OnePayload (view id (trace fresh cs) .shown) used piece e
 within-one-payload id k cs allow u h piece e n q = payload-agrees id (run fresh cs) (view id (trace fresh cs)) allow u h piece e n q (agrees story id cs k)
 
 -- NO PAYLOAD BYTE IS HELD BACK: where a feed of a running request stream reports nothing and leaves bytes of its piece, it stopped at its allowance, before a header's byte

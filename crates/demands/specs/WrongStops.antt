@@ -33,7 +33,7 @@ module _ (S : Server) where
     pub held₁ : (cs : List (Call streams)) (id : ℕ) → kindOf id ≡ some one-way → view id (traced S cs) .fate ≡ running → (allow used heads : ℕ) (piece : List ℕ)
         → next S cs (on id (feed allow piece)) ≡ gave (fed used heads quiet) → used < length piece → AtAllowance₁ allow heads (view id (traced S cs) .shown .bytes ++ take used piece)
     pub one-payload : (cs : List (Call streams)) (id : ℕ) → kindOf id ≡ some request → view id (traced S cs) .fate ≡ running → (allow used heads : ℕ) (piece : List ℕ) (e : Event)
-        → next S cs (on id (feed allow piece)) ≡ gave (fed used heads e) → OnePayload (view id (traced S cs) .shown) piece e
+        → next S cs (on id (feed allow piece)) ≡ gave (fed used heads e) → OnePayload (view id (traced S cs) .shown) used piece e
 
 -- ---- OUR OWN KEEPS IT
 
@@ -182,7 +182,7 @@ pub merges-breaks : PromisedStops merges → ⊥
 unfolding shows block tracedFrom after
 merges-breaks p =
     let e : reading .carried (0x01 ∷ 0x01 ∷ 0x00 ∷ take 4 two-frames) (block ∷ []) ≡ []
-    = p .one-payload (open′ 0 ∷ on 0 (feed 5 (0x01 ∷ 0x01 ∷ 0x00 ∷ [])) ∷ on 0 (section block) ∷ []) 0 refl refl 5 7 2 two-frames (content-bytes 4 3) refl in
+    = p .one-payload (open′ 0 ∷ on 0 (feed 5 (0x01 ∷ 0x01 ∷ 0x00 ∷ [])) ∷ on 0 (section block) ∷ []) 0 refl refl 5 7 2 two-frames (content-bytes 4 3) refl .0 in
     let d = sym first-carried ∙ e in
     let z : _≡_ {A = ℕ} 0 1 = cc in
     omega arith
