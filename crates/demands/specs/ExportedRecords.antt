@@ -38,12 +38,11 @@ use Rattle.connection.specs.declared.Connection.{Connection}
 use Rattle.connection.specs.declared.Report.{Report}
 use Rattle.connection.specs.declared.Found.{Found}
 use Rattle.connection.specs.declared.Turn.{Turn}
-use Rattle.connection.specs.Openings.{openedOf}
 use Rattle.connection.specs.OpeningWays as ways
 use Rattle.connection.specs.Halves.{sideIn}
 use Rattle.connection.specs.Faults.{withCode, Fault}
 use Rattle.connection.specs.Whose.{Belongs, Wanted, FoundIn, belongs-wanted, wanted-belongs}
-use Rattle.connection.specs.Turned.{fresh-connection, firstRecord, takenBy, freeAt, byCall, requestAs, oneWayAs, Turned, other-row, dead, opens, not-open, request, one-way, begunOf, sweptOf}
+use Rattle.connection.specs.Turned.{fresh-connection, firstRecord, takenBy, freeAt, byCall, requestAs, oneWayAs, Turned, other-row, dead, opens, not-open, request, one-way, sweptOf}
 use Rattle.connection.specs.Ways.{begun-fresh, swept-free, none-at}
 use Rattle.calls.specs.Promises.{Started, Stepped}
 use Rattle.demands.specs.Streams.{streams}
@@ -53,7 +52,7 @@ use Rattle.demands.specs.Runs.{Seen, a-written, Does, starts, opens-one,
 use Rattle.demands.specs.Host.{Run, then-called, meant}
 use Rattle.demands.specs.InMemory.{IsStreamFault, turned-freed, stream-fault}
 use Rattle.demands.specs.Said.{toldIn, said-is-told}
-use Rattle.demands.specs.Exports.{CallSays, StartSays, World, OfStart, of-start, Every, every}
+use Rattle.demands.specs.Exports.{CallSays, World, OfStart, of-start, Every, every}
 
 -- ---- DEFINITION: what a start leaves
 
