@@ -79,7 +79,7 @@ pub record FirstOf (id : ℕ) (rows : List Record) (at : ℕ) : Type 0 where
 abbrev pub HoldsState : (id : ℕ) → Record → Type 0
 HoldsState id x = ((s : State Message) × (x ≡ requestRecord id s)) ⊎ ((s : OneState) × (x ≡ oneWayRecord id s))
 
--- the stream's record holds its next state, every other is as it was and where it was
+-- the stream's record holds a state of the stream (which one: Reads, over runs), every other is as it was and where it was
 abbrev pub Alters : (id : ℕ) (rows rows′ : List Record) → Type 0
 Alters id rows rows′ = (at : ℕ) × FirstOf id rows at × ((x : Record) × HoldsState id x × (rows′ ≡ set rows at x))
 
