@@ -1,28 +1,36 @@
 -- WHAT EACH CALL LEAVES OF THE HOST'S RECORDS, OF THE EXPORTED FUNCTIONS: a start one content, whatever memory it is lent; a call on a stream one record
 -- altered, in its place; and at every moment of a run the connection's record keeps of the client what its notices have told (Said). Exported says what
 -- `Every` is. Assumes nothing.
-use mathlib.Core.Path.{_≡_, refl, sym, ap, _∙_}
+use mathlib.Core.Path.{_≡_, refl, sym, ap, _∙_, subst}
 use Prim.Native.Nat.{ℕ, zero, suc, _<_}
 use native.Mathlib.Decide.{decLt}
 use native.Mathlib.Omega.{arith}
 use mathlib.Core.List.{List, [], _∷_, _++_, map}
+use mathlib.Core.Bool.{true, false}
+use mathlib.Core.Logic.{_⊎_, inl, inr}
 use lib.ListN.{length, getD, set, replicate}
+use Rattle.rules.specs.Numbers.{Code, codeNumber}
+use Rattle.rules.specs.Block.{Lines, readable, unreadable, lines}
 use Rattle.rules.specs.Reading.{Verdict, whole, fault, waits}
 use Rattle.rules.specs.Message.{Message}
 use Rattle.rules.specs.Request.{document, request as asking-rules}
 use Rattle.rules.specs.Control.{Control, unset, set as has-set}
 use Rattle.meaning.specs.NumberLaws.{code-high}
-use Rattle.meaning.specs.Machine.{State, finish}
-use Rattle.meaning.specs.OneWayFeed.{OneState}
+use Rattle.meaning.specs.Machine.{State, in-type, in-length, in-payload, due, Outcome, lives, dies, given, finish}
+use Rattle.meaning.specs.Feed as F
+use Rattle.meaning.specs.OneWayFeed as O
+use Rattle.meaning.specs.OneWayFeed.{OneState, OneEvent, OneOutcome}
 use Rattle.rules.specs.Calls.{feed, section, end, reset, done, Pair, Call, start, open′, on, goaway, gave, same, fresh, call, trace}
 use Rattle.record.specs.declared.Record.{Record}
-use Rattle.record.specs.Row.{free-record}
+use Rattle.record.specs.Row.{requestRecord, oneWayRecord, free-record}
+use Rattle.requests.specs.declared.Reply.{Reply}
 use Rattle.requests.specs.Reply as reply
 use Rattle.requests.specs.Reply.{stateIn}
 use Rattle.control.specs.Rules.{someIf, limitsIs, controlAt, controlOf}
 use Rattle.oneway.specs.declared.calls.Side.{Side}
+use Rattle.oneway.specs.declared.calls.Heard.{Heard}
 use Rattle.oneway.specs.Heard as side
-use Rattle.oneway.specs.Heard.{stateHere}
+use Rattle.oneway.specs.Heard.{stateHere, feeding}
 use Rattle.oneway.specs.Closed.{closes}
 use Rattle.connection.specs.declared.doors.Doors.{Doors}
 use Rattle.connection.specs.declared.doors.Opening.{Opening}
@@ -30,12 +38,11 @@ use Rattle.connection.specs.declared.Connection.{Connection}
 use Rattle.connection.specs.declared.Report.{Report}
 use Rattle.connection.specs.declared.Found.{Found}
 use Rattle.connection.specs.declared.Turn.{Turn}
-use Rattle.connection.specs.Openings.{openedOf}
 use Rattle.connection.specs.OpeningWays as ways
 use Rattle.connection.specs.Halves.{sideIn}
 use Rattle.connection.specs.Faults.{withCode, Fault}
 use Rattle.connection.specs.Whose.{Belongs, Wanted, FoundIn, belongs-wanted, wanted-belongs}
-use Rattle.connection.specs.Turned.{fresh-connection, firstRecord, takenBy, freeAt, byCall, requestAs, oneWayAs, Turned, other-row, dead, opens, not-open, request, one-way, begunOf, sweptOf}
+use Rattle.connection.specs.Turned.{fresh-connection, firstRecord, takenBy, freeAt, byCall, requestAs, oneWayAs, Turned, other-row, dead, opens, not-open, request, one-way, sweptOf}
 use Rattle.connection.specs.Ways.{begun-fresh, swept-free, none-at}
 use Rattle.calls.specs.Promises.{Started, Stepped}
 use Rattle.demands.specs.Streams.{streams}
@@ -45,7 +52,7 @@ use Rattle.demands.specs.Runs.{Seen, a-written, Does, starts, opens-one,
 use Rattle.demands.specs.Host.{Run, then-called, meant}
 use Rattle.demands.specs.InMemory.{IsStreamFault, turned-freed, stream-fault}
 use Rattle.demands.specs.Said.{toldIn, said-is-told}
-use Rattle.demands.specs.Exports.{CallSays, StartSays, World, OfStart, of-start, Every, every}
+use Rattle.demands.specs.Exports.{CallSays, World, OfStart, of-start, Every, every}
 
 -- ---- DEFINITION: what a start leaves
 
@@ -68,9 +75,13 @@ pub record FirstOf (id : ℕ) (rows : List Record) (at : ℕ) : Type 0 where
   pub own : Belongs id (getD rows at free-record)
   pub first : (j : ℕ) → j < at → ¬ (Belongs id (getD rows j free-record))
 
--- the stream's record holds another content, every other is as it was and where it was
+-- a request's record in some state, or a one-way stream's: the ID and the state decide every byte of it
+abbrev pub HoldsState : (id : ℕ) → Record → Type 0
+HoldsState id x = ((s : State Message) × (x ≡ requestRecord id s)) ⊎ ((s : OneState) × (x ≡ oneWayRecord id s))
+
+-- the stream's record holds a state of the stream (which one: Reads, over runs), every other is as it was and where it was
 abbrev pub Alters : (id : ℕ) (rows rows′ : List Record) → Type 0
-Alters id rows rows′ = (at : ℕ) × FirstOf id rows at × ((x : Record) × (rows′ ≡ set rows at x))
+Alters id rows rows′ = (at : ℕ) × FirstOf id rows at × ((x : Record) × HoldsState id x × (rows′ ≡ set rows at x))
 
 -- the stream's record is free, every other is as it was and where it was
 abbrev pub FreesFirst : (id : ℕ) (rows rows′ : List Record) → Type 0
@@ -152,6 +163,10 @@ unfolding side.closedBy
 closed-frees r d zero e = refl
 closed-frees r d (suc n) e = absurd (omega arith)
 
+data Altering : ℕ → Type 0 where
+  a-feed : Altering 1
+  a-section : Altering 2
+
 data Closing : ℕ → Type 0 where
   an-end : Closing 3
   a-reset : Closing 4
@@ -165,6 +180,69 @@ one-way-frees : {call : ℕ} → Closing call → (allow : ℕ) (piece : List �
 unfolding byCall
 one-way-frees an-end allow piece r d s e = closed-frees r d (closes s) e
 one-way-frees a-reset allow piece r d s e = closed-frees r d (closes s) e
+
+-- ---- what a feed or a section leaves
+
+module _ (r : Record) where
+  abbrev Holds : (number : ℕ) → Record → Type 0
+  Holds n x = n ≡ 0 → HoldsState (r .id) x
+
+  abbrev ReplyHolds : Reply → Type 0
+  ReplyHolds a = Holds (a .number) (a .row)
+
+  abbrev HeardHolds : Heard → Type 0
+  HeardHolds a = Holds (a .number) (a .row)
+
+  code-holds : (k : Code) (x : Record) → Holds (codeNumber k) x
+  code-holds k x z = let h = code-high k in absurd (omega arith)
+
+  said-holds : (u h : ℕ) (e : F.Event) (o : Outcome Message) → ReplyHolds (reply.saidBy r u h e o)
+  unfolding reply.saidBy
+  said-holds u h F.quiet (dies n) = code-holds n _
+  said-holds u h (F.content-bytes len) (dies n) = code-holds n _
+  said-holds u h (F.section-bytes len false) (dies n) = code-holds n _
+  said-holds u h (F.section-bytes len true) (dies n) = code-holds n _
+  said-holds u h (F.taken k payload) (dies n) = code-holds n _
+  said-holds u h F.quiet (lives s) = λ z. inl (s, refl)
+  said-holds u h (F.content-bytes len) (lives s) = λ z. inl (s, refl)
+  said-holds u h (F.section-bytes len false) (lives s) = λ z. inl (s, refl)
+  said-holds u h (F.section-bytes len true) (lives s) = λ z. inl (s, refl)
+  said-holds u h (F.taken k payload) (lives s) = λ z. inl (s, refl)
+
+  due-holds : (x y : Reply) (s : State Message) → ReplyHolds x → ReplyHolds y → ReplyHolds (reply.unlessDue s x y)
+  unfolding reply.unlessDue
+  due-holds x y (in-type g m) a b = b
+  due-holds x y (in-length t g m) a b = b
+  due-holds x y (in-payload u k l m) a b = b
+  due-holds x y (due t m) a b = a
+
+  taken-holds : (o : Outcome Message) → ReplyHolds (reply.takenAs r o)
+  unfolding reply.takenAs
+  taken-holds (dies n) = code-holds n _
+  taken-holds (lives s) = λ z. inl (s, refl)
+
+  read-holds : (s : State Message) (l : Lines) → ReplyHolds (reply.readAs r s l)
+  unfolding reply.readAs
+  read-holds s (unreadable f) = λ z. absurd (omega arith)
+  read-holds s (readable block) = taken-holds (given (asking-rules document) block s)
+
+  heard-holds : (d : Side) (u h : ℕ) (e : OneEvent) (o : OneOutcome) → HeardHolds (side.saidBy r d u h e o)
+  unfolding side.saidBy
+  heard-holds d u h (O.of-frames e) (O.dies n) = code-holds n _
+  heard-holds d u h (O.qpack-bytes q len) (O.dies n) = code-holds n _
+  heard-holds d u h (O.of-frames e) (O.lives s) = λ z. inr (s, refl)
+  heard-holds d u h (O.qpack-bytes q len) (O.lives s) = λ z. inr (s, refl)
+
+  request-holds : {call : ℕ} → Altering call → (allow : ℕ) (piece : List ℕ) (s : State Message) → ReplyHolds (requestAs call allow piece r s)
+  unfolding byCall
+  request-holds a-feed allow piece s = let f = F.feed (asking-rules document) allow s piece in
+      due-holds (reply.refused 4 r) (reply.said r f) s (λ z. absurd (omega arith)) (said-holds (f .used) (f .heads) (f .event) (f .after))
+  request-holds a-section allow piece s = due-holds (reply.readAs r s (lines piece)) (reply.refused 5 r) s (read-holds s (lines piece)) (λ z. absurd (omega arith))
+
+  one-way-holds : {call : ℕ} → Altering call → (allow : ℕ) (piece : List ℕ) (d : Side) (s : OneState) → HeardHolds (oneWayAs call allow piece r d s)
+  unfolding byCall
+  one-way-holds a-feed allow piece d s = let f = feeding d allow piece s in heard-holds d (f .used) (f .heads) (f .event) (f .after)
+  one-way-holds a-section allow piece d s = λ z. absurd (omega arith)
 
 -- ---- a call that is accepted
 
@@ -197,6 +275,14 @@ module _ {c : Connection} {f : Found} {call id allow : ℕ} {piece : List ℕ} {
     turned-closes k (request v x l o q s) = ap (λ y. y .row) q ∙ request-frees k allow piece (f .row) (stateIn (f .row)) (sym (ap (λ y. y .report .number) q) ∙ z)
     turned-closes k (one-way v x l h q s) = ap (λ y. y .row) q ∙ one-way-frees k allow piece (f .row) (sideIn c) (stateHere (f .row) (sideIn c)) (sym (ap (λ y. y .report .number) q) ∙ z)
 
+    turned-holds : Altering call → Turned c f call id allow piece t → HoldsState (f .row .id) (t .row)
+    turned-holds k (other-row x q) = let e = ap (λ y. y .report .number) q in absurd (omega arith)
+    turned-holds k (dead l x q) = absurd (x (sym (ap (λ y. y .report .number) q) ∙ z))
+    turned-holds k (opens v e q) = absurd (n e)
+    turned-holds k (not-open v x s q) = let e = ap (λ y. y .report .number) q in absurd (omega arith)
+    turned-holds k (request v x l o q s) = subst (HoldsState (f .row .id)) (sym (ap (λ y. y .row) q)) (request-holds (f .row) k allow piece (stateIn (f .row)) (sym (ap (λ y. y .report .number) q) ∙ z))
+    turned-holds k (one-way v x l h q s) = subst (HoldsState (f .row .id)) (sym (ap (λ y. y .row) q)) (one-way-holds (f .row) k allow piece (sideIn c) (stateHere (f .row) (sideIn c)) (sym (ap (λ y. y .report .number) q) ∙ z))
+
 module _ {c : Connection} {rows : List Record} {call id allow : ℕ} {piece : List ℕ} {c′ : Connection} {rows′ : List Record} {r : Report} (long : length rows ≡ 24) (m : Stepped c rows call id allow piece c′ rows′ r) where
   -- the one record, and what it holds then
   set-to : {x : Record} → m .turn .row ≡ x → rows′ ≡ set rows (m .found .at) x
@@ -206,8 +292,12 @@ module _ {c : Connection} {rows : List Record} {call id allow : ℕ} {piece : Li
     accepted : m .turn .report .number ≡ 0
     accepted = sym (ap (λ y. y .number) (m .answered)) ∙ z
 
-    altered : ¬ (call ≡ 0) → Alters id rows rows′
-    altered n = let l = turned-place accepted n (m .turned) in (m .found .at, first-of n (m .is-found) (omega arith), (m .turn .row, m .rows-left))
+    altered : ¬ (call ≡ 0) → Altering call → Alters id rows rows′
+    altered n k =
+        let l = turned-place accepted n (m .turned) in
+        let o = first-of n (m .is-found) (omega arith) in
+        let i : m .found .row .id ≡ id = ap (λ y. y .id) (m .is-found .row) ∙ o .own .own in
+        (m .found .at, o, (m .turn .row, subst (λ j. HoldsState j (m .turn .row)) i (turned-holds accepted n k (m .turned)), m .rows-left))
 
     closed : ¬ (call ≡ 0) → Closing call → FreesFirst id rows rows′
     closed n k = let l = turned-place accepted n (m .turned) in (m .found .at, first-of n (m .is-found) (omega arith), set-to (turned-closes accepted n k (m .turned)))
@@ -227,8 +317,8 @@ leaves-row : {c : Connection} {rows : List Record} {k : Call streams} {x : Seen}
 unfolding numberIn
 leaves-row (starts m) long z = starts-anew m .anew long .2
 leaves-row (opens-one m) long z = opened-lowest long m z
-leaves-row (feeds m) long z = altered long m z (λ e. omega arith)
-leaves-row (gives m) long z = altered long m z (λ e. omega arith)
+leaves-row (feeds m) long z = altered long m z (λ e. omega arith) a-feed
+leaves-row (gives m) long z = altered long m z (λ e. omega arith) a-section
 leaves-row (ends m) long z = closed long m z (λ e. omega arith) an-end
 leaves-row (resets m) long z = closed long m z (λ e. omega arith) a-reset
 leaves-row (goes-away m) long z = refl

@@ -42,7 +42,7 @@ use Rattle.demands.specs.Demands.{Calls, mirrored}
 
 -- ---- DEFINITION: what the notices of a trace come to
 
--- settings are the first of a control stream; our client's GOAWAY and MAX_PUSH_ID come behind them, and the last of each is kept
+-- settings are the first that a control stream tells; GOAWAY and MAX_PUSH_ID come behind them, and the last of each is kept
 unfoldable pub noted : Notice → Control → Control
 noted (qpack-bytes type from len) p = p
 noted (settings size capacity blocked) p = set (record { section-size = size; table-capacity = capacity; blocked-streams = blocked }) none none
@@ -78,6 +78,21 @@ toldFrom p (x ∷ xs) = toldFrom (after-call (x .asked) (x .answer) p) xs
 -- from a fresh connection
 abbrev pub toldIn : List (Entry streams) → Control
 toldIn t = toldFrom unset t
+
+-- as instances: settings and the last of two GOAWAYs; a start behind them
+abbrev told-of : Notice → Entry streams
+told-of n = record { asked = on 2 (calls.feed 1 []); answer = gave (calls.fed 1 1 (notice n)) }
+
+abbrev some-told : List (Entry streams)
+some-told = told-of (settings (some 9) 1 2) ∷ told-of (client-goaway 8) ∷ told-of (client-goaway 4) ∷ []
+
+two-goaways : toldIn some-told ≡ set (record { section-size = some 9; table-capacity = 1; blocked-streams = 2 }) (some 4) none
+unfolding toldFrom after-call after-answer after-event noted
+two-goaways = refl
+
+start-forgets : toldIn (some-told ++ (record { asked = start; answer = gave done } ∷ [])) ≡ unset
+unfolding toldFrom after-call after-answer after-event noted
+start-forgets = refl
 
 -- ---- a feed of frames leaves the place as it was, but for a payload that it tells of
 
