@@ -4,8 +4,8 @@ use mathlib.Core.Path.{_≡_, refl, sym, ap, _∙_, subst}
 use Prim.Native.Nat.{ℕ, zero, suc, _+_, _-_, _<_, _≤_, min}
 use native.Mathlib.Omega.{arith}
 use mathlib.Core.List.{List, [], _∷_, _++_, append-nil}
-use mathlib.Core.Bool.{Bool, true, false}
-use mathlib.Core.Option.{Option, none, some}
+use mathlib.Core.Bool.{true, false}
+use mathlib.Core.Option.{some}
 use lib.ListN.{length, take}
 use lib.Seq.{take-take}
 use Rattle.rules.specs.Integers.{integer}
@@ -21,7 +21,7 @@ use Rattle.meaning.specs.Feed as F
 use Rattle.meaning.specs.Feed.{Feeding, halt, also, onward, judged-event, left-event, over-event, behind-header, named, taking}
 use Rattle.meaning.specs.Feeds.{Within, feed-runs}
 use Rattle.meaning.specs.OneWayFeed as O
-use Rattle.rules.specs.Calls.{Notice, qpack-bytes, settings, client-goaway, max-push-id, Event, quiet, section-bytes, content-bytes, notice, part, contentIn, sectionIn, noticesIn, goes, fed, feed, act, act₁, request, one-way, kindOf, asking, telling, Pair, Call, on, gave, actOn, fresh, call, run, trace}
+use Rattle.rules.specs.Calls.{qpack-bytes, settings, client-goaway, max-push-id, Event, quiet, section-bytes, content-bytes, notice, part, contentIn, sectionIn, noticesIn, goes, fed, feed, act, act₁, request, one-way, kindOf, asking, telling, Pair, Call, on, gave, actOn, fresh, call, run, trace}
 use Rattle.rules.specs.Shown.{Shown, running, View, plusFeed, view}
 use Rattle.traces.specs.Alone.{call-on, call-on-asking}
 use Rattle.traces.specs.Follow.{Agrees, open-still, over, agrees, not-running}
@@ -36,7 +36,7 @@ use Rattle.demands.specs.OneWayReads.{noticesBy, alone-goes, heard-reach
 use Rattle.demands.specs.Overheard.{OneSuits, OneTells, one-suits}
 use Rattle.demands.specs.Suits.{RequestFits, RequestSuits, EventSuits, request-suits}
 use Rattle.demands.specs.Suited.{RowSuits, found-suits, suits-fresh}
-use Rattle.demands.specs.Parts.{EndsAt, KeepsTo, parts, Loud, Stopped, at-event, at-end, at-allowance, feeds-exactly, one-way-stops, taken-loud, got-fed, got-heard, suits-run}
+use Rattle.demands.specs.Parts.{Loud, Stopped, at-event, at-end, at-allowance, feeds-exactly, one-way-stops, taken-loud, got-fed, got-heard, suits-run}
 use Rattle.demands.specs.Allowed.{lastEnd, InPayload, payload-come, ends-there}
 use Rattle.demands.specs.OneWayAllowed.{typeEnd, At, reached-at, control-reads}
 use Rattle.demands.specs.Events.{by-itself}

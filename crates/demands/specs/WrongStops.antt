@@ -9,11 +9,10 @@ use lib.ListN.{length, take, drop}
 use Rattle.rules.specs.Worked.{answer}
 use Rattle.rules.specs.Reading.{Reading}
 use Rattle.rules.specs.OneWay as W
-use Rattle.meaning.specs.OneWayFeed as O
-use Rattle.rules.specs.Calls.{Notice, qpack-bytes, settings, client-goaway, max-push-id, noticesIn, toldBy, Event, quiet, section-bytes, content-bytes, notice, Fed, goes, faults, done, fed, feed, section, end, reset, request, one-way, kindOf, Pair, Call, start, open′, on, goaway, Answer, gave, left, house, code, Result, fresh, call}
+use Rattle.rules.specs.Calls.{settings, noticesIn, toldBy, Event, quiet, section-bytes, content-bytes, notice, Fed, goes, faults, done, fed, feed, section, end, reset, request, one-way, kindOf, Pair, Call, start, open′, on, goaway, Answer, gave, left, house, code, Result, fresh, call}
 use Rattle.rules.specs.Shown.{running, view}
 use Rattle.traces.specs.Oneways.{Both}
-use Rattle.demands.specs.Streams.{noticeOf, Keeps, streams}
+use Rattle.demands.specs.Streams.{noticeOf, streams}
 use Rattle.demands.specs.Reading.{sectionsOf, readingOf, reading}
 use Rattle.demands.specs.OneWayReads.{noticesOf, noticesBy}
 use Rattle.demands.specs.Servers.{Server, tracedFrom, traced, after, next, ours, same-trace, same-next}
