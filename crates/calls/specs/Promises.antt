@@ -37,7 +37,7 @@ pub record Stepped (c : Connection) (rows : List Record) (call id allow : ℕ) (
   pub rows-left : rows′ ≡ set rows (found .at) (turn .row)
   pub answered : r ≡ turn .report
 
--- the number of each call stands here and in no other promise
+-- the number of each call is here and in no other promise
 
 -- `eistulko_open`
 abbrev pub Opened : (c : Connection) (rows : List Record) (id : ℕ) (c′ : Connection) (rows′ : List Record) (r : Report) → Type 0

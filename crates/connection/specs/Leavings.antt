@@ -108,7 +108,7 @@ module _ (r : Record) where
       (end-left (finish (request document) 0 s))
       (freed refl)
 
--- ---- of a one-way stream's: a stream that goes on stands where the definition's feed leaves it
+-- ---- of a one-way stream's: a stream that goes on is where the definition's feed leaves it
 
 pub data Heeded (r : Record) (d : Side) (call allow : ℕ) (piece : List ℕ) (s : OneState) (a : Heard) : Type 0 where
   goes-on : call ≡ 1 → (after : OneState) → feeding d allow piece s .after ≡ one.lives after → a .row ≡ oneWayRecord (r .id) after → a .side ≡ sideAfter d after → Heeded r d call allow piece s a
@@ -203,7 +203,7 @@ module _ (control encoder decoder allow : ℕ) where
   control-once (in-qpack q) piece e = absurd (qpack-else q piece e)
   control-once in-skipped piece e = let z : _≡_ {A = ℕ} 0 1 = cc in absurd (omega arith)
 
--- a record that stands for a control stream is one's
+-- a record that means a control stream is one's
 pub control-kind : (c : Cells) (p : Control) (k : List ℕ) (kind : ℕ) {y : State Control} → oneStateAt kind c p k ≡ in-control y → kind ≡ CONTROL
 unfolding oneStateAt
 control-kind c p k zero e = let z : _≡_ {A = ℕ} 0 1 = cc in absurd (omega arith)

@@ -1,4 +1,4 @@
--- The answer to a complete payload is the rules' own: what a control stream keeps then, and what it tells the host. Assumes nothing.
+-- The answer to a complete payload is the rules' own: what a control stream keeps then, and what it reports to the host. Assumes nothing.
 use mathlib.Core.Path.{_≡_, refl, sym, subst}
 use Prim.Native.Nat.{ℕ, zero, suc}
 use mathlib.Core.List.{List}
@@ -30,7 +30,7 @@ unfoldable pub controlAt : (is-set : ℕ) → Kept → Control
 controlAt zero k = unset
 controlAt (suc n) k = set (limitsIs k) (someIf (k .goaways) (k .goaway .0)) (someIf (k .pushes) (k .push .0))
 
--- where a control stream stands that keeps this
+-- where a control stream is that keeps this
 abbrev pub controlOf : Kept → Control
 controlOf k = controlAt (k .set) k
 
@@ -48,7 +48,7 @@ toldAt (suc (suc (suc (suc (suc zero))))) id k = told-nothing
 toldAt (suc (suc (suc (suc (suc (suc zero)))))) id k = told-nothing
 toldAt (suc (suc (suc (suc (suc (suc (suc zero))))))) id k = told-nothing
 
--- an answer says this of the rules' next place: the code, all as it was and nothing told; or 0, that place, and what the payload tells
+-- an answer says this of the rules' next place: the code, all as it was and nothing reported; or 0, that place, and what the payload reports
 unfoldable pub Says : Kept → (told : Told) → Verdict → Next Control → Type 0
 Says k told r (stop code) = r ≡ refusal (codeNumber code) k
 Says k told r (go c) = (r .number ≡ 0) × (controlOf (r .kept) ≡ c) × (toldAt (r .event) (r .id) (r .kept) ≡ told)
@@ -90,7 +90,7 @@ module _ (k : Kept) (id : ℕ) where
   max-push-say (suc has) true e = rw (e, after-max-push, below, someIf) refl
   max-push-say (suc has) false e = rw (e, after-max-push, below, someIf) (refl, refl, refl)
 
-  -- what such a payload tells
+  -- what such a payload reports
   unfoldable id-told : Payload → Told
   id-told settings = told-nothing
   id-told goaway = told-goaway id
@@ -156,7 +156,7 @@ module _ (k : Kept) (payload : List ℕ) where
       let at = subst (λ x. Says k x (payloadOf (suc n) which k payload) (judged (keptAt which) (controlAt (suc n) k) payload)) t (integer-at n which) in
       subst (λ s. Says k (tells (keptAt which) payload) (payloadOf s which k payload) (judged (keptAt which) (controlAt s k) payload)) (sym e) at
 
-  -- of any payload, something is told
+  -- of any payload, something is reported
   pub judged-says : (which : ℕ) → (told : Told) × Says k told (judgedOf which k payload) (judged (keptAt which) (controlOf k) payload)
   judged-says which = by (k .set) refl
     where

@@ -57,14 +57,14 @@ got-first k n (got w m cs) e = record { place = m; is = cc }
 
 -- ---- one pair
 
--- a pair takes bytes, and stands in the payload
+-- a pair takes bytes, and is in the payload
 pub pair-shortens : (l : List ℕ) {at i v to : ℕ} → IsPair l at i v to → (at < to) × (to ≤ length l)
 pair-shortens l {at} {i} {v} {to} p =
     let a = integer-length at (drop at l) (p .identifies) in
     let b = integer-length (p .middle) (drop (p .middle) l) (p .holds) in
     omega (arith, length-drop at l, length-drop (p .middle) l, length-drop to l)
 
--- what stands at a place is one thing
+-- what is at a place is one thing
 one-pair : (l : List ℕ) {at i j v w to past : ℕ} → IsPair l at i v to → IsPair l at j w past → (i ≡ j) × (to ≡ past)
 one-pair l {at} {i} {j} {v} {w} {to} {past} p q =
     let g : got i (p .middle) (drop (p .middle) l) ≡ got j (q .middle) (drop (q .middle) l) = sym (p .identifies) ∙ q .identifies in

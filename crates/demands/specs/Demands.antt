@@ -1,4 +1,4 @@
--- THE DEMANDS over traces, for the streams of document 01. Calls and answers alone stand in the statements: no row and no connection record (but in
+-- THE DEMANDS over traces, for the streams of document 01. Calls and answers alone are in the statements: no row and no connection record (but in
 -- `follows` and `mirrored`, which compare with the pair of the definitions). A trace holds any calls on any streams, in any order, with any starts
 -- among them. Assumes nothing.
 use mathlib.Core.Path.{_≡_, refl, ap, _∙_}
@@ -108,13 +108,13 @@ not-before i j p q cs ds o a k l more others e b f e′ b′ g h f′ = P.not-be
 pub follows : (id : ℕ) → kindOf id ≡ some one-way → (cs : Calls) → Agrees (Says alone) (Story₁ alone) id (run fresh cs) (view id (trace fresh cs))
 follows id q cs = follows₁ alone id q cs
 
--- WHAT IS KEPT is what the one control stream told
+-- WHAT IS KEPT is what the one control stream reported
 pub mirrored : (cs : Calls) → K.Mirrored streams Control (λ k. k .said) (λ k. k .control) toldBy (run fresh cs)
 mirrored cs = K.mirrored streams Control (λ k. k .said) (λ k. k .control) toldBy untold steps cs
 
 -- ---- one-way streams, and progress to the end
 
--- DEMAND 2 FOR ONE-WAY STREAMS: at every moment of every trace, what a one-way stream has told (settings, GOAWAY, MAX_PUSH_ID), the QPACK bytes
+-- DEMAND 2 FOR ONE-WAY STREAMS: at every moment of every trace, what a one-way stream has reported (settings, GOAWAY, MAX_PUSH_ID), the QPACK bytes
 -- handed over and the headers counted are what the bytes consumed mean, and so is its fate
 pub one-way-reads : (id : ℕ) → kindOf id ≡ some one-way → (cs : Calls) → Heard (view id (trace fresh cs))
 one-way-reads id q cs = One.one-way-reads id q cs

@@ -194,7 +194,7 @@ module _ (seen : List ℕ) (allow : ℕ) where
   one-greedy (O.in-qpack q) piece = qpack-greedy q piece
   one-greedy O.in-skipped piece = record { is = tt }
 
--- what a control stream tells
+-- what a control stream reports
 told-event : (t : Told) (k : Option Once) (piece : List ℕ) → k ≡ some as-control → OneWayEvent k piece (noticeOf t)
 unfolding noticeOf
 told-event (told-settings s) k piece e = e

@@ -59,7 +59,7 @@ carries-on w = every w CarriesOn (λ c rows k x c′ rows′ m ks xs r. then-cal
 
 -- ---- DEMAND 1
 
--- A REFUSAL, any number but 0: nothing is handed over, the number stands in document 01's table, and what is left is what its row says
+-- A REFUSAL, any number but 0: nothing is handed over, the number is in document 01's table, and what is left is what its row says
 abbrev pub RefusesSo : CallSays
 RefusesSo c rows k x c′ rows′ = (ks : Calls) (xs : List Seen) → Run ks xs c rows → ¬ (numberIn x ≡ 0) → HandsNothing x × AsTheTableSays c rows k x c′ rows′
 
@@ -90,7 +90,7 @@ demand-1-others w = every w OthersStay (λ c rows k x c′ rows′ m ks xs r id 
 -- ---- DEMAND 2
 
 -- AT EVERY MOMENT: what was seen is the trace of the calls; what each request stream has shown of it is the definition's reading of its bytes and
--- sections, its fate their verdict; and what each one-way stream has told is what its bytes mean
+-- sections, its fate their verdict; and what each one-way stream has reported is what its bytes mean
 abbrev pub Reads : CallSays
 Reads c rows k x c′ rows′ = (ks : Calls) (xs : List Seen) → Run ks xs c rows → let ls = ks ++ (k ∷ []) in
     (xs ++ (x ∷ []) ≡ map seenIn (trace fresh ls)) × ((id : ℕ) → kindOf id ≡ some request → Tells reading (shows id ls)) × ((id : ℕ) → kindOf id ≡ some one-way → Heard (shows id ls))
@@ -186,7 +186,7 @@ given-alike v block r a q (taken x y n) l = let z : r .number ≡ 0 = ap (λ y. 
 pub demand-2-cutting-given : (w : World) → OfGive w GivesAlike
 demand-2-cutting-given w = of-give w GivesAlike (λ c rows id block r c′ rows′ m ks xs s q e. let u = given-so c rows id block r c′ rows′ m ks xs s q e in given-alike (shows id ks) block r (u .0) (u .1) (u .2))
 
--- SETTINGS that a feed tells of (event 8) are those that the connection's record then holds
+-- SETTINGS that a feed reports (event 8) are those that the connection's record then holds
 abbrev pub HoldsSettings : FeedSays
 HoldsSettings c rows id piece allow r c′ rows′ = (ks : Calls) (xs : List Seen) → Run ks xs c rows → r .event ≡ 8 → ToldSettings (on id (feed allow piece)) (pairOf c rows) c′ r
 
@@ -229,7 +229,7 @@ adds-nothing {i} {j} {ks} {ls} a b n more =
 pub demand-3 : (w : World) → OfEnd w AddsNothing
 demand-3 w = of-end w AddsNothing (λ c rows i r c′ rows′ m ks xs s e ls ys d row t j p d′ row′ o f. adds-nothing (whole-at s (ends m) e) (whole-at t (ends o) f))
 
--- ---- openings, and our GOAWAY: every answer there is, with the condition of each, told from the calls made
+-- ---- openings, and our GOAWAY: every answer there is, with the condition of each, read from the calls made
 
 abbrev pub OpensBy : StreamSays
 OpensBy c rows id r c′ rows′ = (ks : Calls) (xs : List Seen) → Run ks xs c rows → (a : Answer) × (r ≡ reportOf a) × Opens (ledger (trace fresh ks)) id a

@@ -1,5 +1,5 @@
 -- WHAT EACH CALL LEAVES OF THE HOST'S RECORDS, OF THE EXPORTED FUNCTIONS: a start one content, whatever memory it is lent; a call on a stream one record
--- altered, in its place; and at every moment of a run the connection's record keeps of the client what its notices have told (Said). Exported says what
+-- altered, in its place; and at every moment of a run the connection's record keeps of the client what its notices have reported (Said). Exported says what
 -- `Every` is. Assumes nothing.
 use mathlib.Core.Path.{_≡_, refl, sym, ap, _∙_, subst}
 use Prim.Native.Nat.{ℕ, zero, suc, _<_}
@@ -397,7 +397,7 @@ kept-is c p e = by (c .side .kept .set) refl p e
 pub fresh-keeps-none : KeptIs fresh-connection unset
 fresh-keeps-none = refl
 
--- and after every call of a run: what the notices have told since the last start
+-- and after every call of a run: what the notices have reported since the last start
 abbrev pub KeepsWhatWasTold : CallSays
 KeepsWhatWasTold c rows k x c′ rows′ = (ks : Calls) (xs : List Seen) → Run ks xs c rows → KeptIs c′ (toldIn (trace fresh (ks ++ (k ∷ []))))
 

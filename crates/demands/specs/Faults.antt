@@ -1,6 +1,6 @@
 -- FAULTS OF THE BYTES over traces: a one-way stream is refused by a feed only for a fault that the last byte consumed brings, whatever follows, or as
--- the second of its type; otherwise a feed gets on; one that runs has no fault among its bytes; and a fault of the bytes is told from one of closing,
--- for requests too. Calls and answers alone stand in the statements. Assumes nothing.
+-- the second of its type; otherwise a feed gets on; one that runs has no fault among its bytes; and a fault of the bytes is kept apart from one of closing,
+-- for requests too. Calls and answers alone are in the statements. Assumes nothing.
 use mathlib.Core.Path.{_≡_, refl, sym, ap, _∙_, subst}
 use Prim.Native.Nat.{ℕ, zero, suc, _≤_}
 use native.Mathlib.Omega.{arith}
@@ -161,7 +161,7 @@ fares-agrees (over t n) = fares-story t
 pub one-way-fares : (id : ℕ) → kindOf id ≡ some one-way → (cs : Calls) → let v = view id (trace fresh cs) in Fares₁ (v .fate) (v .shown .bytes)
 one-way-fares id q cs = fares-agrees (follows₁ alone id q cs)
 
--- and so of a request stream: a fault of its bytes is told from one of its end
+-- and so of a request stream: a fault of its bytes is kept apart from one of its end
 pub request-fares : (id : ℕ) → kindOf id ≡ some request → (cs : Calls) → let v = view id (trace fresh cs) in Y.Fares reading (v .fate) (v .shown)
 request-fares id q cs = Y.fares reading reads id q cs
 

@@ -1,5 +1,5 @@
 -- What traces ask of one stream's steps, for the streams of document 01: a request's feed gets on; a one-way stream is a machine of its own bytes,
--- to which the connection adds one thing only, that a second stream of a type is refused; and what is kept is what the control stream told.
+-- to which the connection adds one thing only, that a second stream of a type is refused; and what is kept is what the control stream reported.
 -- Assumes nothing.
 use mathlib.Core.Path.{_≡_, refl, sym, ap, _∙_, subst}
 use Prim.Native.Nat.{ℕ, zero, suc, _≤_}
@@ -132,7 +132,7 @@ like k w allow piece = like-of k (O.feed [] allow w piece) (O.feed (typesIn k) a
 abbrev pub alone : ByItself streams
 alone = record { alone₁ = aloneOf; like = like }
 
--- ---- what the control stream told is kept
+-- ---- what the control stream reported is kept
 
 unfoldable pub toldBy : O.OneState → Option Control
 toldBy (O.in-stream-type g) = none

@@ -1,4 +1,4 @@
--- DEMAND 2 for one-way streams over traces: whatever the trace, what a control stream has told, what was handed over of a QPACK stream, and
+-- DEMAND 2 for one-way streams over traces: whatever the trace, what a control stream has reported, what was handed over of a QPACK stream, and
 -- the headers counted are what the bytes consumed mean (rules, OneWay), and so is the stream's fate. Assumes nothing.
 use mathlib.Core.Path.{_≡_, refl, sym, ap, ap₂, _∙_, subst}
 use Prim.Native.Nat.{ℕ, suc, _-_, _≤_}
@@ -29,9 +29,9 @@ use Rattle.demands.specs.Reads.{part-is}
 use Rattle.demands.specs.Becomes.{Once, as-control, as-encoder, as-decoder, isFor}
 use Rattle.demands.specs.Moves.{aloneBy, aloneOf, alone}
 
--- ---- DEFINITION: what the bytes of a one-way stream tell, count and come to
+-- ---- DEFINITION: what the bytes of a one-way stream report, count and come to
 
--- what kept frames tell, in order
+-- what kept frames report, in order
 unfoldable pub noticesOf : List R.Saying → List Notice
 noticesOf [] = []
 noticesOf (R.header h u ∷ xs) = noticesOf xs
@@ -66,7 +66,7 @@ headsBy W.passed-over = 0
 unfoldable pub faultBy : W.OneWay → Option Code
 faultBy m = W.closed m
 
--- ---- what events tell, and what is said
+-- ---- what events report, and what is said
 
 notices-append : (x y : List R.Saying) → noticesOf (x ++ y) ≡ noticesOf x ++ noticesOf y
 unfolding noticesOf
@@ -77,7 +77,7 @@ notices-append (R.section-byte b ∷ x) y = notices-append x y
 notices-append (R.content-byte b ∷ x) y = notices-append x y
 notices-append (R.frame-kept k p ∷ x) y = let t = noticesIn (noticeOf (tells k p)) in ap (λ l. t ++ l) (notices-append x y) ∙ sym (append-assoc t (noticesOf x) (noticesOf y))
 
--- headers tell nothing
+-- headers report nothing
 notices-unheaded : (x : List R.Saying) → noticesOf (unheaded x) ≡ noticesOf x
 unfolding noticesOf unheaded
 notices-unheaded [] = refl
@@ -193,7 +193,7 @@ silent : {w : O.OneState} {u : ℕ} {e : O.OneEvent} {o : O.OneOutcome} {code : 
 silent {code = code} (frames-only s q) d = ap O.of-frames (q code d)
 silent (a-part l s) d = let z : _≡_ {A = ℕ} 0 1 = cc in absurd (omega arith)
 
--- ---- QPACK bytes are told with the type of the stream that they came on
+-- ---- QPACK bytes are reported with the type of the stream that they came on
 
 abbrev Tagged : List (ℕ × ℕ) → List ℕ → O.OneOutcome → Type 0
 Tagged t raw (O.lives (O.in-stream-type g)) = (t ≡ []) × (raw ≡ [])
@@ -337,7 +337,7 @@ module _ (seen : List ℕ) where
   came-of : (s : Shown streams) (o : O.OneOutcome) (b : Been s o) → Came seen (doneOf s (b .frames) (b .raw) o) (W.oneWay seen (s .bytes))
   came-of s o b = subst (λ d. Came seen d (W.oneWay seen (d .bytes))) (b .came) (calls-read seen (b .made))
 
-  -- what a one-way stream has shown is what the bytes consumed tell
+  -- what a one-way stream has shown is what the bytes consumed report
   pub record Hears (s : Shown streams) : Type 0 where
     pub notices : s .notices ≡ noticesBy (W.oneWay seen (s .bytes))
     pub qpack : s .qpack ≡ qpackBy (W.oneWay seen (s .bytes))

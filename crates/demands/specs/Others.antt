@@ -1,5 +1,5 @@
 -- OTHER STREAMS, AND THE ORDER OF NUMBERS. No call but start touches another stream's record, and a request stream is what its own calls made of it.
--- And for an opening, a call on a stream and our GOAWAY: every answer there is, with the condition of each, told from the trace. Of an opening and of
+-- And for an opening, a call on a stream and our GOAWAY: every answer there is, with the condition of each, read from the trace. Of an opening and of
 -- our GOAWAY the conditions leave one answer only. Assumes nothing.
 use mathlib.Core.Path.{_≡_, refl, sym, ap, _∙_, subst}
 use Prim.Native.Nat.{ℕ, _%_, _<_, _≤_, _^_}

@@ -48,7 +48,7 @@ use Rattle.demands.specs.Suits.{OutcomeSuits, Judged, EventSuits, Contro
 use Rattle.demands.specs.Settles.{Comes, refuses, steps, leaves, kills}
 use Rattle.demands.specs.Asked.{by-each, code-none, code-house, code-kept}
 
--- ---- what a one-way stream is reading fits where it stands
+-- ---- what a one-way stream is reading fits where it is
 
 abbrev pub OneSuits : OneState → Type 0
 OneSuits (O.in-stream-type g) = Unit {0}
@@ -60,7 +60,7 @@ abbrev pub OneAfter : OneOutcome → Type 0
 OneAfter (O.lives s) = OneSuits s
 OneAfter (O.dies code) = Unit {0}
 
--- a payload told was judged good
+-- a payload reported was judged good
 abbrev pub TakenSo : (k : Payload) → (payload : List ℕ) → OneOutcome → Type 0
 TakenSo k payload o = (x : Outcome Control) × (o ≡ O.controlled x) × Judged control ControlFits k payload x
 
@@ -125,7 +125,7 @@ module _ (seen : List ℕ) (allow : ℕ) where
   one-suits (O.in-qpack q) h piece = qpack-fed q piece
   one-suits O.in-skipped h piece = typed-fed allow (is skipped) piece
 
--- ---- what it tells
+-- ---- what it reports
 
 settings-told : (u h : ℕ) (n : Next Settings) (next : Control) → after-settings n ≡ go next → told 0 8 0 0 u h 0 ≡ reported u h (noticeOf (settings-in n))
 unfolding after-settings settings-in noticeOf reported noticed

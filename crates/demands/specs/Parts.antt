@@ -386,7 +386,7 @@ module _ (G : Grammar) where
   length-rests n t p b bs ih (M.going g) = also-rests 0 b bs _ (ih (suc n) (in-length t g p) (λ z i. omega arith))
   length-rests n t p b bs ih (M.value len) = also-rests 1 b bs _ (behind-rests bs (λ s. F.feed G n s bs) (λ s h. ih n s (λ z i. h i)) len (G .rule p t len))
 
-  -- unless it is allowed no header and stands inside one
+  -- unless it is allowed no header and is inside one
   feed-rests : (n : ℕ) (s : State (G .P)) → (n ≡ 0 → InHeader s → ⊥) → (bs : List ℕ) → Rests bs (F.feed G n s bs)
   unfolding F.feed halt
   feed-rests n s h [] = all-used refl
@@ -521,7 +521,7 @@ waits-answer : endAnswer waits ≡ code (of-connection frame-error) 0 0 → ⊥
 unfolding endAnswer
 waits-answer e = let z : _≡_ {A = ℕ} 0 1 = cc in omega arith
 
--- what is said of an accepted feed, over the bytes and sections before it: why it stopped; that the mark stands exactly where a section is due; and
+-- what is said of an accepted feed, over the bytes and sections before it: why it stopped; that the mark is exactly where a section is due; and
 -- that one which used some of its piece and not all of it stopped inside no frame: ended there, the stream would not be cut (0x0106). So a part
 -- is as long as the piece and the payload allow, and where the piece goes on no byte of a further header was read
 pub record Exactly (allow : ℕ) (piece : List ℕ) (used heads : ℕ) (e : Event) (before : Shown streams) : Type 0 where
@@ -563,7 +563,7 @@ feeds-exactly id k cs allow u h piece e n q = exactly-agrees id (run fresh cs) (
 
 -- ---- a one-way stream that runs
 
--- a payload that was judged good is told
+-- a payload that was judged good is reported
 settings-loud : (n : Next Settings) (next : Control) → after-settings n ≡ go next → Loud (noticeOf (settings-in n))
 unfolding after-settings settings-in noticeOf
 settings-loud (stop n) next e = let z : _≡_ {A = ℕ} 0 1 = cc in omega arith

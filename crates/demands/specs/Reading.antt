@@ -10,7 +10,7 @@ use Rattle.meaning.specs.First.{placeOf}
 use Rattle.traces.specs.Demands.{Verdict, is-legal, bad, waits, Meaning}
 use Rattle.demands.specs.Streams.{sectionOf, streams}
 
--- blocks stand for the sections that they read as
+-- blocks mean the sections that they read as
 unfoldable pub sectionsOf : (blocks : List (List ℕ)) → List Section
 sectionsOf blocks = map (λ b. sectionOf (lines b)) blocks
 

@@ -149,7 +149,7 @@ dead-stays c p k l e = A.dead-stays c p k l e
 
 -- ---- openings
 
--- OPENING EXACTLY: accepted exactly if document 01's five conditions hold, told from the trace alone
+-- OPENING EXACTLY: accepted exactly if document 01's five conditions hold, read from the trace alone
 pub opening-exactly : (id : ℕ) (cs : List (Call streams)) → (call (open′ id) (run fresh cs) .answer ≡ gave done) ↔ MayOpen (ledger (trace fresh cs)) id
 opening-exactly id cs = O.opening-exactly id cs
 

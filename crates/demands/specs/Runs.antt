@@ -1,5 +1,5 @@
 -- THE LENT CALLS AND THE TRACES: lent calls on one connection and one row, from one start on, answer as the trace of the same calls does
--- and leave what it leaves. In memory a number of the house alters nothing, and where settings are told the record holds them. Assumes nothing.
+-- and leave what it leaves. In memory a number of the house alters nothing, and where settings are reported the record holds them. Assumes nothing.
 use mathlib.Core.Path.{_≡_, refl, sym, ap, _∙_, subst}
 use Prim.Native.Nat.{ℕ, zero, suc, _≤_}
 use native.Mathlib.Omega.{arith}
@@ -440,9 +440,9 @@ fault-alters {c} {rows} b m z =
     let u = fault-turned b (m .turned) (z .0, sym e ∙ z .1) in
     (m .conn-left ∙ u .0 ∙ ap (λ k. withCode k c) (sym e), m .rows-left ∙ ap (set rows (m .found .at)) (u .1 ∙ m .is-found .row) ∙ set-getD rows (m .found .at) free-record)
 
--- ---- settings that are told are those that are kept (the report has no room for them: the host reads them in the connection's record)
+-- ---- settings that are reported are those that are kept (the report has no room for them: the host reads them in the connection's record)
 
--- what has been said, beside an event that tells of settings
+-- what has been said, beside an event that reports settings
 abbrev SaidSo : Event → Control → Type 0
 SaidSo quiet p = Unit {0}
 SaidSo (section-bytes from len last) p = Unit {0}
@@ -615,7 +615,7 @@ settings-are c s e = by (c .side .kept .set) refl e
 told-kept : (c : Connection) {a : Answer} {r : Report} (i : IsSettings a r) {p : Control} → AnswerSays a p → controlOf (sideIn c .kept) ≡ p → SettingsAre c (i .size) (i .capacity) (i .blocked)
 told-kept c i {p} h q = settings-are c (record { section-size = i .size; table-capacity = i .capacity; blocked-streams = i .blocked }) (q ∙ subst (λ y. AnswerSays y p) (i .is) h)
 
--- SETTINGS: where event 8 is reported, the trace's answer tells of settings, and the connection's record then holds those
+-- SETTINGS: where event 8 is reported, the trace's answer reports settings, and the connection's record then holds those
 pub record ToldSettings (k : Call streams) (p : Pair streams) (c′ : Connection) (r : Report) : Type 0 where
   pub size : Option ℕ
   pub capacity : ℕ

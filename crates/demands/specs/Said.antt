@@ -1,5 +1,5 @@
--- WHAT THE CONNECTION KEEPS OF ITS CLIENT is what the control stream's notices have told since the last start, told from calls and answers alone: unset while
--- none has told any, also before a control stream has its type. Assumes nothing.
+-- WHAT THE CONNECTION KEEPS OF ITS CLIENT is what the control stream's notices have reported since the last start, read from calls and answers alone: unset while
+-- none has reported any, also before a control stream has its type. Assumes nothing.
 use mathlib.Core.Path.{_≡_, refl, sym, ap, _∙_, subst}
 use Prim.Native.Nat.{ℕ, zero, suc, _-_, min}
 use native.Mathlib.Omega.{arith}
@@ -42,7 +42,7 @@ use Rattle.demands.specs.Demands.{Calls, mirrored}
 
 -- ---- DEFINITION: what the notices of a trace come to
 
--- settings are the first that a control stream tells; GOAWAY and MAX_PUSH_ID come behind them, and the last of each is kept
+-- settings are the first that a control stream reports; GOAWAY and MAX_PUSH_ID come behind them, and the last of each is kept
 unfoldable pub noted : Notice → Control → Control
 noted (qpack-bytes type from len) p = p
 noted (settings size capacity blocked) p = set (record { section-size = size; table-capacity = capacity; blocked-streams = blocked }) none none
@@ -94,7 +94,7 @@ start-forgets : toldIn (some-told ++ (record { asked = start; answer = gave done
 unfolding toldFrom after-call after-answer after-event noted
 start-forgets = refl
 
--- ---- a feed of frames leaves the place as it was, but for a payload that it tells of
+-- ---- a feed of frames leaves the place as it was, but for a payload that it reports
 
 module _ (G : Grammar) where
   abbrev RuleStays : G .P → Ruling (G .P) → Type 0
@@ -201,7 +201,7 @@ control-stays unset t len = first (eqb t 4)
     first true = rule-if unset (ltb settings-limit len) (refuse (of-connection excessive-load)) (accept (kept reading.settings) unset) tt refl
 control-stays (set s g m) t len = kind-stays (lookup say.column say.unknown t) (set s g m) len
 
--- a payload that it tells of leaves what is noted of it
+-- a payload that it reports leaves what is noted of it
 settings-noted : (p : Control) (n : Next Settings) (next : Control) → say.after-settings n ≡ go next → next ≡ after-event (noticeOf (say.settings-in n)) p
 unfolding say.after-settings say.settings-in noticeOf after-event noted
 settings-noted p (stop c) next e = let z : _≡_ {A = ℕ} 0 1 = cc in absurd (omega arith)
@@ -258,7 +258,7 @@ judged-noted reading.cancel-push p (set s g m) next payload f e d = cancel-none 
 
 -- ---- a one-way stream's
 
--- only a control stream tells; p is where it was
+-- only a control stream reports; p is where it was
 abbrev OneStays : Control → OneEvent → OneOutcome → Type 0
 OneStays p (O.of-frames e) (O.lives (O.in-stream-type g)) = framesEvent e ≡ quiet
 OneStays p (O.of-frames e) (O.lives (O.in-control s)) = placeIn s ≡ after-event (framesEvent e) p
@@ -532,6 +532,6 @@ said-first : SaidSo []
 unfolding run trace toldFrom
 said-first = record { said = unfold fresh in refl; unclaimed = unfold fresh in (λ e. refl); suits = suits-fresh }
 
--- WHAT IS KEPT is what the notices have told since the last start
+-- WHAT IS KEPT is what the notices have reported since the last start
 pub said-is-told : (ks : Calls) → run fresh ks .conn .kept .said ≡ toldIn (trace fresh ks)
 said-is-told ks = said-on [] ks said-first .said

@@ -1,4 +1,4 @@
--- EVERY BOARD CALL IS THE TRACE'S, on a pair that stands as a start and calls leave it; and it stands so again. Assumes nothing.
+-- EVERY LENT CALL IS THE TRACE'S, on a pair that is as a start and calls leave it; and it is so again. Assumes nothing.
 use mathlib.Core.Path.{_≡_, refl, sym, ap, _∙_, subst}
 use Prim.Native.Nat.{ℕ, zero, suc, _≤_, _<_}
 use native.Mathlib.Decide.{decLt}
@@ -152,7 +152,7 @@ module _ (c : Connection) (rows : List Record) (s : Stands c rows) (call id allo
   turns (request v n l o q stays) = rw q (request-turns (v .alive) n l o)
   turns (one-way v n l h q stays) = rw q (one-way-turns (v .alive) n l h stays)
 
-  -- it stands again
+  -- it is so again
   stands-on : {t : Turn} → Turned c f call id allow piece t → Stands (t .conn) (set rows (f .at) (t .row))
   stands-on {t} m = record {
     paired = kept-pair found (s .paired) m;

@@ -43,7 +43,7 @@ use Rattle.demands.specs.Events.{by-itself}
 
 -- ---- DEFINITIONS
 
--- 1. A NOTICE COMES WITH ITS LAST BYTE: the bytes used but for the last one have told nothing that was not told before
+-- 1. A NOTICE COMES WITH ITS LAST BYTE: the bytes used but for the last one have reported nothing that was not reported before
 abbrev pub WithLastByte : (before : Shown streams) (used : ℕ) (piece : List ℕ) → Type 0
 WithLastByte before used piece = (1 ≤ used) × (noticesBy (W.oneWay [] (before .bytes ++ take (used - 1) piece)) ≡ before .notices)
 
@@ -346,7 +346,7 @@ record Silent₁ (n : ℕ) (f : O.OneFeeding) : Type 0 where
   state : O.OneState
   after : f .after ≡ O.lives state
 
--- n bytes are before the last one of a payload that is told
+-- n bytes are before the last one of a payload that is reported
 abbrev Before₁ : O.OneEvent → (n used : ℕ) → Type 0
 Before₁ (O.of-frames F.quiet) n u = ⊥
 Before₁ (O.of-frames (F.section-bytes len last)) n u = ⊥

@@ -1,4 +1,4 @@
--- In every pair that calls lead to, what each stream is reading fits the place where it stands. Assumes nothing.
+-- In every pair that calls lead to, what each stream is reading fits the place where it is. Assumes nothing.
 use mathlib.Core.Path.{_≡_, subst}
 use Prim.Native.Nat.{ℕ, zero, suc}
 use native.Mathlib.Decide.{ℕ-discrete}

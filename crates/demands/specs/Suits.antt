@@ -1,5 +1,5 @@
--- What a stream is reading fits the place where it stands: for any grammar, and then for requests and for control streams. So a section
--- that is given has its fault on the stream alone, and a kept payload tells what it was kept for. Assumes nothing.
+-- What a stream is reading fits the place where it is: for any grammar, and then for requests and for control streams. So a section
+-- that is given has its fault on the stream alone, and a kept payload reports what it was kept for. Assumes nothing.
 use mathlib.Core.Path.{_≡_, refl}
 use Prim.Native.Nat.{ℕ, zero, suc, _-_, min}
 use mathlib.Core.List.{List, [], _∷_, _++_}
@@ -42,7 +42,7 @@ module _ (G : Grammar) (Fits : Use → G .P → Type 0) where
   OutcomeSuits (lives s) = Suits s
   OutcomeSuits (dies code) = Unit {0}
 
-  -- a payload told was judged good at a place that fits, and the stream goes on behind it
+  -- a payload reported was judged good at a place that fits, and the stream goes on behind it
   pub record Judged (k : Kept) (payload : List ℕ) (o : Outcome (G .P)) : Type 0 where
     pub place : G .P
     pub next : G .P

@@ -48,7 +48,7 @@ ours-stops = record {
       rw (same-trace fresh cs) (within-one-payload id k cs allow u h piece e (rw (same-trace fresh cs) at n) (sym (same-next cs (on id (feed allow piece))) ∙ q));
 }
 
--- ---- 1. A CONTROL FEED READS ON PAST ITS NOTICE, if nothing more is to be told
+-- ---- 1. A CONTROL FEED READS ON PAST ITS NOTICE, if nothing more is to be reported
 
 abbrev joined : (used heads : ℕ) → Event → Both streams → Fed (Both streams) → Fed (Both streams)
 joined u h e y (goes u′ h′ quiet y′) = goes (u + u′) (h + h′) e y′

@@ -10,7 +10,7 @@ use borrow.Author.Tests.{lt-ltb, le-ltb, ltb-true, ltb-false}
 use Rattle.rules.specs.Section.{decimalFrom}
 use Rattle.fields.specs.Laws.{from-here}
 
--- 2^62 stands for every number above 2^62-1
+-- 2^62 means every number above 2^62-1
 unfoldable pub capped : ℕ → ℕ
 capped n = cond (ltb n (2 ^ 62)) n (2 ^ 62)
 

@@ -61,7 +61,7 @@ past-end block at h = simp (le-leb (length block) at h)
 
 -- ---- the rules' walk, by one record
 
--- the lines that a walk tells; none of an unreadable block
+-- the lines that a walk reports; none of an unreadable block
 abbrev pub told : Lines → Option Section
 told (unreadable f) = none
 told (readable s) = some s

@@ -440,7 +440,7 @@ pub fn decimal_of(v: &[u8]) -> u64
     total
 }
 
-// What stands at a place of a block: a field line, with where its name, its value and the next record begin.
+// What is at a place of a block: a field line, with where its name, its value and the next record begin.
 pub enum Record {
     End,
     Unreadable,

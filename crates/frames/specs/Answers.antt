@@ -125,7 +125,7 @@ HandedMode mode = (IN-CONTENT ≤ mode) × (mode ≤ IN-CANCEL-PUSH) × (mode �
 abbrev pub tell : (last part behind : ℕ) → Telling
 tell last part behind = record { last = last; part = part; behind = behind }
 
--- how its parts are told
+-- how its parts are reported
 pub data Tells : (mode : ℕ) → Telling → Type 0 where
   tells-content : Tells IN-CONTENT (tell CONTENT CONTENT IN-TYPE)
   tells-header : Tells IN-HEADER-SECTION (tell SECTION-END SECTION HEADER-SECTION-DUE)

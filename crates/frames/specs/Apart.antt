@@ -34,7 +34,7 @@ controls-back : (c : Control) → controls (of-control c) ≡ c
 unfolding controls
 controls-back c = refl
 
--- numbers stand for a state whatever its place is
+-- numbers mean a state whatever its place is
 state-moved : {P Q : Type 0} (f : P → Q) (m : Mode) (a d t : ℕ) (p : P) (k : List ℕ) → map-state f (modeState m a d t p k) ≡ modeState m a d t (f p) k
 unfolding map-state modeState headState
 state-moved f typing a d t p k = refl

@@ -141,7 +141,7 @@ module _ (h n m : ℕ) (z : h ≡ 0 → ⊥) (phase : ℕ) (b : Behind h n m pha
 
 -- ---- laws: the cells
 
--- all places that the numbers stand for end alike
+-- all places that the numbers mean end alike
 ends-alike : {h n m phase : ℕ} {p : Place} → Stands h n m phase p → endNumber (endAt (placeOf phase h n m)) ≡ endNumber (endAt p)
 unfolding placeOf endAt
 ends-alike a-place = refl

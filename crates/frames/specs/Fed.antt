@@ -120,7 +120,7 @@ module _ (c : Cells) (s : List ℕ) (allow : ℕ) where
   pub fed-content : {r : Answer} → Sane c → c .mode ≡ IN-CONTENT → Hands c s 0 0 IN-CONTENT (c .acc) r → Fed c s allow r × Content c (r .cells)
   fed-content {r} sane e a = (fed-payload sane (omega arith) (λ x. omega arith) (λ x. omega arith) (subst (λ x. Answers c s 0 (fromPayload c s 0 0 x (c .acc)) r) (sym e) (a .0)), a .1 refl)
 
-  -- what is not told as content says nothing
+  -- what is not reported as content says nothing
   pub unsaid : {says : Type 0} {r : Answer} {at heads : ℕ} {d : Cells} → r ≡ answer NOTHING at 0 at heads d → r .event ≡ CONTENT → says
   unsaid q e = let z = ap (λ (x : Answer). x .event) q in absurd (omega arith)
 

@@ -206,7 +206,7 @@ module _ (c : Cells) (s : List ℕ) (at heads : ℕ) (w : at ≤ length s) (g : 
       listed = λ e. absurd (no-fault h .1 e);
     })
 
--- ---- how parts are told
+-- ---- how parts are reported
 
 pub told-content : (mode : ℕ) → mode ≡ IN-CONTENT → Tells mode (tell CONTENT CONTENT IN-TYPE)
 told-content mode e = rw e tells-content

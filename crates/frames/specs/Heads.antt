@@ -18,7 +18,7 @@ use Rattle.frames.specs.declared.Head.{Head}
 use Rattle.frames.specs.declared.HeadEnd.{HeadEnd}
 use Rattle.frames.specs.Both.{Place, rule, both}
 
--- the state that a header's numbers stand for, as long as it is not whole
+-- the state that a header's numbers mean, as long as it is not whole
 unfoldable pub headState : {P : Type 0} → (mode acc due ftype : ℕ) → P → State P
 headState zero a d t p = in-type (prog d a) p
 headState (suc k) a d t p = in-length t (prog d a) p

@@ -1,4 +1,4 @@
--- Names of what the code holds as numbers: where a stream stands inside a frame (a mode), what a payload is for (a use), where it stands between two
+-- Names of what the code holds as numbers: where a stream is inside a frame (a mode), what a payload is for (a use), where it is between two
 -- frames (a phase). A mode has its number in `modeNumber` and is read back by `modeOf` and `mode-view`. Assumes nothing.
 use mathlib.Core.Path.{_≡_, refl, ap, _∙_}
 use Prim.Native.Nat.{ℕ, zero, suc, _≤_, _<_}

@@ -25,7 +25,7 @@ unfoldable pub statedOf : (has stated : ℕ) → Option ℕ
 statedOf zero n = none
 statedOf (suc h) n = some n
 
--- a place that four numbers stand for; of a control stream behind SETTINGS, any one
+-- a place that four numbers mean; of a control stream behind SETTINGS, any one
 unfoldable pub placeOf : (phase has stated sum : ℕ) → Place
 placeOf zero h n m = of-request opening
 placeOf (suc zero) h n m = of-request (body (statedOf h n) m)
@@ -38,7 +38,7 @@ IsSet (of-request m) = ⊥
 IsSet (of-control unset) = ⊥
 IsSet (of-control (set s g m)) = Unit {0}
 
--- numbers that stand for a place
+-- numbers that mean a place
 pub data Stands (has stated sum : ℕ) : (phase : ℕ) → Place → Type 0 where
   a-place : {phase : ℕ} → Stands has stated sum phase (placeOf phase has stated sum)
   any-set : {p : Place} (k : ℕ) → IsSet p → Stands has stated sum (suc (suc (suc (suc k)))) p
@@ -62,7 +62,7 @@ unfoldable pub numberOf : {P : Type 0} → Ruling P → ℕ
 numberOf (refuse code) = codeNumber code
 numberOf (accept u p) = useNumber u
 
--- where a place stands once a frame of this use is accepted
+-- where a place is once a frame of this use is accepted
 unfoldable pub withData : (len : ℕ) → Place → Place
 withData len (of-request opening) = of-request opening
 withData len (of-request (body stated sum)) = of-request (body stated (sum + len))

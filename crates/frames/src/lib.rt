@@ -359,7 +359,7 @@ fn head_on(s: &[u8], at: usize, h: Head) -> HeadEnd
 
 // ---- one feed
 
-// Where a stream stands, in numbers: its mode, as above;
+// Where a stream is, in numbers: its mode, as above;
 // acc: the value of an integer's bytes so far, or the payload's bytes to come; due: the integer's bytes to come; ftype: the type before a length.
 // phase, has, stated, sum: the place between two frames, as above.
 #[repr(C)]
@@ -409,7 +409,7 @@ fn quiet(used: usize, heads: u64, cells: Cells) -> Answer
     }
 }
 
-// How the parts of a payload are told: the event of the last one, of one before it, and the mode behind the payload.
+// How the parts of a payload are reported: the event of the last one, of one before it, and the mode behind the payload.
 struct Telling {
     last: u64,
     part: u64,
@@ -676,7 +676,7 @@ pub fn feed(s: &[u8], c: Cells, allow: u64) -> Answer
     }
 }
 
-// A feed that begins in content, or with a DATA frame's header that stands whole in the piece: its event is content, and the answer is that of `feed`.
+// A feed that begins in content, or with a DATA frame's header that is whole in the piece: its event is content, and the answer is that of `feed`.
 // Any other event says nothing.
 pub fn brisk(s: &[u8], c: Cells, allow: u64) -> Answer
     requires { ⌜ Sane c ⌝ }

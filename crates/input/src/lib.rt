@@ -1,4 +1,4 @@
-// What stands on standard input, read into lent room.
+// What is on standard input, read into lent room.
 use libc::STDIN_FILENO;
 ghost use lib.ListN.{length};
 ghost use Rattle.input.specs.Came.{Came};

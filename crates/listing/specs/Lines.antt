@@ -26,7 +26,7 @@ place at phase sum = record { at = at; phase = phase; sum = sum }
 abbrev pub first : Place
 first = place 0 3 0
 
--- where the message stands
+-- where the message is
 unfoldable pub messageOf : (phase sum : ℕ) → Message
 messageOf zero sum = opening
 messageOf (suc zero) sum = body none sum

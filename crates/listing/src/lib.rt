@@ -18,7 +18,7 @@ pub enum Usage {
     Trailers,
 }
 
-// Where a listing stands. at: the offset of the next frame; past the input, the input cuts the payload before it.
+// Where a listing is. at: the offset of the next frame; past the input, the input cuts the payload before it.
 // The phase is a request's, or the heading is due. sum: of the DATA lengths.
 const HEADING_DUE: u64 = 3;
 

@@ -223,7 +223,7 @@ unfolding taking named with-left over
 section-marked G allow piece t p j zero = marked refl refl
 section-marked G allow piece t p j (suc l) = unmarked (ap (section-bytes (suc j)) (eqb·suc-zero l)) refl
 
--- THE MARK stands on the part behind which the section is due, and on no other
+-- THE MARK is on the part behind which the section is due, and on no other
 pub feed-marks : (G : Grammar) (allow : ℕ) (s : State (G .P)) (piece : List ℕ) → Marked allow piece (feed G allow s piece)
 unfolding halt taking named
 feed-marks G = every-feed G Marked (record {

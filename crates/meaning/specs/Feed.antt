@@ -1,4 +1,4 @@
--- BELIEVED (docs/PROOFS.md). One call of feed, for any grammar: how far it goes in a piece, what it names, and what it leaves. It holds no place: a fault stands
+-- BELIEVED (docs/PROOFS.md). One call of feed, for any grammar: how far it goes in a piece, what it names, and what it leaves. It holds no place: a fault is
 -- at the last byte used. The engine's contract is `r ≡ feed ..`. Assumes nothing.
 use Prim.Native.Nat.{ℕ, zero, suc, _+_, _-_, min}
 use mathlib.Core.List.{List, [], _∷_, _++_, map}

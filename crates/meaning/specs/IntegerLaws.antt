@@ -128,7 +128,7 @@ more-below (suc k) v m at {t = t} {here = here} (byte {b = c} l b) h e =
     let y : m * 256 * 256 ^ k ≡ m * 256 ^ suc k = rw (pow-suc 256 k, mul-assoc m 256 (256 ^ k), mul-comm 256 (256 ^ k)) in
     (rw (← y) (i .0), omega arith)
 
--- a row that stands in a table, behind none that is longer
+-- a row that is in a table, behind none that is longer
 data Has (r : Row) : List Row → Type 0 where
   here : {rs : List Row} → Has r (r ∷ rs)
   later : {q : Row} {rs : List Row} → q .size ≤ r .size → Has r rs → Has r (q ∷ rs)

@@ -1,5 +1,5 @@
 -- BELIEVED as far as Feed speaks of its states (docs/PROOFS.md). The same reading a byte at a time: the state between two bytes, which is what an engine keeps, and one step.
--- A state holds no place. The rules are the grammar's: only where a header and a payload end is told in another way. Assumes nothing.
+-- A state holds no place. The rules are the grammar's: only where a header and a payload end is said in another way. Assumes nothing.
 use Prim.Native.Nat.{ℕ, zero, suc, _+_, _*_, _%_}
 use mathlib.Core.List.{List, [], _∷_, _++_}
 use lib.ListN.{length}
@@ -165,7 +165,7 @@ module _ (G : Grammar) where
   finished place (reads sections s) = finish G place s
   finished place (stuck v) = v
 
-  -- the offset of the frame: here, where the machine stands between two frames
+  -- the offset of the frame: here, where the machine is between two frames
   unfoldable pub begins : (begun place : ℕ) → Run (G .P) → ℕ
   begins begun place (reads sections (in-type fresh p)) = place
   begins begun place (reads sections (in-type (need k v) p)) = begun

@@ -118,7 +118,7 @@ stepped (heading stated) m = heads stated m
 stepped (data· len) m = carries len m
 stepped trailing m = trails m
 
--- a message that takes these items and stands there then
+-- a message that takes these items and is there then
 pub data Takes : Message → List Item → Message → Type 0 where
   nothing : {m : Message} → Takes m [] m
   item : {m p q : Message} (i : Item) {is : List Item} → stepped i m ≡ goes p → Takes p is q → Takes m (i ∷ is) q

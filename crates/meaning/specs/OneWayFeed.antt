@@ -1,5 +1,5 @@
 -- BELIEVED (docs/PROOFS.md). One call of feed for a one-way stream: its type, and then as its type says. Type bytes, QPACK bytes and skipped bytes are free. It holds no
--- place: a fault stands at the last byte used. The engine's contract is `r ≡ feed ..`. Assumes nothing.
+-- place: a fault is at the last byte used. The engine's contract is `r ≡ feed ..`. Assumes nothing.
 use Prim.Native.Nat.{ℕ, suc, _+_, _-_}
 use mathlib.Core.List.{List, [], _∷_, _++_}
 use lib.ListN.{length, take, drop}

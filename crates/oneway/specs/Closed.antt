@@ -140,7 +140,7 @@ unfolding OneStands
 stands-set stopped q e = let z : _≡_ {A = ℕ} 0 1 = cc in absurd (omega arith)
 stands-set (goes {s = s} {g = g} {m = m}) q e = let x : set s g m ≡ q = cc in rw (sym x) (any-set 0 tt, refl)
 
--- THE STREAM THAT EVENT 5 LEAVES stands, once the payload is judged good, between two frames at the place that the judgement gives
+-- THE STREAM THAT EVENT 5 LEAVES is, once the payload is judged good, between two frames at the place that the judgement gives
 pub behind-judged : (f : Kept) (p q : Control) (all : List ℕ) → judged f p all ≡ go q → OneStands 3 (frameCells 4) q []
 behind-judged f p q all e = stands-set (judged-set f p all) q e
 

@@ -43,7 +43,7 @@ controlAt c = record { kind = 3; cells = c }
 abbrev pub frameCells : (phase : ℕ) → Cells
 frameCells phase = cellsOf 0 0 phase
 
--- what such cells may stand for, and the definition's feed of the frames from `at` on
+-- what such cells may mean, and the definition's feed of the frames from `at` on
 abbrev pub framesStand : Cells → Control → List ℕ → Type 0
 framesStand c p k = StandsIn c (place.of-control p) × Held (IN-SETTINGS - c .mode) k
 
@@ -229,7 +229,7 @@ module _ (s : List ℕ) (p : Control) (k : List ℕ) (start len used heads : ℕ
       let x = carried 0 s p k start len used heads c j in
       within-mode (c .mode) (c .acc) (c .due) (c .ftype) p j (subst (StateWithin Unseen) x (w .after))
 
--- a place that such cells stand for
+-- a place that such cells mean
 some-place : (h n m ph : ℕ) → 3 ≤ ph → ph ≤ SET → (p : Control) × Stands h n m ph (place.of-control p)
 some-place h n m zero l u = absurd (omega arith)
 some-place h n m (suc zero) l u = absurd (omega arith)

@@ -108,7 +108,7 @@ module _ (r : Record) (o : Heeds r) where
   pub heeds-shape : OneShapeAt (r .kind) c
   heeds-shape = at-kind (r .kind) refl .1
 
--- ---- where it stands
+-- ---- where it is
 
 phase-stands : (h n u phase : ℕ) (k : Kept) → UNSET ≤ phase → phase ≤ SET → Stands h n u phase (of-control (controlAt (phase - 3) k))
 unfolding controlAt placeOf
@@ -167,7 +167,7 @@ module _ (id : ℕ) (c : Cells) {q : Record} (p : Control) (k : List ℕ) where
   unfolding oneWayRecord
   control-row st fit w = written-as (stream CONTROL id c) q w fit (of-control p) k st ∙ ap (recordOf CONTROL id) (sym (state-carried of-control (c .mode) (c .acc) (c .due) (c .ftype) p k))
 
-  -- THE RECORD OF THE STATE that the numbers stand for
+  -- THE RECORD OF THE STATE that the numbers mean
   pub row-of-state : (kind : ℕ) → StandsAt kind c p → OneShapeAt kind c → Fit kind id c → Written (stream kind id c) q → q ≡ oneWayRecord id (oneStateAt kind c p k)
   unfolding StandsAt OneShapeAt oneStateAt oneWayRecord prog
   row-of-state zero st sh fit w = absurd sh
@@ -210,7 +210,7 @@ module _ (d : Side) (phase : ℕ) (c : Cells) (k : List ℕ) where
       let f = sym e in
       rw (b, f) refl
 
-  -- THE SIDE OF THE STATE that the numbers stand for
+  -- THE SIDE OF THE STATE that the numbers mean
   pub side-of-state : (kind : ℕ) {sofar : List ℕ} → sofarIn (stateOf c p k) ≡ sofar → sideBy kind phase d (take 256 sofar) ≡ sideAfter d (oneStateAt kind c p k)
   unfolding sideBy bareSide sideAfter oneStateAt
   side-of-state zero e = refl

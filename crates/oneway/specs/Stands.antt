@@ -26,7 +26,7 @@ use Rattle.record.specs.Kinds.{CONTROL}
 
 -- ---- a state
 
--- THE VIEW of a kind; any other than the four is skipped. A control stream stands at p, and has kept sofar of a payload.
+-- THE VIEW of a kind; any other than the four is skipped. A control stream is at p, and has kept sofar of a payload.
 unfoldable pub oneStateAt : (kind : ℕ) → Cells → Control → (sofar : List ℕ) → OneState
 oneStateAt zero c p k = in-skipped
 oneStateAt (suc zero) c p k = in-skipped
@@ -39,7 +39,7 @@ oneStateAt (suc (suc (suc (suc (suc (suc n)))))) c p k = in-skipped
 abbrev pub oneState : OneWay → Control → (sofar : List ℕ) → OneState
 oneState w p k = oneStateAt (w .kind) (w .cells) p k
 
--- what a stream of this kind may stand at, with what is kept so far
+-- what a stream of this kind may be at, with what is kept so far
 unfoldable pub OneStands : (kind : ℕ) → Cells → Control → (sofar : List ℕ) → Type 0
 OneStands zero c p k = Unit {0}
 OneStands (suc zero) c p k = Unit {0}
@@ -104,7 +104,7 @@ OneShapeAt (suc (suc (suc (suc n)))) c = (c ≡ cellsOf 0 0 OPENING) × (n ≤ 2
 abbrev pub OneShape : OneWay → Type 0
 OneShape w = OneShapeAt (w .kind) (w .cells)
 
--- where a stream of this kind may stand
+-- where a stream of this kind may be
 unfoldable pub StandsAt : (kind : ℕ) → Cells → Control → Type 0
 StandsAt zero c p = Unit {0}
 StandsAt (suc zero) c p = Unit {0}
@@ -127,6 +127,6 @@ pub record Says (s : List ℕ) (before : OneWay) (shape : Type 0) (stands : Cont
   pub listed : r .event ≡ FAULT → codeNumber (coded (r .len)) ≡ r .len  -- a fault's number is a code's
   pub leaves : (r .event ≡ FAULT → ⊥) → (r .event ≡ KEPT → ⊥) → (p : Control) (k : List ℕ) → stands p k → StandsAt (r .stream .kind) (r .stream .cells) p
 
--- WHAT A FEED OF A ONE-WAY STREAM ANSWERS: the definition's feed, from every state that the numbers stand for
+-- WHAT A FEED OF A ONE-WAY STREAM ANSWERS: the definition's feed, from every state that the numbers mean
 abbrev pub OneFed : OneWay → Seen → (s : List ℕ) (allow : ℕ) → OneAnswer → Type 0
 OneFed w seen s allow r = Says s w (OneShape w) (OneStands (w .kind) (w .cells)) (λ p k. feed (seenOf seen) allow (oneState w p k) s) r

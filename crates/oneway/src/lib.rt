@@ -37,7 +37,7 @@ pub struct OneWay {
 
 // Nothing, a fault with its code in len, a kept payload that is complete, a part of one, or QPACK stream bytes.
 // A part is len bytes of the piece from start on. payload: which one is complete (8 SETTINGS, 9 GOAWAY, 10 MAX_PUSH_ID, 11 CANCEL_PUSH); then the
-// stream is where it stands once the payload is judged good.
+// stream is where it is once the payload is judged good.
 pub struct OneAnswer {
     pub event: u64,
     pub start: usize,

@@ -24,7 +24,7 @@ use Rattle.record.specs.Row.{phaseOf, statedIn, isStated, lengthOf, sumI
 use Rattle.record.specs.Sound.{Fit, cellsIn, ownPlace, tidied, Sound, stream, Read, is-free, is-open, is-unsound, Written, is-record, is-none}
 use Rattle.record.specs.Tidy.{in-type-numbers, in-length-numbers, due-numbers, payload-numbers, place-back, one-state, Tidier, tidy-less}
 
--- ---- the cells of a state stand for that state
+-- ---- the cells of a state mean that state
 
 value-again : (d a : ℕ) → prog d (partOf (prog d a) .acc) ≡ prog d a
 unfolding prog partOf

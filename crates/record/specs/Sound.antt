@@ -59,11 +59,11 @@ cellsIn r = record {
 abbrev pub ownPlace : Cells → Place
 ownPlace c = placeOf (c .phase) (c .has) (c .stated) (c .sum)
 
--- the cells of the state that these cells stand for: of cells that stand for one state, the one that says nothing else
+-- the cells of the state that these cells mean: of cells that mean one state, the one that says nothing else
 abbrev pub tidied : Cells → Cells
 tidied c = cellsFor (stateOf c (ownPlace c) [])
 
--- SOUND: the numbers are some open stream's, and this is the one record of the state that they stand for
+-- SOUND: the numbers are some open stream's, and this is the one record of the state that they mean
 pub record Sound (r : Record) : Type 0 where
   pub fit : Fit (r .kind) (r .id) (cellsIn r)
   pub own : r ≡ recordOf (r .kind) (r .id) (stateOf (cellsIn r) (ownPlace (cellsIn r)) [])
@@ -85,7 +85,7 @@ pub data Read (r : Record) (s : Stream) : Type 0 where
   is-open : Sound r → s ≡ stream (r .kind) (r .id) (cellsIn r) → Read r s
   is-unsound : (r ≡ free-record → ⊥) → (Sound r → ⊥) → s ≡ unsound-stream → Read r s
 
--- WHAT IS WRITTEN of any stream: the one record of its state, for every state that its cells stand for; of what is none, a free record
+-- WHAT IS WRITTEN of any stream: the one record of its state, for every state that its cells mean; of what is none, a free record
 pub data Written (s : Stream) (r : Record) : Type 0 where
   is-record : Fit (s .kind) (s .id) (s .cells) → ((p : Place) (k : List ℕ) → StandsIn (s .cells) p → r ≡ recordOf (s .kind) (s .id) (stateOf (s .cells) p k)) → Written s r
   is-none : (Fit (s .kind) (s .id) (s .cells) → ⊥) → r ≡ free-record → Written s r

@@ -93,7 +93,7 @@ numbers-alike mode a d t p q k l = numbers-in (modeOf mode) a d t p q k l
 
 -- ---- the numbers of a place
 
--- all the places that four numbers stand for have the same
+-- all the places that four numbers mean have the same
 places-alike : (n : Numbers) {h st s phase : ℕ} {p : Place} → Stands h st s phase p → cellsBy n p ≡ cellsBy n (placeOf phase h st s)
 unfolding placeOf phaseOf statedIn sumIn
 places-alike n a-place = refl
@@ -110,7 +110,7 @@ phase-back (suc (suc (suc zero))) h st s l = refl
 phase-back (suc (suc (suc (suc zero)))) h st s l = refl
 phase-back (suc (suc (suc (suc (suc k))))) h st s l = absurd (omega arith)
 
--- ONE RECORD, whatever state the cells stand for
+-- ONE RECORD, whatever state the cells mean
 pub one-state : (c : Cells) (p : Place) (k : List ℕ) → StandsIn c p → cellsFor (stateOf c p k) ≡ tidied c
 one-state c p k st =
     let a = place-back (c .acc) (c .due) (c .ftype) p k (c .mode) in

@@ -64,7 +64,7 @@ startLine number = headText number 0 0 ++ (ascii "-" ++ line-feed)
 unfoldable pub writtenLine : (number count : ℕ) (buffer : List ℕ) → List ℕ
 writtenLine number count buffer = headText number 0 0 ++ ascii "written" ++ blank count ++ ascii " " ++ hexWord buffer ++ line-feed
 
--- which write a letter stands for
+-- which write a letter means
 unfoldable pub pickWrite : Bool → Write → Write → Write
 pickWrite true a b = a
 pickWrite false a b = b

@@ -1,4 +1,4 @@
--- WHAT A LINE LEAVES AND PRINTS: the lent call that its letter stands for, and the line of what the call answered. Assumes nothing.
+-- WHAT A LINE LEAVES AND PRINTS: the lent call that its letter means, and the line of what the call answered. Assumes nothing.
 use Prim.Native.Nat.{ℕ, zero, suc, _≤_, _<_}
 use mathlib.Core.Path.{_≡_, refl, sym, ap, subst, _∙_}
 use mathlib.Core.List.{List, [], _∷_}
@@ -70,7 +70,7 @@ pub data Runs (script : List ℕ) (at : ℕ) (p : Pair) (before after : List ℕ
   bad : (l : Line) → LineAt at before l after → l .letter ≡ 0 → r .on ≡ false → text ≡ badLine → Runs script at p before after r text
   plays : (l : Line) → LineAt at before l after → 0 < l .letter → Plays p l (take (l .count) after) (r .pair) text → r .at ≡ l .next → r .on ≡ true → Runs script at p before after r text
 
--- a text that says so stands at the start of the room
+-- a text that says so is at the start of the room
 pub record Lined (Tells : List ℕ → Type 0) (room after : List ℕ) (count : ℕ) : Type 0 where
   pub text : List ℕ
   pub tells : Tells text

@@ -517,7 +517,7 @@ pub fn start() -> Pair {
     Pair { conn, rows }
 }
 
-// The line at a place of the script: its call is made, and what it prints stands at the start of the room.
+// The line at a place of the script: its call is made, and what it prints is at the start of the room.
 pub fn next(script: &[u8], at: usize, pair: Pair, scratch: &mut [u8], room: &mut [u8; 2048]) -> Step
     ensures { λ r. ⌜ StepAt (now (script .entry)) at pair (now (scratch .entry)) (now (room .entry)) r (now (scratch .exit)) (now (room .exit)) ⌝ }
 {

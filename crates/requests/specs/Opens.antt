@@ -121,6 +121,6 @@ state-back id s h =
 pub open-plain : (r : Record) → Open r → Plain (stateIn r)
 open-plain r o = let c = cellsIn r in plain-mode (c .mode) (c .acc) (c .due) (c .ftype) (message (ownPlace c)) [] (o .sound .fit .shaped .request-mode (o .kind))
 
--- FEED AFTER FEED: the record that an accepted feed leaves stands for the very state that the definition's feed leaves
+-- FEED AFTER FEED: the record that an accepted feed leaves means the very state that the definition's feed leaves
 pub feeds-on : (r : Record) → Open r → (allow : ℕ) (piece : List ℕ) (s : State Message) → feed (request document) allow (stateIn r) piece .after ≡ lives s → stateIn (requestRecord (r .id) s) ≡ s
 feeds-on r o allow piece s e = state-back (r .id) s (plain-feed document allow (stateIn r) (open-plain r o) piece .plain s e)

@@ -174,12 +174,12 @@ module _ (c : Cells) (block : List ℕ) (a : TrailerAnswer) (met : readTrailers 
 
 -- ---- it is the rules' own
 
--- an answer says this of the rules' next message: the code, the stream as it was; or it is accepted, and the stream stands between two frames at that message
+-- an answer says this of the rules' next message: the code, the stream as it was; or it is accepted, and the stream is between two frames at that message
 unfoldable pub Says : Cells → Given → Next Message → Type 0
 Says c r (stop code) = r ≡ answer (codeNumber code) c
 Says c r (go m) = (r .number ≡ ACCEPTED) × StandsIn (r .cells) (of-request m) × ((p : Place) (k : List ℕ) → stateOf (r .cells) p k ≡ between p) × Sane (r .cells)
 
--- the messages that numbers stand for
+-- the messages that numbers mean
 data Message-at (h n s : ℕ) : (phase : ℕ) → Message → Type 0 where
   at-opening : Message-at h n s OPENING opening
   at-body : Message-at h n s BODY (body (statedOf h n) s)

@@ -8,7 +8,7 @@ ghost use Rattle.rules.specs.Block.{lines};
 ghost use Rattle.section.specs.Answer.{readStated};
 ghost use Rattle.requests.specs.Taken.{cellsAt, bodyCells, headedAs, headerOf, trailedAs, trailerOf, givenOf};
 
-// The number, and where the stream stands then.
+// The number, and where the stream is then.
 #[repr(C)]
 pub struct Given {
     pub number: u64,

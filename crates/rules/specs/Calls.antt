@@ -17,7 +17,7 @@ use mathlib.Core.Path.{_≡_}
 unfoldable pub part : (from len : ℕ) → List ℕ → List ℕ
 part from len piece = take len (drop from piece)
 
--- what a one-way stream tells: a part of a QPACK stream (its type, and where the part is); settings (identifiers 6, 1 and 7); a push ID
+-- what a one-way stream reports: a part of a QPACK stream (its type, and where the part is); settings (identifiers 6, 1 and 7); a push ID
 pub data Notice : Type 0 where
   qpack-bytes : (type from len : ℕ) → Notice
   settings : (section-size : Option ℕ) (table-capacity blocked-streams : ℕ) → Notice
@@ -43,7 +43,7 @@ sectionIn (section-bytes from len last) piece = part from len piece
 sectionIn (content-bytes from len) piece = []
 sectionIn (notice what) piece = []
 
--- what a notice tells of itself; a QPACK part is bytes
+-- what a notice reports of itself; a QPACK part is bytes
 unfoldable pub toldBy : Notice → List Notice
 toldBy (qpack-bytes type from len) = []
 toldBy (settings size capacity blocked) = settings size capacity blocked ∷ []

@@ -60,7 +60,7 @@ settings-of payload = pairs (length payload) [] no-settings payload
 
 -- ---- the stream
 
--- where it stands: no SETTINGS yet, or what is kept of what has come
+-- where it is: no SETTINGS yet, or what is kept of what has come
 pub data Control : Type 0 where
   unset : Control
   set : Settings → (goaway max-push-id : Option ℕ) → Control
@@ -155,7 +155,7 @@ control = record {
   cut = of-connection closed-critical-stream;
 }
 
--- ---- what a kept frame tells the host
+-- ---- what a kept frame reports to the host
 
 pub data Told : Type 0 where
   told-settings : Settings → Told

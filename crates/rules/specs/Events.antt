@@ -1,4 +1,4 @@
--- What a call tells, in numbers, as the code has them (crates/rules/src). Assumes nothing.
+-- What a call reports, in numbers, as the code has them (crates/rules/src). Assumes nothing.
 use Prim.Native.Nat.{ℕ}
 
 abbrev pub NOTHING : ℕ

@@ -8,7 +8,7 @@ use lib.ListN.{length, take, drop}
 use Rattle.rules.specs.Integers.{cut, got, integer}
 
 -- A frame header: the offset of the frame, the offset of its payload, the type, and the length of the payload.
--- (Integers need not be in their shortest form, so neither offset can be told from the other.)
+-- (Integers need not be in their shortest form, so neither offset can be inferred from the other.)
 pub record Header : Type 0 where
   pub at : ℕ
   pub from : ℕ

@@ -9,7 +9,7 @@ use lib.Dec.{ltb, eqb}
 unfoldable pub content-limit : ℕ
 content-limit = 1_048_576
 
--- where a message stands: the Content-Length that its header section states, and the sum of the DATA lengths so far
+-- where a message is: the Content-Length that its header section states, and the sum of the DATA lengths so far
 pub data Message : Type 0 where
   opening : Message
   body : (stated : Option ℕ) (sum : ℕ) → Message

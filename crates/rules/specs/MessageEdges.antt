@@ -11,7 +11,7 @@ use Rattle.rules.specs.Message.{Message, opening, body, trailed, content
 use Rattle.rules.specs.Numbers.{numberOf, rows, namedIn, named, codeIn, coded}
 use Rattle.rules.specs.Worked.{request-rule, ruling-is, Worked, answer, stream, Holds, asks}
 
--- DATA of a length, where a message stands
+-- DATA of a length, where a message is
 abbrev carries : Message → (len : ℕ) → Message → Worked
 carries m len after = asks (request-rule m 0 len) (ruling-is (accept content after))
 

@@ -24,7 +24,7 @@ pub data Use : Type 0 where
   section : Part → Use  -- handed on to the decoder; judged from the section that comes back
   kept : Kept → Use  -- kept; judged from the payload itself
 
--- A header is refused with a code, or its payload has a use, and P is where the stream then stands.
+-- A header is refused with a code, or its payload has a use, and P is where the stream then is.
 pub data Ruling (P : Type 0) : Type 0 where
   refuse : Code → Ruling P
   accept : Use → P → Ruling P

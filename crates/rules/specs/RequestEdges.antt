@@ -79,7 +79,7 @@ pub request-positions : Holds (
     ∷ stream none "01 01 00 00 01 61 01 01 00 00 00" "61" (fault (coded 0x0105) 11)
     ∷ stream none "01 01 00 00 01 61 01 01 00 01 00" "61" (fault (coded 0x0105) 11)
     ∷ stream none "01 01 00 00 01 61 04 00" "61" (fault (coded 0x0105) 8)
-    -- skipped frames stand anywhere and are no content; the position is that of the known types
+    -- skipped frames are anywhere and are no content; the position is that of the known types
     ∷ stream none "21 01 61 01 01 00 21 01 61 00 01 62 21 01 61 01 01 00 21 01 61" "62" whole
     ∷ stream none "21 00 00 00" "" (fault (coded 0x0105) 4)
     ∷ stream none "21 00 01 00 21 00 01 00 21 00 01 00" "" (fault (coded 0x0105) 12)

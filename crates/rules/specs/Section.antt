@@ -241,7 +241,7 @@ header-checks =
     ∷ length-check
     ∷ []
 
--- (in trailers a pseudo-field and Content-Length are refused in any case; the checks of them before and behind tell the reason)
+-- (in trailers a pseudo-field and Content-Length are refused in any case; the checks of them before and behind give the reason)
 unfoldable pub trailer-checks : List Check
 trailer-checks =
     size-check

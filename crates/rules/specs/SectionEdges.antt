@@ -467,7 +467,7 @@ pub trailers-judged : Holds (
 unfolding answer hex hexFrom nibble ascii numberOf rows namedIn named codeIn coded size-limit
 trailers-judged = refl
 
--- which byte may stand where
+-- which byte may be where
 abbrev header-passes : Header → Bool
 header-passes (bad-header code) = false
 header-passes (good-header stated) = true

@@ -9,7 +9,7 @@ use mathlib.Core.Path.{_≡_}
 use mathlib.Core.Bool.{Bool, true, false}
 use mathlib.Core.Option.{Option, none, some}
 
--- bytes consumed, sections accepted, section bytes and content handed over, headers finished; and of a one-way stream what it told (settings,
+-- bytes consumed, sections accepted, section bytes and content handed over, headers finished; and of a one-way stream what it reported (settings,
 -- GOAWAY, MAX_PUSH_ID) and its QPACK bytes, each with the type of its stream
 pub record Shown (M : Machine) : Type 0 where
   pub bytes : List ℕ

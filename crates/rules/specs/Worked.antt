@@ -82,7 +82,7 @@ verdict-alone (of-control r) = of-control (record { said = []; verdict = r .verd
 verdict-alone (of-qpack k bytes) = of-qpack k bytes
 verdict-alone passed-over = passed-over
 
--- what the kept frames of a control stream tell, in order
+-- what the kept frames of a control stream report, in order
 unfoldable pub tellings : List Saying → List C.Told
 tellings [] = []
 tellings (header h u ∷ xs) = tellings xs

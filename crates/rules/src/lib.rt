@@ -1,4 +1,4 @@
-// The rules stand in specs/. Here are the names that the code has for document 01's numbers (specs/Numbers, in the same order).
+// The rules are in specs/. Here are the names that the code has for document 01's numbers (specs/Numbers, in the same order).
 pub const ACCEPTED: u64 = 0;
 
 pub const NOT_OPEN: u64 = 1;
@@ -54,7 +54,7 @@ pub const END: u64 = 3;
 
 pub const RESET: u64 = 4;
 
-// What a call tells: an event of its report (docs/DECISIONS, N13). A fault and the parts of a kept payload are told inside the engine alone.
+// What a call reports: an event of its report (docs/DECISIONS, N13). A fault and the parts of a kept payload are reported inside the engine alone.
 pub const NOTHING: u64 = 0;
 
 pub const CONTENT: u64 = 1;

@@ -1,4 +1,4 @@
-// RFC 9000's sample integers and document 01's worked bytes, one line each; what is to come stands in the file stdout.
+// RFC 9000's sample integers and document 01's worked bytes, one line each; what is to come is in the file stdout.
 use control::settings::Judged;
 use control::settings::SectionSize;
 use control::settings::Settings;

@@ -22,7 +22,7 @@ fn wide(x: u8) -> u64
     x as u64
 }
 
-// What a decimal digit stands for; 10: the byte is none.
+// What a decimal digit means; 10: the byte is none.
 fn digit(b: u8) -> u64
     ensures { λ r. ⌜ DigitIs b r ⌝ }
 {
@@ -36,7 +36,7 @@ fn digit(b: u8) -> u64
     x - 48
 }
 
-// What a hexadecimal digit stands for; 16: the byte is none.
+// What a hexadecimal digit means; 16: the byte is none.
 fn half(b: u8) -> u64
     ensures { λ r. ⌜ HalfIs b r ⌝ }
 {
@@ -56,7 +56,7 @@ fn half(b: u8) -> u64
     x - 87
 }
 
-// The number at a place: every digit that stands there. None has a leading zero, or is above 2^64-1.
+// The number at a place: every digit that is there. None has a leading zero, or is above 2^64-1.
 fn number_at(s: &[u8], at: usize) -> Number
     ensures { λ r. ⌜ NumberAt (now (s .entry)) at r ⌝ }
 {
@@ -233,7 +233,7 @@ fn has_row(letter: u8) -> bool {
 }
 
 // The call that a line holds. letter 0: none. row: how many free records are lent in place of the kept row; 24: the kept row is.
-// a and b: its first numbers. room: the size of a buffer. count: how many bytes stand at the start of the scratch room. next: where the next line begins.
+// a and b: its first numbers. room: the size of a buffer. count: how many bytes are at the start of the scratch room. next: where the next line begins.
 pub struct Line {
     pub letter: u8,
     pub row: u64,
@@ -280,7 +280,7 @@ fn ends(s: &[u8], at: usize) -> bool {
     if s[at] == b'\n' { true } else { false }
 }
 
-// The line's words go up to its `next`: its end has to stand there.
+// The line's words go up to its `next`: its end has to be there.
 fn ended(s: &[u8], l: Line) -> Line
     requires { ⌜ (l .next ≤ length (now s)) × (l .row ≤ 32) ⌝ }
     ensures { λ r. ⌜ EndedAs l r ⌝ }

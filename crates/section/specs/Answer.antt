@@ -1,4 +1,4 @@
--- What an answer reads, what the rules tell of a block, and document 01's numbers. Assumes nothing.
+-- What an answer reads, what the rules say of a block, and document 01's numbers. Assumes nothing.
 use Prim.Native.Nat.{ℕ}
 use mathlib.Core.Path.{_≡_, refl, sym, ap, _∙_}
 use mathlib.Core.List.{List}
@@ -22,14 +22,14 @@ use Rattle.section.specs.declared.TrailerAnswer.the-variants as trailer
 use Rattle.section.specs.Finding.{first, fromOf, toOf}
 use Rattle.section.specs.Checks.{checks, reasonOf}
 
--- the two names whose values a sound header section tells
+-- the two names whose values a sound header section reports
 abbrev pub methodName : List ℕ
 methodName = ascii ":method"
 
 abbrev pub lengthName : List ℕ
 lengthName = ascii "content-length"
 
--- ---- what is told of a block: unreadable, or the judgement of its lines
+-- ---- what is reported of a block: unreadable, or the judgement of its lines
 
 pub data Told (A : Type 0) : Type 0 where
   unreadable : Told A

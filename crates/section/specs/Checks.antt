@@ -122,7 +122,7 @@ pub and-then : {n : ℕ} (bs : List Bool) (i : ℕ) (u : Bool) {t : Bool} → n 
     → lowerOf n i t ≡ lowest (fill i u bs)
 and-then bs i u e h free f = push bs i u e h f ∙ ap lowest (fill-is i u bs free)
 
--- ---- what a number tells
+-- ---- what a number says
 
 unfoldable pub told : List Check → ℕ → Option rules.Reason
 told [] n = none

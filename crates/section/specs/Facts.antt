@@ -126,7 +126,7 @@ noteBy k f v a b =
     (facts (f .size) (lowerOf (lowerOf (f .first) (at UnknownPseudo) true) (at LatePseudo) (f .plain)) true (f .plain) (f .stated) (f .from) (f .to))
     (plainBy f (f .first))))))))
 
--- the kind that was told of is the name's
+-- the kind that was found is the name's
 pub of-kind : (f : Facts) (v : List ℕ) (a b : ℕ) {k t : ℕ} {r : Facts} → k ≡ t → r ≡ noteBy t f v a b → r ≡ noteBy k f v a b
 of-kind f v a b e p = p ∙ sym (ap (λ (x : ℕ). noteBy x f v a b) e)
 

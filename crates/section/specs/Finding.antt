@@ -1,4 +1,4 @@
--- The first line that passes a test, and where a line's value stands in the block. Assumes nothing.
+-- The first line that passes a test, and where a line's value is in the block. Assumes nothing.
 use Prim.Native.Nat.{ℕ, _+_, _-_, _≤_}
 use mathlib.Core.Path.{_≡_}
 use mathlib.Core.List.{List, [], _∷_}
@@ -14,7 +14,7 @@ unfoldable pub first : (Line → Bool) → Section → Option Line
 first test [] = none
 first test (l ∷ s) = cond (test l) (some l) (first test s)
 
--- where a line's value stands in the block, and where it ends
+-- where a line's value is in the block, and where it ends
 abbrev pub valueFrom : Line → ℕ
 valueFrom l = l .at + 6 + length (l .name)
 

@@ -1,4 +1,4 @@
--- How the lowest broken check is the rules' reason, and how an answer's reading is what the rules tell. Assumes nothing.
+-- How the lowest broken check is the rules' reason, and how an answer's reading is what the rules say. Assumes nothing.
 use Prim.Native.Nat.{ℕ, zero, suc, _<_, _≤_}
 use mathlib.Core.Path.{_≡_, refl, sym, ap, _∙_}
 use mathlib.Core.List.{List, [], _∷_}
@@ -230,7 +230,7 @@ module _ (s : Section) where
       (lit< tt) refl in-trailers)
       (lit< tt) refl stated-there
 
-  -- so the number tells the rules' reason
+  -- so the number says the rules' reason
   header-first : firstBroken header-checks s ≡ told checks (lowest (headerRow s))
   unfolding firstBroken header-checks checks headerRow firstIn
   header-first = first-told checks (headerRow s) refl
@@ -309,7 +309,7 @@ module _ (s : Section) where
 
 -- ---- the answer's side
 
--- the length that a section states, within the limit, is told as it is
+-- the length that a section states, within the limit, is reported as it is
 unfoldable pub statedBy : Facts → Option ℕ
 statedBy f = cond (absent f content-length) none (some (f .stated))
 

@@ -1,4 +1,4 @@
--- What a name is to the rules: told once, by its length and the names of that length; and each test of the rules on a name, by what was told. Assumes nothing.
+-- What a name is to the rules: found once, by its length and the names of that length; and each test of the rules on a name, by what was found. Assumes nothing.
 use Prim.Native.Nat.{ℕ, zero, suc, _<_}
 use mathlib.Core.Path.{_≡_, refl, sym, ap, _∙_, subst}
 use mathlib.Core.List.{List, [], _∷_}
@@ -103,7 +103,7 @@ nameBy m n =
 unfoldable pub nameOf : List ℕ → ℕ
 nameOf n = nameBy (length n) n
 
--- the length that was told of is the name's
+-- the length that was found is the name's
 pub of-length : (by : ℕ → List ℕ → ℕ) (n : List ℕ) {m r : ℕ} → length n ≡ m → r ≡ by m n → r ≡ by (length n) n
 of-length by n e f = f ∙ ap (λ k. by k n) (sym e)
 
@@ -116,7 +116,7 @@ pub no-short : (n : List ℕ) {r : ℕ} → (length n ≡ 7 → ⊥) → (length
 unfolding nameOf nameBy
 no-short n a b c d e p = rw (ne-eqb (length n) 7 a, ne-eqb (length n) 10 b, ne-eqb (length n) 5 c, ne-eqb (length n) 4 d, ne-eqb (length n) 2 e) p
 
--- ---- what is told of a name holds of it
+-- ---- what is found of a name holds of it
 
 abbrev textual : ℕ → List ℕ → Bool
 textual k n = cond (ltb k connection) (same n (nameAt k)) (cond (eqb k connection) (isOneName connection-fields n) true)
@@ -136,7 +136,7 @@ same-is (x ∷ a) (y ∷ b) e = go (eqb x y) refl e (same-is a b)
     go true f g ih = let p : x ≡ y = eqb-true x y f in let q : a ≡ b = ih g in cc
     go false f g ih = let z : _≡_ {A = ℕ} 0 1 = cc in absurd (omega arith)
 
--- each of the seven is told for what it is
+-- each of the seven is found for what it is
 own : (k : ℕ) → k < connection → nameOf (nameAt k) ≡ k
 unfolding nameOf nameBy longName longBy ofSeven ofTen oneName otherName ascii same begins
 own zero h = refl
@@ -187,7 +187,7 @@ module _ (n : List ℕ) where
       (in-cond (eqb (length n) 17) _ _ (in-one (ascii "transfer-encoding") connection (refl, (refl, lit< tt)))
       in-other)))))))
 
-  -- ---- each test, by what was told
+  -- ---- each test, by what was found
 
   by-told : (k : ℕ) (t : Bool) → (t ≡ true → nameOf n ≡ k) → (nameOf n ≡ k → t ≡ true) → t ≡ eqb (nameOf n) k
   by-told k true to from = sym (eq-eqb (nameOf n) k (to refl))

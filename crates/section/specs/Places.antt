@@ -1,4 +1,4 @@
--- The lines of a block stand where they say; so what was collected of a name tells its value. Assumes nothing.
+-- The lines of a block are where they say; so what was collected of a name has its value. Assumes nothing.
 use Prim.Native.Nat.{ℕ, zero, suc, _-_, _≤_, _<_}
 use mathlib.Core.Path.{_≡_, refl, sym, ap, _∙_, subst}
 use mathlib.Core.List.{List, [], _∷_}

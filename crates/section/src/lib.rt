@@ -581,7 +581,7 @@ pub enum Stated {
     Length(u64),
 }
 
-// A sound header section tells where in the block its method begins and ends, and the length that it states.
+// A sound header section says where in the block its method begins and ends, and the length that it states.
 pub enum HeaderAnswer {
     Unreadable,
     Refused(Reason),

@@ -1,4 +1,4 @@
--- The demands over traces, from what is proved of one request stream by itself. No row and no connection record stands in a statement.
+-- The demands over traces, from what is proved of one request stream by itself. No row and no connection record is in a statement.
 -- Assumes nothing.
 use mathlib.Core.Path.{_≡_, refl, sym, ap, ap₂, _∙_, subst}
 use Prim.Native.Nat.{ℕ, zero, suc, _+_}

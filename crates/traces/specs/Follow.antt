@@ -1,4 +1,4 @@
--- FOLLOWING A STREAM: the view of a trace and the pair that it left tell the same of a stream. Proved once for any kind of stream, over what
+-- FOLLOWING A STREAM: the view of a trace and the pair that it left say the same of a stream. Proved once for any kind of stream, over what
 -- is known of it by itself (a `Tale`). Assumes nothing.
 use mathlib.Core.Path.{_≡_, refl, sym, ap, _∙_, subst}
 use Prim.Native.Nat.{ℕ}
@@ -41,7 +41,7 @@ pub record Tale (M : Machine) (k : Kind) (Open : Shown M → Stream M → Type 0
   pub shut : {f : Fate} {s : Shown M} → Over f s → Shut f
   pub own : {s : Shown M} {x : Stream M} (kept : M .Kept) (o : Own M) → Open s x → Next Open Over o s (actOn kept x o)
 
--- the view and the pair tell the same
+-- the view and the pair say the same
 pub data Agrees {M : Machine} (Open : Shown M → Stream M → Type 0) (Over : Fate → Shown M → Type 0) (id : ℕ) (p : Pair M) : View M → Type 0 where
   open-still : {s : Shown M} {x : Stream M} → Alive p → Open s x → find id (p .row) ≡ some x → Agrees Open Over id p (record { fate = running; shown = s })
   over : {f : Fate} {s : Shown M} → Over f s → (Alive p → find id (p .row) ≡ none) → Agrees Open Over id p (record { fate = f; shown = s })

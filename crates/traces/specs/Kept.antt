@@ -1,4 +1,4 @@
--- What the connection keeps is what the one control stream has told, and there is at most one: requests and other one-way streams leave it
+-- What the connection keeps is what the one control stream has reported, and there is at most one: requests and other one-way streams leave it
 -- alone. Over what is known of a one-way stream's step. Assumes nothing.
 use mathlib.Core.Path.{_≡_, refl, sym, ap, _∙_, subst}
 use Prim.Native.Nat.{ℕ}
@@ -15,13 +15,13 @@ use Rattle.traces.specs.Sound.{Sound, next-absent, sound-call, sound-run
 use Rattle.traces.specs.Oneways.{Both}
 
 module _ (M : Machine) (Mirror : Type 0) (mirror : M .Kept → Mirror) (claimed : M .Kept → Bool) (told : M .Oneway → Option Mirror) where
-  -- a step of a one-way stream: it tells nothing, or becomes the control stream where none was, or goes on as the control stream
+  -- a step of a one-way stream: it reports nothing, or becomes the control stream where none was, or goes on as the control stream
   pub data Steps (k : M .Kept) (w : M .Oneway) (k′ : M .Kept) (w′ : M .Oneway) : Type 0 where
     tells-nothing : told w ≡ none → told w′ ≡ none → mirror k′ ≡ mirror k → claimed k′ ≡ claimed k → Steps k w k′ w′
     becomes : claimed k ≡ false → claimed k′ ≡ true → told w′ ≡ some (mirror k′) → Steps k w k′ w′
     tells-on : (m : Mirror) → told w ≡ some m → claimed k′ ≡ true → told w′ ≡ some (mirror k′) → Steps k w k′ w′
 
-  -- every control stream in the row has told what is kept, and there is at most one
+  -- every control stream in the row has reported what is kept, and there is at most one
   pub record Mirrored (p : Pair M) : Type 0 where
     pub tells : (id : ℕ) (w : M .Oneway) (m : Mirror) → find id (p .row) ≡ some (telling w) → told w ≡ some m → (m ≡ mirror (p .conn .kept)) × (claimed (p .conn .kept) ≡ true)
     pub once : (i j : ℕ) (w v : M .Oneway) (m n : Mirror) → find i (p .row) ≡ some (telling w) → find j (p .row) ≡ some (telling v) → told w ≡ some m → told v ≡ some n → i ≡ j
@@ -78,7 +78,7 @@ module _ (M : Machine) (Mirror : Type 0) (mirror : M .Kept → Mirror) (claimed 
 
   module _ (untold : told (M .untyped) ≡ none)
       (law : (k : M .Kept) (w : M .Oneway) (allow : ℕ) (piece : List ℕ) (u h : ℕ) (e : Event) (y : Both M) → M .feed₁ k w allow piece ≡ goes u h e y → Steps k w (y .kept) (y .state)) where
-    -- no other control stream beside one that tells
+    -- no other control stream beside one that reports
     no-other : (p : Pair M) (id j : ℕ) (w v w′ : M .Oneway) (k′ : M .Kept) (m n : Mirror) → Mirrored p → find id (p .row) ≡ some (telling w) → Steps (p .conn .kept) w k′ w′
         → told w′ ≡ some m → ¬ (id ≡ j) → find j (p .row) ≡ some (telling v) → told v ≡ some n → ⊥
     no-other p id j w v w′ k′ m n i f (tells-nothing a b c d) t ne g q = Option·none-ne-some m (sym b ∙ t)

@@ -1,4 +1,4 @@
--- The next ID of a kind is the lowest one that no opening of the trace spent: `next` of the five conditions, told by the views.
+-- The next ID of a kind is the lowest one that no opening of the trace spent: `next` of the five conditions, read from the views.
 -- Assumes nothing.
 use mathlib.Core.Path.{_≡_, refl, sym, ap, _∙_, subst}
 use Prim.Native.Nat.{ℕ, zero, suc, _+_, _*_, _%_, _<_, _≤_}

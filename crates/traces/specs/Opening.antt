@@ -1,4 +1,4 @@
--- Opening is accepted exactly if the five conditions hold, all of them told from the trace. Assumes nothing.
+-- Opening is accepted exactly if the five conditions hold, all of them read from the trace. Assumes nothing.
 use mathlib.Core.Path.{_≡_, refl, sym, ap, _∙_, subst}
 use Prim.Native.Nat.{ℕ, zero, suc, _+_, _*_, _-_, _<_, _≤_, _^_}
 use native.Mathlib.Decide.{ℕ-discrete, decLt}
@@ -67,7 +67,7 @@ module _ {M : Machine} where
   next-same request p l t = t .requests
   next-same one-way p l t = t .oneways
 
-  -- the next ID of a kind, as the trace tells it
+  -- the next ID of a kind, as the trace has it
   pub next-told : (k : Kind) (cs : List (Call M)) → nextOf k (run fresh cs .conn) ≡ nextIn k (ledger (trace fresh cs))
   next-told k cs = next-same k (run fresh cs) (ledger (trace fresh cs)) (tallies cs)
 

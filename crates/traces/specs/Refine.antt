@@ -1,4 +1,4 @@
--- How a lent row of any records refines the row: a record's reading is a slot, and an index found by a loop stands for find, put and seat.
+-- How a lent row of any records refines the row: a record's reading is a slot, and an index found by a loop means find, put and seat.
 -- Assumes nothing.
 use mathlib.Core.Path.{_≡_, refl, sym, ap, _∙_}
 use Prim.Native.Nat.{ℕ, zero, suc, _+_, _<_, _≤_, zero-le}

@@ -1,4 +1,4 @@
--- What the view of a request stream tells of its machine: the accepted feeds and sections that led to where it is, and how it came to its
+-- What the view of a request stream says of its machine: the accepted feeds and sections that led to where it is, and how it came to its
 -- fate. Assumes nothing.
 use mathlib.Core.Path.{_≡_, refl}
 use Prim.Native.Nat.{ℕ}

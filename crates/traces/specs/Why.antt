@@ -1,4 +1,4 @@
--- WHY A REQUEST STREAM WAS REFUSED: a fault of its bytes is told from one of its end by the bytes themselves. From the same of one stream by itself.
+-- WHY A REQUEST STREAM WAS REFUSED: a fault of its bytes is kept apart from one of its end by the bytes themselves. From the same of one stream by itself.
 -- Assumes nothing.
 use mathlib.Core.Path.{_≡_, _∙_}
 use Prim.Native.Nat.{ℕ}

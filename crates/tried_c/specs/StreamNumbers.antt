@@ -15,7 +15,7 @@ use Rattle.frames.specs.Answers.{Sane}
 use Rattle.frames.specs.Fed.{Fed}
 use Rattle.tried_c.specs.declared.feeds.Report.{Report}
 
--- a test that tells of a fact whether it holds
+-- a test that says of a fact whether it holds
 abbrev pub Tells : Bool → Type 0 → Type 0
 Tells true P = P
 Tells false P = P → ⊥

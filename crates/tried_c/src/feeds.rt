@@ -17,7 +17,7 @@ ghost use Rattle.control.specs.Judged.{judgedOf};
 ghost use Rattle.tried_c.specs.StreamNumbers.{Tells, refused, reportOf, Reported};
 ghost use Rattle.tried_c.specs.OneWayNumbers.{wayReportOf, WayReported};
 
-// number 0: accepted, 4: a section is due, 10: no stream stands there, else the code. The rest as `frames::Answer` has it.
+// number 0: accepted, 4: a section is due, 10: no stream is there, else the code. The rest as `frames::Answer` has it.
 #[repr(C)]
 pub struct Report {
     pub number: u64,
@@ -29,7 +29,7 @@ pub struct Report {
     pub cells: Cells,
 }
 
-// ---- which cells a stream can stand at
+// ---- which cells a stream can be at
 
 // Whether reading leaves an integer so: the bytes due keep the whole below 2^62.
 fn is_part(acc: u64, due: u64) -> bool
@@ -150,7 +150,7 @@ pub extern "C" fn eist_end(at: Cells) -> u64
 
 // ---- one-way streams
 
-// number 0: accepted, 10: no stream stands there, else the code. The rest as `oneway::OneAnswer` has it.
+// number 0: accepted, 10: no stream is there, else the code. The rest as `oneway::OneAnswer` has it.
 #[repr(C)]
 pub struct WayReport {
     pub number: u64,

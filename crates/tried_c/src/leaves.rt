@@ -63,7 +63,7 @@ pub extern "C" fn eist_settings(payload: &[u8], out: &mut [u64; 4]) -> u64
 
 // ---- integers
 
-// 1 where an integer stands whole at `at`, with its value and the place behind it in out; else 0.
+// 1 where an integer is whole at `at`, with its value and the place behind it in out; else 0.
 #[no_mangle]
 pub extern "C" fn eist_read(bytes: &[u8], at: usize, out: &mut [u64; 2]) -> u64
     ensures { λ r. ⌜ r ≡ readNumber (integer at (drop at (now (bytes .entry)))) ⌝ }

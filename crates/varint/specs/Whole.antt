@@ -1,4 +1,4 @@
--- An integer that stands whole in a slice: where it ends, and its value. Assumes nothing.
+-- An integer that is whole in a slice: where it ends, and its value. Assumes nothing.
 use Prim.Native.Nat.{ℕ, zero, suc, _+_, _-_, _*_, _%_, _^_, _<_, _≤_}
 use mathlib.Core.Path.{_≡_, refl, sym, ap, _∙_}
 use mathlib.Core.List.{List, [], _∷_}

@@ -75,7 +75,7 @@ pub enum Whole {
     Short,
 }
 
-// Where the integer at at ends; 0: it does not stand whole in s.
+// Where the integer at at ends; 0: it is not whole in s.
 pub fn ends(s: &[u8], at: usize) -> usize
     ensures { λ r. ⌜ Ended (now (s .entry)) at r ⌝ }
 {
@@ -108,7 +108,7 @@ fn long(s: &[u8], at: usize) -> u64
     acc
 }
 
-// The value of the integer at at, which `ends` found to stand whole.
+// The value of the integer at at, which `ends` found to be whole.
 pub fn value(s: &[u8], at: usize) -> u64
     requires { ⌜ 0 < endOf (wholeAt (now s) at) ⌝ }
     ensures { λ r. ⌜ Valued (now (s .entry)) at r ⌝ }

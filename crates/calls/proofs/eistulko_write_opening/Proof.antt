@@ -1,4 +1,4 @@
--- `eistulko_write_opening` meets its contract: the answer is told as number and count. Assumes nothing.
+-- `eistulko_write_opening` meets its contract: the answer is given as number and count. Assumes nothing.
 use borrow.Author.Needs.{needs}
 use Rattle.calls.specs.Writes.{wrote-into}
 use Rattle.calls.proofs.eistulko_write_opening.Statement.{statement}

@@ -1,4 +1,4 @@
--- `connection::keeps_code` meets its contract: the eight codes stand side by side. Assumes nothing.
+-- `connection::keeps_code` meets its contract: the eight codes are side by side. Assumes nothing.
 use mathlib.Core.Path.{_≡_}
 use Prim.Native.Nat.{ℕ, zero, suc, _+_, _-_, _≤_}
 use native.Mathlib.Omega.{arith}

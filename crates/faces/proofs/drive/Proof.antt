@@ -105,7 +105,7 @@ module _ {M : Type 1} (𝓤 : URA M) (H : Heap 𝓤) (A : Atoms 𝓤) (W : Given
         move ! (1 ∷ []) $ split ! $ move ! (1 ∷ []) $ split ! $ move ! (1 ∷ []) $ nothing ! $ move ! (1 ∷ 0 ∷ []) $ fjoin ! $ owned ! u64 (Is u64) (uint-makes 𝓤 H A W w64) allow _ (refl, allow-fits) $ fjoin ! $ owned ! u64 (Is u64) (uint-makes 𝓤 H A W w64) id _ (refl, id-fits) $ fjoin ! $ owned ! u64 (Is u64) (uint-makes 𝓤 H A W w64) call _ (refl, call-fits) $ fjoin ! $ move ! (1 ∷ 0 ∷ []) $ fjoin ! $ move ! (1 ∷ 0 ∷ []) $ fjoin ! $
         move ! (1 ∷ []) $ split ! $ move ! (1 ∷ []) $ split ! $ move ! (1 ∷ []) $ nothing ! $ move ! (1 ∷ 0 ∷ []) $ join ! $ move ! (1 ∷ 0 ∷ []) $ join ! $ move ! (1 ∷ 0 ∷ []) $ join ! $ move ! (0 ∷ 1 ∷ []) $ join ! $ frame ! $ done !
 
-  -- the rows as a field of a struct: there an array of records stands as the array of their tuples
+  -- the rows as a field of a struct: there an array of records is as the array of their tuples
   abbrev in-field : (xs : List Record) → Is Rows xs (rows-vals xs) → (rows-val xs ≡ arrayVal (map (T′.the-field-laws .val) (map (T.the-field .into) xs))) × Is (array-field T.the-field 32 .row) (map (T.the-field .into) xs) (arrayVal (map (T′.the-field-laws .val) (map (T.the-field .into) xs)) ∷ [])
   in-field xs is = made-array T.the-field T′.the-field-laws 32 xs is (rows-typed 𝓤 H A W xs is .1)
 

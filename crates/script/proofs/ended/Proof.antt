@@ -1,4 +1,4 @@
--- `script::ended` meets its contract: a line whose end does not stand there is none. Assumes nothing.
+-- `script::ended` meets its contract: a line whose end is not there is none. Assumes nothing.
 use native.Mathlib.Omega.{arith}
 use borrow.Author.Needs.{needs}
 use Rattle.script.proofs.ended.Statement.{statement}

@@ -1,4 +1,4 @@
--- `tried_c::feeds::is_part` meets its contract: it tells whether reading leaves an integer so. Assumes nothing.
+-- `tried_c::feeds::is_part` meets its contract: it says whether reading leaves an integer so. Assumes nothing.
 use native.Mathlib.Omega.{arith}
 use borrow.Author.Needs.{needs}
 use Rattle.tried_c.specs.StreamNumbers.{tells-part}

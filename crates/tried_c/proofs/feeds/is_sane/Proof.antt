@@ -1,4 +1,4 @@
--- `tried_c::feeds::is_sane` meets its contract: it tells whether `frames::feed` can go on from the cells. Assumes nothing.
+-- `tried_c::feeds::is_sane` meets its contract: it says whether `frames::feed` can go on from the cells. Assumes nothing.
 use native.Mathlib.Omega.{arith}
 use borrow.Author.Needs.{needs}
 use Rattle.tried_c.specs.StreamNumbers.{tells-header, tells-payload}

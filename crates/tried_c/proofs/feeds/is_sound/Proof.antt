@@ -1,4 +1,4 @@
--- `tried_c::feeds::is_sound` meets its contract: it tells whether `oneway::feed` can go on from the numbers. Assumes nothing.
+-- `tried_c::feeds::is_sound` meets its contract: it says whether `oneway::feed` can go on from the numbers. Assumes nothing.
 use native.Mathlib.Omega.{arith}
 use borrow.Author.Needs.{needs}
 use Rattle.tried_c.specs.OneWayNumbers.{sound-none, sound-type, sound-bare, sound-early, sound-control}

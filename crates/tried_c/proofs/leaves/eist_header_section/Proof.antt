@@ -1,4 +1,4 @@
--- `tried_c::leaves::eist_header_section` meets its contract: each answer reads as what is told of the block. Assumes nothing.
+-- `tried_c::leaves::eist_header_section` meets its contract: each answer reads as what is reported of the block. Assumes nothing.
 use borrow.Author.Needs.{needs}
 use Rattle.section.specs.Answer.{readHeader, toldNumber}
 use Rattle.tried_c.specs.LeafNumbers.{headerOut}

@@ -1,4 +1,4 @@
--- `tried_c::leaves::eist_write_integer` meets its contract: the answer is told in numbers. Assumes nothing.
+-- `tried_c::leaves::eist_write_integer` meets its contract: the answer is given in numbers. Assumes nothing.
 use borrow.Author.Needs.{needs}
 use Rattle.tried_c.specs.LeafNumbers.{written}
 use Rattle.tried_c.proofs.leaves.eist_write_integer.Statement.{statement}
