@@ -438,6 +438,17 @@ shown-for s w b (a-skipped-stream e f q n) = let z : w ≡ O.in-skipped = cc in 
 pub type-shown : {s : Shown streams} {w : O.OneState} → Reached₁ alone s w → typeShown (W.oneWay [] (s .bytes)) ≡ isFor w
 type-shown {s} {w} t = let b = been t in shown-for s w b (came-of [] s (O.lives w) b)
 
+untyped-in : (s : Shown streams) (w : O.OneState) (b : Been [] s (O.lives w)) {m : W.OneWay} → Came [] (doneOf s (b .frames) (b .raw) (O.lives w)) m → m ≡ W.untyped → (g : M.Prog) × (w ≡ O.in-stream-type g)
+untyped-in s w b (still-untyped {g = g} e f q n) z = (g, lived w (O.in-stream-type g) e)
+untyped-in s w b (type-refused e f q n) z = let y : _≡_ {A = ℕ} 0 1 = cc in absurd (omega arith)
+untyped-in s w b (a-control-stream o e f q n v) z = let y : _≡_ {A = ℕ} 0 1 = cc in absurd (omega arith)
+untyped-in s w b (a-qpack-stream e f n) z = let y : _≡_ {A = ℕ} 0 1 = cc in absurd (omega arith)
+untyped-in s w b (a-skipped-stream e f q n) z = let y : _≡_ {A = ℕ} 0 1 = cc in absurd (omega arith)
+
+-- where the bytes are no whole type it waits for more of it
+pub untyped-reached : {s : Shown streams} {w : O.OneState} → Reached₁ alone s w → W.oneWay [] (s .bytes) ≡ W.untyped → (g : M.Prog) × (w ≡ O.in-stream-type g)
+untyped-reached {s} {w} t e = let b = been t in untyped-in s w b (came-of [] s (O.lives w) b) e
+
 -- no section is due on it
 pub reads-on : {s : Shown streams} {w : O.OneState} → Reached₁ alone s w → ReadsOnOne w
 reads-on {s} {w} t = let b = been t in always-reads [] (b .made) w (ap (λ d. d .after) (b .came))
@@ -604,14 +615,36 @@ second-story s (O.in-control c) k allow u h piece t q = typed-story s (O.in-cont
 second-story s (O.in-qpack c) k allow u h piece t q = typed-story s (O.in-qpack c) k allow u h piece tt t q
 second-story s O.in-skipped k allow u h piece t q = typed-story s O.in-skipped k allow u h piece tt t q
 
+heard-lives : (k : Keeps) (u₀ h₀ : ℕ) (e₀ : O.OneEvent) (o : O.OneOutcome) {u h : ℕ} {e : Event} {y : Both streams} → heardBy k u₀ h₀ e₀ o ≡ goes u h e y → (w : O.OneState) × (o ≡ O.lives w) × (u₀ ≡ u)
+unfolding heardBy
+heard-lives k u₀ h₀ e₀ (O.lives s) q = (s, refl, cc)
+heard-lives k u₀ h₀ e₀ (O.dies code) q = let z : _≡_ {A = ℕ} 0 1 = cc in absurd (omega arith)
+
+-- a stream whose type has not come whole, fed where the types that are kept came before: the last byte consumed brings the fault that it met there
+pub struck-among : (s : Shown streams) (g : M.Prog) (k : Keeps) (allow u h : ℕ) (piece : List ℕ) (c : Code) → Reached₁ alone s (O.in-stream-type g) → streams .feed₁ k (O.in-stream-type g) allow piece ≡ faults c u h
+    → Struck (typesIn k) c (s .bytes ++ take u piece)
+unfolding plusBytes
+struck-among s g k allow u h piece c t q =
+    let f = O.feed (typesIn k) allow (O.in-stream-type g) piece in
+    let r = heard-faults k (f .used) (f .heads) (f .event) (f .after) q in
+    fault-of (typesIn k) s (O.in-stream-type g) allow u h piece c (been-untyped (typesIn k) t g refl) (r .0) (r .1) (r .2) (r .3) (r .4) .2
+
+-- and where it met none there is none
+pub unhurt-among : (s : Shown streams) (g : M.Prog) (k : Keeps) (allow u h : ℕ) (piece : List ℕ) (e : Event) (y : Both streams) → Reached₁ alone s (O.in-stream-type g) → streams .feed₁ k (O.in-stream-type g) allow piece ≡ goes u h e y
+    → NoFault (typesIn k) (s .bytes ++ take u piece)
+unfolding plusFeed
+unhurt-among s g k allow u h piece e y t q =
+    let f = O.feed (typesIn k) allow (O.in-stream-type g) piece in
+    let r = heard-lives k (f .used) (f .heads) (f .event) (f .after) q in
+    let s′ = plusFeed (f .used) (f .heads) (oneEvent (f .used) (f .event)) piece s in
+    let b = subst (Been (typesIn k) s′) (r .1) (been-fed (typesIn k) s (O.in-stream-type g) allow piece (been-untyped (typesIn k) t g refl)) in
+    subst (λ n. NoFault (typesIn k) (s .bytes ++ take n piece)) (r .2) (been-unhurt (typesIn k) s′ (r .0) b)
+
 -- a stream refused with 0x0103: by its own bytes, or, its type not yet shown, as they are where the types that are kept came before
 pub creation-by : (s : Shown streams) (w : O.OneState) (k : Keeps) (allow u h : ℕ) (piece : List ℕ) → Reached₁ alone s w → streams .feed₁ k w allow piece ≡ faults (of-connection stream-creation-error) u h
     → let b = s .bytes ++ take u piece in Struck [] (of-connection stream-creation-error) b ⊎ ((isFor w ≡ none) × Struck (typesIn k) (of-connection stream-creation-error) b)
 unfolding plusBytes isFor
-creation-by s (O.in-stream-type g) k allow u h piece t q =
-    let f = O.feed (typesIn k) allow (O.in-stream-type g) piece in
-    let r = heard-faults k (f .used) (f .heads) (f .event) (f .after) q in
-    inr (refl, fault-of (typesIn k) s (O.in-stream-type g) allow u h piece (of-connection stream-creation-error) (been-untyped (typesIn k) t g refl) (r .0) (r .1) (r .2) (r .3) (r .4) .2)
+creation-by s (O.in-stream-type g) k allow u h piece t q = inr (refl, struck-among s g k allow u h piece (of-connection stream-creation-error) t q)
 creation-by s (O.in-control c) k allow u h piece t q = inl (typed-both s (O.in-control c) k allow u h piece tt t q .2)
 creation-by s (O.in-qpack c) k allow u h piece t q = inl (typed-both s (O.in-qpack c) k allow u h piece tt t q .2)
 creation-by s O.in-skipped k allow u h piece t q = inl (typed-both s O.in-skipped k allow u h piece tt t q .2)

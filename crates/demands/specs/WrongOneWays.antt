@@ -1,33 +1,36 @@
 -- WRONG SERVERS FOR ONE-WAY STREAMS: each is ours but for what it makes of a feed of one-way streams, and breaks what is promised of them at a concrete
 -- input; and our own keeps it. Assumes nothing.
-use mathlib.Core.Path.{_≡_, refl}
+use mathlib.Core.Path.{_≡_, refl, sym, ap, _∙_}
 use Prim.Native.Nat.{ℕ, suc, min}
 use native.Mathlib.Omega.{arith}
 use mathlib.Core.List.{List, [], _∷_}
+use mathlib.Core.Bool.{true}
 use mathlib.Core.Option.{Option, none, some}
 use lib.ListN.{length}
-use Rattle.rules.specs.Numbers.{closed-critical-stream, missing-settings, of-connection}
+use Rattle.rules.specs.Numbers.{stream-creation-error, closed-critical-stream, missing-settings, of-connection}
+use Rattle.rules.specs.Text.{isOneOf}
 use Rattle.rules.specs.Reading.{whole, fault}
-use Rattle.rules.specs.OneWay.{oneWay}
+use Rattle.rules.specs.OneWay.{a-control, refuse, once, untyped, typed, oneWay}
 use Rattle.rules.specs.Worked.{answer}
 use Rattle.meaning.specs.OneWayFeed as O
 use Rattle.meaning.specs.OneWayFirst.{verdictOn, Struck}
 use Rattle.rules.specs.Calls.{quiet, fed, Fed, goes, faults, feed, section, end, reset, ofFed, mapOut, one-way, kindOf, Stream, asking, telling, Pair, Call, start, open′, on, goaway, gave, code, Entry, Result, alive, find, settle, fresh, call}
-use Rattle.rules.specs.Shown.{Shown, running, view}
+use Rattle.rules.specs.Shown.{Shown, running, elsewhere, view}
 use Rattle.traces.specs.Oneways.{Both}
 use Rattle.demands.specs.Streams.{Keeps, streams}
-use Rattle.demands.specs.Becomes.{Once}
-use Rattle.demands.specs.OneWayReads.{Heard, faultBy, closeAnswer}
+use Rattle.demands.specs.Becomes.{Once, as-control, typeNumber}
+use Rattle.demands.specs.OneWayReads.{typeShown, Heard, faultBy, closeAnswer}
 use Rattle.demands.specs.Demands.{one-way-reads, closes-exactly}
 use Rattle.demands.specs.Types.{First, one-of-a-type}
 use Rattle.demands.specs.Faults.{of-its-bytes, Moves₁, faulty, moved, Fares₁, one-way-progress, one-way-fares}
+use Rattle.demands.specs.SecondOfType.{Among, second-at-its-type}
 use Rattle.demands.specs.Servers.{Server, tracedFrom, traced, after, next, ours, same-trace, same-next}
-use Rattle.demands.specs.OneWayInstances.{opened-two, struck-at-three}
+use Rattle.demands.specs.OneWayInstances.{opened-two, struck-at-three, two-open}
 
 -- ---- WHAT IS PROMISED of one-way streams
 
 -- at every moment what the definition says of the bytes so far, and no fault among them unless the stream was refused; feeds answered as they bring
--- it; an end and a reset as they say; one stream of a type
+-- it; an end and a reset as they say; one stream of a type, and a second refused at its type
 pub record PromisedOneWay (S : Server) : Type 0 where
   pub hears : (cs : List (Call streams)) (id : ℕ) → kindOf id ≡ some one-way → Heard (view id (traced S cs))
   pub fares : (cs : List (Call streams)) (id : ℕ) → kindOf id ≡ some one-way → Fares₁ (view id (traced S cs) .fate) (view id (traced S cs) .shown .bytes)
@@ -36,6 +39,8 @@ pub record PromisedOneWay (S : Server) : Type 0 where
   pub closes : (cs : List (Call streams)) (id : ℕ) → kindOf id ≡ some one-way → view id (traced S cs) .fate ≡ running → let a = closeAnswer (faultBy (oneWay [] (view id (traced S cs) .shown .bytes))) in
       (next S cs (on id end) ≡ a) × (next S cs (on id reset) ≡ a)
   pub once : (cs : List (Call streams)) (c : Once) (f g : First (traced S cs) c) → f .id ≡ g .id
+  pub among : (cs : List (Call streams)) (id : ℕ) → kindOf id ≡ some one-way → view id (traced S cs) .fate ≡ running → oneWay [] (view id (traced S cs) .shown .bytes) ≡ untyped
+      → (allow : ℕ) (piece : List ℕ) → Among (traced S cs) (view id (traced S cs) .shown .bytes) piece (next S cs (on id (feed allow piece)))
 
 -- OUR OWN KEEPS IT
 pub ours-meets-one-way : PromisedOneWay ours
@@ -45,6 +50,7 @@ ours-meets-one-way = record {
   moves = λ cs id q e allow piece. rw (same-trace fresh cs, same-next cs (on id (feed allow piece))) (one-way-progress id q cs allow piece (rw (same-trace fresh cs) at e));
   closes = λ cs id q e. rw (same-trace fresh cs, same-next cs (on id end), same-next cs (on id reset)) (closes-exactly id q cs (rw (same-trace fresh cs) at e));
   once = λ cs. rw (same-trace fresh cs) (one-of-a-type cs);
+  among = λ cs id q e n allow piece. rw (same-trace fresh cs, same-next cs (on id (feed allow piece))) (second-at-its-type id q cs allow piece (rw (same-trace fresh cs) at e) (rw (same-trace fresh cs) at n));
 }
 
 -- ---- ours, but for a feed of a one-way stream
@@ -168,3 +174,32 @@ not-well t s e (moved n l) = (rw e at n) (of-connection missing-settings) 3 stru
 pub all-breaks : PromisedOneWay (ours-but takes-all) → ⊥
 unfolding computed
 all-breaks p = not-well _ (view 2 (traced (ours-but takes-all) just-open) .shown) refl (p .moves just-open 2 refl refl 9 (0x00 ∷ 0x00 ∷ 0x00 ∷ []))
+
+-- ---- 6. A SECOND OF ITS TYPE DIES OF ITS OWN LATER FAULT, where it has one in the piece that ends its type
+
+unfoldable pub own-first : (own here : Fed (Both streams)) → Fed (Both streams)
+own-first (goes u h e x) y = y
+own-first (faults k u h) y = faults k u h
+
+abbrev pub own-fault-first : Feeds
+own-fault-first k w allow piece = own-first (streams .feed₁ (streams .nothing-kept) w allow piece) (streams .feed₁ k w allow piece)
+
+-- where a control stream has come the type's byte brings the fault, whatever follows
+again : (seen : List ℕ) → isOneOf seen 0 ≡ true → once seen 0 a-control ≡ refuse (of-connection stream-creation-error)
+unfolding once
+again seen e = rw (once, e) refl
+
+at-its-type : (seen : List ℕ) → isOneOf seen 0 ≡ true → verdictOn (oneWay seen (0x00 ∷ 0x00 ∷ 0x00 ∷ [])) ≡ fault (of-connection stream-creation-error) 1
+unfolding answer verdictOn
+at-its-type seen e = ap (λ x. verdictOn (typed 1 3 (0x00 ∷ 0x00 ∷ []) x)) (again seen e)
+
+not-its-own : (t : List (Entry streams)) (h : ℕ) → First t as-control → Among t [] (0x00 ∷ 0x00 ∷ 0x00 ∷ []) (code (of-connection missing-settings) 3 h) → ⊥
+unfolding typeNumber
+not-its-own t h f x =
+    let v = at-its-type (x .seen) (x .others as-control .1 f) in
+    let e : fault (of-connection stream-creation-error) 1 ≡ fault (of-connection missing-settings) 3 = sym v ∙ x .faulty (of-connection missing-settings) 3 h refl [] in
+    let z : _≡_ {A = ℕ} 1 3 = cc in omega arith
+
+pub own-fault-breaks : PromisedOneWay (ours-but own-fault-first) → ⊥
+unfolding computed two-open own-first typeShown elsewhere
+own-fault-breaks p = not-its-own (traced (ours-but own-fault-first) two-open) 1 (record { id = 2; is-one-way = refl; runs = refl; shows = refl }) (p .among two-open 6 refl refl refl 5 (0x00 ∷ 0x00 ∷ 0x00 ∷ []))
