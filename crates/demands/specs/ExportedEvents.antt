@@ -1,10 +1,9 @@
 -- EVENTS, OF THE EXPORTED FUNCTION: what a host's feed reports, behind any run of calls (Events, Allowed; Exported says what `OfFeed` is). Assumes nothing.
 use mathlib.Core.Path.{_≡_}
 use Prim.Native.Nat.{ℕ, _≤_}
-use mathlib.Core.List.{List, [], _++_}
+use mathlib.Core.List.{List, _++_}
 use mathlib.Core.Option.{some}
 use lib.ListN.{take}
-use Rattle.rules.specs.OneWay.{oneWay, untyped}
 use Rattle.rules.specs.Calls.{Event, fed, feed, request, one-way, kindOf, on, Answer, gave, call, run, fresh, trace}
 use Rattle.rules.specs.Shown.{running}
 use Rattle.demands.specs.Demands.{Calls}
@@ -13,7 +12,7 @@ use Rattle.demands.specs.Runs.{Seen, feeds}
 use Rattle.demands.specs.Host.{Run, shows, reports}
 use Rattle.demands.specs.Exports.{FeedSays, World, OfFeed, of-feed}
 use Rattle.demands.specs.Faults.{Moves₁, one-way-progress}
-use Rattle.demands.specs.SecondOfType.{Among, second-at-its-type}
+use Rattle.demands.specs.SecondOfType.{AtItsType, IsSecondOf, second-at-its-type}
 use Rattle.demands.specs.Events.{RequestEvent, OneWayEvent, shownBy, request-events, one-way-events}
 use Rattle.demands.specs.Allowed.{NoFurther, no-further-header}
 use Rattle.demands.specs.OneWayAllowed.{NoFurther₁, no-further-header₁}
@@ -57,14 +56,14 @@ demand-2-one-way-feed w = of-feed w OneWayFeeds (λ c rows id piece allow r c′
   one-way-progress id q ks allow piece n,
 )))
 
--- AND BEFORE ITS TYPE IS WHOLE: it is judged among the streams that run, so that a second of a type is refused at the type's last byte, whatever follows
-abbrev pub AmongStreams : FeedSays
-AmongStreams c rows id piece allow r c′ rows′ = (ks : Calls) (xs : List Seen) → Run ks xs c rows → kindOf id ≡ some one-way → shows id ks .fate ≡ running → oneWay [] (shows id ks .shown .bytes) ≡ untyped
-    → (a : Answer) × (r ≡ reportOf a) × Among (trace fresh ks) (shows id ks .shown .bytes) piece a
+-- A SECOND OF ITS TYPE is refused at its type, whatever follows in the piece
+abbrev pub SecondRefused : FeedSays
+SecondRefused c rows id piece allow r c′ rows′ = (ks : Calls) (xs : List Seen) → Run ks xs c rows → kindOf id ≡ some one-way → shows id ks .fate ≡ running → let bytes = shows id ks .shown .bytes in
+    (ends : ℕ) → IsSecondOf (trace fresh ks) bytes piece ends → (a : Answer) × (r ≡ reportOf a) × AtItsType bytes ends a
 
-pub demand-2-second-stream : (w : World) → OfFeed w AmongStreams
-demand-2-second-stream w = of-feed w AmongStreams (λ c rows id piece allow r c′ rows′ m ks xs s q n y. (let k = on id (feed allow piece) in (
+pub demand-2-second-of-type : (w : World) → OfFeed w SecondRefused
+demand-2-second-of-type w = of-feed w SecondRefused (λ c rows id piece allow r c′ rows′ m ks xs s q n ends y. (let k = on id (feed allow piece) in (
   call k (run fresh ks) .answer,
   reports s k (feeds m),
-  second-at-its-type id q ks allow piece n y,
+  second-at-its-type id q ks allow ends piece n y,
 )))

@@ -388,12 +388,12 @@ kept-seen cs a c =
     let o : isOneOf (typesIn k) (typeNumber c) ≡ has c k = one-of k c in
     (λ e. held-first cs c a (i .has-first c (sym o ∙ e)), λ f. o ∙ i .counts c (first-held cs c f))
 
-pub fed-fault : (id : ℕ) (p : Pair streams) (x : Fed (Both streams)) (c : Code) (u h : ℕ)
-    → settle id p (mapOut (λ (x : Both streams). record { stream = telling (x .state); kept = x .kept }) (ofFed x)) .answer ≡ code c u h → x ≡ faults c u h
+fed-fault : (id : ℕ) (p : Pair streams) (x : Fed (Both streams)) (u h : ℕ)
+    → settle id p (mapOut (λ (x : Both streams). record { stream = telling (x .state); kept = x .kept }) (ofFed x)) .answer ≡ code (of-connection stream-creation-error) u h → x ≡ faults (of-connection stream-creation-error) u h
 unfolding settle mapOut ofFed same with faulted
-fed-fault id p (goes u′ h′ e y) c u h q = let z : _≡_ {A = ℕ} 0 1 = cc in absurd (omega arith)
-fed-fault id p (faults (of-stream k) u′ h′) c u h q = cc
-fed-fault id p (faults (of-connection k) u′ h′) c u h q = cc
+fed-fault id p (goes u′ h′ e y) u h q = let z : _≡_ {A = ℕ} 0 1 = cc in absurd (omega arith)
+fed-fault id p (faults (of-stream k) u′ h′) u h q = let z : _≡_ {A = ℕ} 0 1 = cc in absurd (omega arith)
+fed-fault id p (faults (of-connection k) u′ h′) u h q = cc
 
 -- its type not yet shown by the bytes before, it is refused as they are where these types came
 abbrev pub Second : List (Entry streams) → (before bytes : List ℕ) → Type 0
@@ -415,7 +415,7 @@ second-by id r allow u h piece p v e a k (over {f = f} t n) = absurd (not-runnin
 second-by id r allow u h piece p v e a k (open-still {s = s} l (says {w = w} t) g) =
     let x = streams .feed₁ (p .conn .kept) w allow piece in
     let z = ap (λ r. r .answer) (call-on p id (telling w) (feed allow piece) l g) in
-    second-out r (s .bytes) (s .bytes ++ take u piece) (typesIn (p .conn .kept)) (isFor w) (type-shown t) (k l) (creation-by s w (p .conn .kept) allow u h piece t (fed-fault id p x (of-connection stream-creation-error) u h (sym z ∙ a)))
+    second-out r (s .bytes) (s .bytes ++ take u piece) (typesIn (p .conn .kept)) (isFor w) (type-shown t) (k l) (creation-by s w (p .conn .kept) allow u h piece t (fed-fault id p x u h (sym z ∙ a)))
 
 -- THE SECOND OF ITS TYPE: a feed of a one-way stream is refused with 0x0103 for its own bytes' sake, or, its type not yet shown, as they are where
 -- these types came before: exactly those that streams of the trace which run, others than this, have shown; the last byte consumed brings it

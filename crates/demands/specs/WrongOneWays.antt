@@ -1,16 +1,14 @@
 -- WRONG SERVERS FOR ONE-WAY STREAMS: each is ours but for what it makes of a feed of one-way streams, and breaks what is promised of them at a concrete
 -- input; and our own keeps it. Assumes nothing.
-use mathlib.Core.Path.{_≡_, refl, sym, ap, _∙_}
+use mathlib.Core.Path.{_≡_, refl}
 use Prim.Native.Nat.{ℕ, suc, min}
 use native.Mathlib.Omega.{arith}
 use mathlib.Core.List.{List, [], _∷_}
-use mathlib.Core.Bool.{true}
 use mathlib.Core.Option.{Option, none, some}
 use lib.ListN.{length}
-use Rattle.rules.specs.Numbers.{stream-creation-error, closed-critical-stream, missing-settings, of-connection}
-use Rattle.rules.specs.Text.{isOneOf}
+use Rattle.rules.specs.Numbers.{closed-critical-stream, missing-settings, of-connection}
 use Rattle.rules.specs.Reading.{whole, fault}
-use Rattle.rules.specs.OneWay.{a-control, refuse, once, untyped, typed, oneWay}
+use Rattle.rules.specs.OneWay.{oneWay}
 use Rattle.rules.specs.Worked.{answer}
 use Rattle.meaning.specs.OneWayFeed as O
 use Rattle.meaning.specs.OneWayFirst.{verdictOn, Struck}
@@ -23,7 +21,7 @@ use Rattle.demands.specs.OneWayReads.{typeShown, Heard, faultBy, closeAn
 use Rattle.demands.specs.Demands.{one-way-reads, closes-exactly}
 use Rattle.demands.specs.Types.{First, one-of-a-type}
 use Rattle.demands.specs.Faults.{of-its-bytes, Moves₁, faulty, moved, Fares₁, one-way-progress, one-way-fares}
-use Rattle.demands.specs.SecondOfType.{Among, second-at-its-type}
+use Rattle.demands.specs.SecondOfType.{AtItsType, IsSecondOf, second-at-its-type}
 use Rattle.demands.specs.Servers.{Server, tracedFrom, traced, after, next, ours, same-trace, same-next}
 use Rattle.demands.specs.OneWayInstances.{opened-two, struck-at-three, two-open}
 
@@ -39,8 +37,8 @@ pub record PromisedOneWay (S : Server) : Type 0 where
   pub closes : (cs : List (Call streams)) (id : ℕ) → kindOf id ≡ some one-way → view id (traced S cs) .fate ≡ running → let a = closeAnswer (faultBy (oneWay [] (view id (traced S cs) .shown .bytes))) in
       (next S cs (on id end) ≡ a) × (next S cs (on id reset) ≡ a)
   pub once : (cs : List (Call streams)) (c : Once) (f g : First (traced S cs) c) → f .id ≡ g .id
-  pub among : (cs : List (Call streams)) (id : ℕ) → kindOf id ≡ some one-way → view id (traced S cs) .fate ≡ running → oneWay [] (view id (traced S cs) .shown .bytes) ≡ untyped
-      → (allow : ℕ) (piece : List ℕ) → Among (traced S cs) (view id (traced S cs) .shown .bytes) piece (next S cs (on id (feed allow piece)))
+  pub second : (cs : List (Call streams)) (id : ℕ) → kindOf id ≡ some one-way → view id (traced S cs) .fate ≡ running
+      → (allow ends : ℕ) (piece : List ℕ) → let bytes = view id (traced S cs) .shown .bytes in IsSecondOf (traced S cs) bytes piece ends → AtItsType bytes ends (next S cs (on id (feed allow piece)))
 
 -- OUR OWN KEEPS IT
 pub ours-meets-one-way : PromisedOneWay ours
@@ -50,7 +48,7 @@ ours-meets-one-way = record {
   moves = λ cs id q e allow piece. rw (same-trace fresh cs, same-next cs (on id (feed allow piece))) (one-way-progress id q cs allow piece (rw (same-trace fresh cs) at e));
   closes = λ cs id q e. rw (same-trace fresh cs, same-next cs (on id end), same-next cs (on id reset)) (closes-exactly id q cs (rw (same-trace fresh cs) at e));
   once = λ cs. rw (same-trace fresh cs) (one-of-a-type cs);
-  among = λ cs id q e n allow piece. rw (same-trace fresh cs, same-next cs (on id (feed allow piece))) (second-at-its-type id q cs allow piece (rw (same-trace fresh cs) at e) (rw (same-trace fresh cs) at n));
+  second = λ cs id q e allow ends piece. rw (same-trace fresh cs, same-next cs (on id (feed allow piece))) (second-at-its-type id q cs allow ends piece (rw (same-trace fresh cs) at e));
 }
 
 -- ---- ours, but for a feed of a one-way stream
@@ -184,22 +182,11 @@ own-first (faults k u h) y = faults k u h
 abbrev pub own-fault-first : Feeds
 own-fault-first k w allow piece = own-first (streams .feed₁ (streams .nothing-kept) w allow piece) (streams .feed₁ k w allow piece)
 
--- where a control stream has come the type's byte brings the fault, whatever follows
-again : (seen : List ℕ) → isOneOf seen 0 ≡ true → once seen 0 a-control ≡ refuse (of-connection stream-creation-error)
-unfolding once
-again seen e = rw (once, e) refl
+not-its-own : (h : ℕ) → AtItsType [] 1 (code (of-connection missing-settings) 3 h) → ⊥
+not-its-own h x = let e = x .answered in let u = x .up-to in let z : 3 ≡ x .used = cc in omega arith
 
-at-its-type : (seen : List ℕ) → isOneOf seen 0 ≡ true → verdictOn (oneWay seen (0x00 ∷ 0x00 ∷ 0x00 ∷ [])) ≡ fault (of-connection stream-creation-error) 1
-unfolding answer verdictOn
-at-its-type seen e = ap (λ x. verdictOn (typed 1 3 (0x00 ∷ 0x00 ∷ []) x)) (again seen e)
-
-not-its-own : (t : List (Entry streams)) (h : ℕ) → First t as-control → Among t [] (0x00 ∷ 0x00 ∷ 0x00 ∷ []) (code (of-connection missing-settings) 3 h) → ⊥
-unfolding typeNumber
-not-its-own t h f x =
-    let v = at-its-type (x .seen) (x .others as-control .1 f) in
-    let e : fault (of-connection stream-creation-error) 1 ≡ fault (of-connection missing-settings) 3 = sym v ∙ x .faulty (of-connection missing-settings) 3 h refl [] in
-    let z : _≡_ {A = ℕ} 1 3 = cc in omega arith
-
+-- beside a control stream that runs, one with an empty DATA frame where SETTINGS should be
 pub own-fault-breaks : PromisedOneWay (ours-but own-fault-first) → ⊥
-unfolding computed two-open own-first typeShown elsewhere
-own-fault-breaks p = not-its-own (traced (ours-but own-fault-first) two-open) 1 (record { id = 2; is-one-way = refl; runs = refl; shows = refl }) (p .among two-open 6 refl refl refl 5 (0x00 ∷ 0x00 ∷ 0x00 ∷ []))
+unfolding computed two-open own-first typeShown typeNumber elsewhere
+own-fault-breaks p = not-its-own 1 (p .second two-open 6 refl refl 5 1 (0x00 ∷ 0x00 ∷ 0x00 ∷ [])
+    (record { type = as-control; first = record { id = 2; is-one-way = refl; runs = refl; shows = refl }; not-yet = refl; rest = 0x00 ∷ 0x00 ∷ []; comes = refl }))
