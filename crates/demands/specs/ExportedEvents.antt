@@ -12,6 +12,7 @@ use Rattle.demands.specs.Runs.{Seen, feeds}
 use Rattle.demands.specs.Host.{Run, shows, reports}
 use Rattle.demands.specs.Exports.{FeedSays, World, OfFeed, of-feed}
 use Rattle.demands.specs.Faults.{Moves₁, one-way-progress}
+use Rattle.demands.specs.SecondOfType.{AtItsType, IsSecondOf, second-at-its-type}
 use Rattle.demands.specs.Events.{RequestEvent, OneWayEvent, shownBy, request-events, one-way-events}
 use Rattle.demands.specs.Allowed.{NoFurther, no-further-header}
 use Rattle.demands.specs.OneWayAllowed.{NoFurther₁, no-further-header₁}
@@ -53,4 +54,16 @@ demand-2-one-way-feed w = of-feed w OneWayFeeds (λ c rows id piece allow r c′
   call k (run fresh ks) .answer,
   reports s k (feeds m),
   one-way-progress id q ks allow piece n,
+)))
+
+-- A SECOND OF ITS TYPE is refused at its type, whatever follows in the piece
+abbrev pub SecondRefused : FeedSays
+SecondRefused c rows id piece allow r c′ rows′ = (ks : Calls) (xs : List Seen) → Run ks xs c rows → kindOf id ≡ some one-way → shows id ks .fate ≡ running → let bytes = shows id ks .shown .bytes in
+    (ends : ℕ) → IsSecondOf (trace fresh ks) bytes piece ends → (a : Answer) × (r ≡ reportOf a) × AtItsType bytes ends a
+
+pub demand-2-second-of-type : (w : World) → OfFeed w SecondRefused
+demand-2-second-of-type w = of-feed w SecondRefused (λ c rows id piece allow r c′ rows′ m ks xs s q n ends y. (let k = on id (feed allow piece) in (
+  call k (run fresh ks) .answer,
+  reports s k (feeds m),
+  second-at-its-type id q ks allow ends piece n y,
 )))

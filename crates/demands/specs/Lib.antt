@@ -32,6 +32,7 @@ pub mod Others
 pub mod Instances
 pub mod Types
 pub mod Faults
+pub mod SecondOfType
 pub mod OneWayInstances
 pub mod WrongOneWays
 pub mod Exported

@@ -8,8 +8,11 @@ use Rattle.meaning.specs.Feed as F
 use Rattle.meaning.specs.OneWayFeed as O
 use Rattle.meaning.specs.OneWayFirst.{Struck, NoFault}
 use Rattle.rules.specs.Calls.{client-goaway, notice, fed, feed, toldBy, partBy, ofType, act₁, Call, open′, on, gave, code, Entry, fresh, trace}
-use Rattle.rules.specs.Shown.{refused, view}
+use Rattle.rules.specs.Shown.{refused, elsewhere, view}
 use Rattle.demands.specs.Streams.{came, typesIn, keptBy, placeIn, typeOf, noticeOf, framesEvent, oneEvent, heardBy, streams}
+use Rattle.demands.specs.Becomes.{as-control, typeNumber}
+use Rattle.demands.specs.OneWayReads.{typeShown}
+use Rattle.demands.specs.SecondOfType.{AtItsType, second-at-its-type}
 use Rattle.demands.specs.Faults.{Brought, of-its-bytes, Moves₁, one-way-progress, one-way-of-the-bytes, one-way-fares, one-way-any-cutting}
 use Rattle.demands.specs.Instances.{shows, control-open}
 
@@ -53,3 +56,9 @@ two-open = open′ 2 ∷ on 2 (feed 1 (0x00 ∷ [])) ∷ open′ 6 ∷ []
 pub second-refused : Moves₁ (trace fresh two-open) (view 6 (trace fresh two-open) .shown) 5 (0x00 ∷ 0x04 ∷ []) (code (of-connection stream-creation-error) 1 0)
 unfolding opened-two two-open
 second-refused = one-way-progress 6 refl two-open 5 (0x00 ∷ 0x04 ∷ []) refl
+
+-- and with a fault of its own behind the type it is refused at its type no less
+pub refused-at-its-type : AtItsType [] 1 (code (of-connection stream-creation-error) 1 0)
+unfolding opened-two two-open typeShown typeNumber elsewhere
+refused-at-its-type = second-at-its-type 6 refl two-open 5 1 (0x00 ∷ 0x00 ∷ 0x00 ∷ []) refl
+    (record { type = as-control; first = record { id = 2; is-one-way = refl; runs = refl; shows = refl }; not-yet = refl; rest = 0x00 ∷ 0x00 ∷ []; comes = refl })

@@ -6,12 +6,15 @@ use native.Mathlib.Omega.{arith}
 use mathlib.Core.List.{List, [], _∷_, _++_, map, append-nil, append-assoc, map-append}
 use mathlib.Core.Option.{Option, none, some}
 use mathlib.Core.Logic.{_⊎_, inl, inr}
-use lib.ListN.{length, take, drop}
+use lib.ListN.{length, take, drop, take-append-drop}
+use lib.Seq.{take-length}
 use Rattle.rules.specs.Numbers.{ConnectionFault, stream-creation-error, Code, of-connection, CLOSED-CRITICAL-STREAM, closed-critical-stream, named}
+use Rattle.rules.specs.Integers.{Int, cut, got, integer}
 use Rattle.rules.specs.Reading as R
 use Rattle.rules.specs.Control.{Control, control, Told, told-settings, told-goaway, told-max-push-id, told-nothing, tells}
 use Rattle.rules.specs.OneWay as W
 use Rattle.rules.specs.OneWay.{Qpack, encoder, decoder}
+use Rattle.meaning.specs.IntegerLaws.{integer-append}
 use Rattle.meaning.specs.Machine as M
 use Rattle.meaning.specs.Feed as F
 use Rattle.meaning.specs.Feeds.{unheaded, headersIn}
@@ -438,6 +441,17 @@ shown-for s w b (a-skipped-stream e f q n) = let z : w ≡ O.in-skipped = cc in 
 pub type-shown : {s : Shown streams} {w : O.OneState} → Reached₁ alone s w → typeShown (W.oneWay [] (s .bytes)) ≡ isFor w
 type-shown {s} {w} t = let b = been t in shown-for s w b (came-of [] s (O.lives w) b)
 
+came-untyped : (seen : List ℕ) {d : O.Done} {m : W.OneWay} → Came seen d m → m ≡ W.untyped → (g : M.Prog) × (d .after ≡ O.lives (O.in-stream-type g))
+came-untyped seen (still-untyped {g = g} e f q n) z = (g, e)
+came-untyped seen (type-refused e f q n) z = let y : _≡_ {A = ℕ} 0 1 = cc in absurd (omega arith)
+came-untyped seen (a-control-stream o e f q n v) z = let y : _≡_ {A = ℕ} 0 1 = cc in absurd (omega arith)
+came-untyped seen (a-qpack-stream e f n) z = let y : _≡_ {A = ℕ} 0 1 = cc in absurd (omega arith)
+came-untyped seen (a-skipped-stream e f q n) z = let y : _≡_ {A = ℕ} 0 1 = cc in absurd (omega arith)
+
+-- where the bytes are no whole type it waits for more of it
+pub untyped-reached : {s : Shown streams} {w : O.OneState} → Reached₁ alone s w → W.oneWay [] (s .bytes) ≡ W.untyped → (g : M.Prog) × (w ≡ O.in-stream-type g)
+untyped-reached {s} {w} t e = let b = been t in let x = came-untyped [] (came-of [] s (O.lives w) b) e in (x .0, lived w (O.in-stream-type (x .0)) (x .1))
+
 -- no section is due on it
 pub reads-on : {s : Shown streams} {w : O.OneState} → Reached₁ alone s w → ReadsOnOne w
 reads-on {s} {w} t = let b = been t in always-reads [] (b .made) w (ap (λ d. d .after) (b .came))
@@ -548,6 +562,17 @@ module _ (seen : List ℕ) (allow : ℕ) where
   type-same g′ [] g e = refl
   type-same g′ (b ∷ bs) g e = ap O.also (byte-same bs g′ (type-same g′ bs) (M.fed g b) (unfold O.also in e))
 
+  byte-uses : (bs : List ℕ) (g′ : M.Prog) → ((g : M.Prog) → O.type-feed seen allow g bs .after ≡ O.lives (O.in-stream-type g′) → O.type-feed seen allow g bs .used ≡ length bs) → (x : M.Fed)
+      → byteBy seen bs x .after ≡ O.lives (O.in-stream-type g′) → byteBy seen bs x .used ≡ length bs
+  byte-uses bs g′ ih (M.going g) e = ih g e
+  byte-uses bs g′ ih (M.value t) e = absurd (subst Typed e (typed-typed allow (W.typeRule seen t) bs))
+
+  -- a feed that leaves it not whole has used its piece
+  type-uses : (g′ : M.Prog) (piece : List ℕ) (g : M.Prog) → O.type-feed seen allow g piece .after ≡ O.lives (O.in-stream-type g′) → O.type-feed seen allow g piece .used ≡ length piece
+  unfolding O.type-feed O.halt O.also
+  type-uses g′ [] g e = refl
+  type-uses g′ (b ∷ bs) g e = ap suc (byte-uses bs g′ (type-uses g′ bs) (M.fed g b) e)
+
 untyped-goes : (seen : List ℕ) (s : Shown streams) (w : O.OneState) (allow u h : ℕ) (piece : List ℕ) (e : Event) (g : M.Prog)
     → ((g₀ : M.Prog) → w ≡ O.in-stream-type g₀ → Been seen s (O.lives (O.in-stream-type g₀))) → aloneOf w allow piece ≡ goes u h e (O.in-stream-type g)
     → Been seen (plusFeed u h e piece s) (O.lives (O.in-stream-type g))
@@ -603,6 +628,69 @@ second-story s (O.in-stream-type g) k allow u h piece t q =
 second-story s (O.in-control c) k allow u h piece t q = typed-story s (O.in-control c) k allow u h piece tt t q
 second-story s (O.in-qpack c) k allow u h piece t q = typed-story s (O.in-qpack c) k allow u h piece tt t q
 second-story s O.in-skipped k allow u h piece t q = typed-story s O.in-skipped k allow u h piece tt t q
+
+-- a type that is not whole, and one that is refused
+type-cut : (seen bytes : List ℕ) → integer 0 bytes ≡ cut → W.oneWay seen bytes ≡ W.untyped
+unfolding W.oneWay W.behind-type
+type-cut seen bytes e = ap (W.behind-type seen (length bytes)) e
+
+type-refusal : (seen bytes : List ℕ) {t n : ℕ} {rest : List ℕ} {c : Code} → integer 0 bytes ≡ got t n rest → W.typeRule seen t ≡ W.refuse c → W.oneWay seen bytes ≡ W.refused c n
+unfolding W.oneWay W.behind-type W.typed
+type-refusal seen bytes {t} {n} {rest} e r = ap (W.behind-type seen (length bytes)) e ∙ ap (W.typed n (length bytes) rest) r
+
+came-refused : (seen : List ℕ) {d : O.Done} {m : W.OneWay} {c : Code} {next : ℕ} → Came seen d m → m ≡ W.refused c next → (d .after ≡ O.dies c) × (d .heads ≡ 0) × (length (d .bytes) ≡ next)
+came-refused seen (still-untyped e f q n) z = let y : _≡_ {A = ℕ} 0 1 = cc in absurd (omega arith)
+came-refused seen (type-refused e f q n) z = (cc, n, cc)
+came-refused seen (a-control-stream o e f q n v) z = let y : _≡_ {A = ℕ} 0 1 = cc in absurd (omega arith)
+came-refused seen (a-qpack-stream e f n) z = let y : _≡_ {A = ℕ} 0 1 = cc in absurd (omega arith)
+came-refused seen (a-skipped-stream e f q n) z = let y : _≡_ {A = ℕ} 0 1 = cc in absurd (omega arith)
+
+module _ (seen : List ℕ) (allow : ℕ) (s : Shown streams) (g : M.Prog) (piece : List ℕ) (c : Code) (b : Been seen s (O.lives (O.in-stream-type g))) where
+  abbrev feeding : O.OneFeeding
+  feeding = O.feed seen allow (O.in-stream-type g) piece
+
+  abbrev consumed : List ℕ
+  consumed = s .bytes ++ take (feeding .used) piece
+
+  abbrev left : List ℕ
+  left = drop (feeding .used) piece
+
+  abbrev showing : Shown streams
+  showing = plusFeed (feeding .used) (feeding .heads) (oneEvent (feeding .used) (feeding .event)) piece s
+
+  abbrev fed-on : Been seen showing (feeding .after)
+  fed-on = been-fed seen s (O.in-stream-type g) allow piece b
+
+  all-used : (g′ : M.Prog) → feeding .after ≡ O.lives (O.in-stream-type g′) → consumed ≡ s .bytes ++ piece
+  unfolding O.feed
+  all-used g′ e = ap (λ n. s .bytes ++ take n piece) (type-uses seen allow g′ piece g e) ∙ ap (λ l. s .bytes ++ l) (take-length piece)
+
+  consumed-left : consumed ++ left ≡ s .bytes ++ piece
+  consumed-left = append-assoc (s .bytes) (take (feeding .used) piece) left ∙ ap (λ l. s .bytes ++ l) (take-append-drop (feeding .used) piece)
+
+  -- a type that is whole within the piece and refused there: the fault comes with its last byte
+  refused-whole : {t next : ℕ} {rest : List ℕ} → integer 0 (s .bytes ++ piece) ≡ got t next rest → W.typeRule seen t ≡ W.refuse c → (x : Int) → integer 0 consumed ≡ x
+      → (feeding .after ≡ O.dies c) × (feeding .heads ≡ 0) × (length consumed ≡ next)
+  unfolding plusFeed
+  refused-whole {t} {next} {rest} e r cut i =
+      let a = came-untyped seen (came-of seen showing (feeding .after) fed-on) (type-cut seen consumed i) in
+      let z : cut ≡ got t next rest = sym i ∙ ap (integer 0) (all-used (a .0) (a .1)) ∙ e in
+      let y : _≡_ {A = ℕ} 0 1 = cc in absurd (omega arith)
+  refused-whole {t} {next} {rest} e r (got t′ n′ rest′) i =
+      let z : got t next rest ≡ got t′ n′ (rest′ ++ left) = sym e ∙ ap (integer 0) (sym consumed-left) ∙ integer-append 0 consumed left i in
+      let t-same : t ≡ t′ = cc in
+      let n-same : n′ ≡ next = cc in
+      let v = came-refused seen (came-of seen showing (feeding .after) fed-on) (type-refusal seen consumed i (subst (λ x. W.typeRule seen x ≡ W.refuse c) t-same r)) in
+      (v .0, omega (arith, v .1), v .2 ∙ n-same)
+
+-- and so of a feed, where the types that are kept came before
+pub refused-among : (s : Shown streams) (g : M.Prog) (k : Keeps) (allow : ℕ) (piece : List ℕ) (c : Code) {t next : ℕ} {rest : List ℕ} → Reached₁ alone s (O.in-stream-type g) → integer 0 (s .bytes ++ piece) ≡ got t next rest
+    → W.typeRule (typesIn k) t ≡ W.refuse c → (u : ℕ) × (length (s .bytes ++ take u piece) ≡ next) × (streams .feed₁ k (O.in-stream-type g) allow piece ≡ faults c u 0)
+unfolding heardBy
+refused-among s g k allow piece c t e r =
+    let f = O.feed (typesIn k) allow (O.in-stream-type g) piece in
+    let v = refused-whole (typesIn k) allow s g piece c (been-untyped (typesIn k) t g refl) e r (integer 0 (s .bytes ++ take (f .used) piece)) refl in
+    (f .used, v .2, ap (λ o. heardBy k (f .used) (f .heads) (f .event) o) (v .0) ∙ ap (λ h. faults c (f .used) h) (v .1))
 
 -- a stream refused with 0x0103: by its own bytes, or, its type not yet shown, as they are where the types that are kept came before
 pub creation-by : (s : Shown streams) (w : O.OneState) (k : Keeps) (allow u h : ℕ) (piece : List ℕ) → Reached₁ alone s w → streams .feed₁ k w allow piece ≡ faults (of-connection stream-creation-error) u h

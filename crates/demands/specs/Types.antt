@@ -381,7 +381,7 @@ first-held cs c f =
 abbrev pub Seen : List (Entry streams) → List ℕ → Type 0
 Seen t seen = (c : Once) → (isOneOf seen (typeNumber c) ≡ true) ↔ First t c
 
-kept-seen : (cs : Calls) → Alive (run fresh cs) → Seen (trace fresh cs) (typesIn (run fresh cs .conn .kept))
+pub kept-seen : (cs : Calls) → Alive (run fresh cs) → Seen (trace fresh cs) (typesIn (run fresh cs .conn .kept))
 kept-seen cs a c =
     let k = run fresh cs .conn .kept in
     let i = typed-from cs fresh sound-fresh typed-fresh in

@@ -13,21 +13,22 @@ use Rattle.rules.specs.Worked.{answer}
 use Rattle.meaning.specs.OneWayFeed as O
 use Rattle.meaning.specs.OneWayFirst.{verdictOn, Struck}
 use Rattle.rules.specs.Calls.{quiet, fed, Fed, goes, faults, feed, section, end, reset, ofFed, mapOut, one-way, kindOf, Stream, asking, telling, Pair, Call, start, open′, on, goaway, gave, code, Entry, Result, alive, find, settle, fresh, call}
-use Rattle.rules.specs.Shown.{Shown, running, view}
+use Rattle.rules.specs.Shown.{Shown, running, elsewhere, view}
 use Rattle.traces.specs.Oneways.{Both}
 use Rattle.demands.specs.Streams.{Keeps, streams}
-use Rattle.demands.specs.Becomes.{Once}
-use Rattle.demands.specs.OneWayReads.{Heard, faultBy, closeAnswer}
+use Rattle.demands.specs.Becomes.{Once, as-control, typeNumber}
+use Rattle.demands.specs.OneWayReads.{typeShown, Heard, faultBy, closeAnswer}
 use Rattle.demands.specs.Demands.{one-way-reads, closes-exactly}
 use Rattle.demands.specs.Types.{First, one-of-a-type}
 use Rattle.demands.specs.Faults.{of-its-bytes, Moves₁, faulty, moved, Fares₁, one-way-progress, one-way-fares}
+use Rattle.demands.specs.SecondOfType.{AtItsType, IsSecondOf, second-at-its-type}
 use Rattle.demands.specs.Servers.{Server, tracedFrom, traced, after, next, ours, same-trace, same-next}
-use Rattle.demands.specs.OneWayInstances.{opened-two, struck-at-three}
+use Rattle.demands.specs.OneWayInstances.{opened-two, struck-at-three, two-open}
 
 -- ---- WHAT IS PROMISED of one-way streams
 
 -- at every moment what the definition says of the bytes so far, and no fault among them unless the stream was refused; feeds answered as they bring
--- it; an end and a reset as they say; one stream of a type
+-- it; an end and a reset as they say; one stream of a type, and a second refused at its type
 pub record PromisedOneWay (S : Server) : Type 0 where
   pub hears : (cs : List (Call streams)) (id : ℕ) → kindOf id ≡ some one-way → Heard (view id (traced S cs))
   pub fares : (cs : List (Call streams)) (id : ℕ) → kindOf id ≡ some one-way → Fares₁ (view id (traced S cs) .fate) (view id (traced S cs) .shown .bytes)
@@ -36,6 +37,8 @@ pub record PromisedOneWay (S : Server) : Type 0 where
   pub closes : (cs : List (Call streams)) (id : ℕ) → kindOf id ≡ some one-way → view id (traced S cs) .fate ≡ running → let a = closeAnswer (faultBy (oneWay [] (view id (traced S cs) .shown .bytes))) in
       (next S cs (on id end) ≡ a) × (next S cs (on id reset) ≡ a)
   pub once : (cs : List (Call streams)) (c : Once) (f g : First (traced S cs) c) → f .id ≡ g .id
+  pub second : (cs : List (Call streams)) (id : ℕ) → kindOf id ≡ some one-way → view id (traced S cs) .fate ≡ running
+      → (allow ends : ℕ) (piece : List ℕ) → let bytes = view id (traced S cs) .shown .bytes in IsSecondOf (traced S cs) bytes piece ends → AtItsType bytes ends (next S cs (on id (feed allow piece)))
 
 -- OUR OWN KEEPS IT
 pub ours-meets-one-way : PromisedOneWay ours
@@ -45,6 +48,7 @@ ours-meets-one-way = record {
   moves = λ cs id q e allow piece. rw (same-trace fresh cs, same-next cs (on id (feed allow piece))) (one-way-progress id q cs allow piece (rw (same-trace fresh cs) at e));
   closes = λ cs id q e. rw (same-trace fresh cs, same-next cs (on id end), same-next cs (on id reset)) (closes-exactly id q cs (rw (same-trace fresh cs) at e));
   once = λ cs. rw (same-trace fresh cs) (one-of-a-type cs);
+  second = λ cs id q e allow ends piece. rw (same-trace fresh cs, same-next cs (on id (feed allow piece))) (second-at-its-type id q cs allow ends piece (rw (same-trace fresh cs) at e));
 }
 
 -- ---- ours, but for a feed of a one-way stream
@@ -168,3 +172,21 @@ not-well t s e (moved n l) = (rw e at n) (of-connection missing-settings) 3 stru
 pub all-breaks : PromisedOneWay (ours-but takes-all) → ⊥
 unfolding computed
 all-breaks p = not-well _ (view 2 (traced (ours-but takes-all) just-open) .shown) refl (p .moves just-open 2 refl refl 9 (0x00 ∷ 0x00 ∷ 0x00 ∷ []))
+
+-- ---- 6. A SECOND OF ITS TYPE DIES OF ITS OWN LATER FAULT, where it has one in the piece that ends its type
+
+unfoldable pub own-first : (own here : Fed (Both streams)) → Fed (Both streams)
+own-first (goes u h e x) y = y
+own-first (faults k u h) y = faults k u h
+
+abbrev pub own-fault-first : Feeds
+own-fault-first k w allow piece = own-first (streams .feed₁ (streams .nothing-kept) w allow piece) (streams .feed₁ k w allow piece)
+
+not-its-own : (h : ℕ) → AtItsType [] 1 (code (of-connection missing-settings) 3 h) → ⊥
+not-its-own h x = let e = x .answered in let u = x .up-to in let z : 3 ≡ x .used = cc in omega arith
+
+-- beside a control stream that runs, one with an empty DATA frame where SETTINGS should be
+pub own-fault-breaks : PromisedOneWay (ours-but own-fault-first) → ⊥
+unfolding computed two-open own-first typeShown typeNumber elsewhere
+own-fault-breaks p = not-its-own 1 (p .second two-open 6 refl refl 5 1 (0x00 ∷ 0x00 ∷ 0x00 ∷ [])
+    (record { type = as-control; first = record { id = 2; is-one-way = refl; runs = refl; shows = refl }; not-yet = refl; rest = 0x00 ∷ 0x00 ∷ []; comes = refl }))
