@@ -23,6 +23,7 @@ use Rattle.record.specs.declared.Record.{Record}
 use Rattle.record.specs.Row.{placeIn, oneWayRecord, free-record}
 use Rattle.requests.specs.Reply.{stateIn}
 use Rattle.control.specs.declared.Kept.{Kept}
+use Rattle.control.specs.Judged.{push-id}
 use Rattle.control.specs.Rules.{controlOf}
 use Rattle.oneway.specs.declared.calls.Side.{Side}
 use Rattle.oneway.specs.declared.calls.Heard.{Heard}
@@ -83,6 +84,23 @@ LeavesConnection (on id (section block)) c rows c′ rows′ = c′ ≡ c
 LeavesConnection (on id end) c rows c′ rows′ = c′ ≡ c
 LeavesConnection (on id reset) c rows c′ rows′ = c′ ≡ c
 LeavesConnection (goaway id room) c rows c′ rows′ = c′ ≡ withDoors c (goneAway (c .doors) (stream-id id))
+
+-- as instances, none of these is left: one-way streams next at 7, behind the opening of 2; our GOAWAY of 8 kept as 9; no note of a QPACK encoder stream that
+-- has its type; kept bytes that a feed of a request has written over
+next-at-seven : (rows rows′ : List Record) → ¬ (LeavesConnection (open′ 2) fresh-connection rows (withDoors fresh-connection (record { code = 0; requests = 0; oneways = 7; goaways = 0; goaway = stream-id 0 })) rows′)
+next-at-seven rows rows′ (inl x) = let z = x .0 in omega arith
+next-at-seven rows rows′ (inr x) = let z = ap (λ y. y .doors .oneways) (x .1) in omega arith
+
+kept-as-nine : (c : Connection) (rows rows′ : List Record) (room : ℕ) → ¬ (LeavesConnection (goaway 8 room) c rows (withDoors c (goneAway (c .doors) (stream-id 9))) rows′)
+kept-as-nine c rows rows′ room e = let z = ap (λ y. y .doors .goaway .0) e in omega arith
+
+not-noted : {allow : ℕ} {piece : List ℕ} {c c′ : Connection} {r r′ : Record} (x : FedOneWay allow piece c r r′ c′) → x .state ≡ in-qpack encoder → ¬ (c′ .side .encoder ≡ 0)
+unfolding sideAfter
+not-noted {c = c} x e n = let z = ap (λ y. y .side .encoder) (x .left) ∙ ap (λ s. sideAfter (c .side) s .encoder) e in omega arith
+
+written-over : {allow : ℕ} {piece : List ℕ} {c c′ : Connection} {r r′ : Record} → r .kind ≡ REQUEST → ¬ (c′ .side .bytes ≡ c .side .bytes) → ¬ (FedLeaves allow piece c r r′ c′)
+written-over k n (inl x) = n (ap (λ y. y .side .bytes) (x .1))
+written-over k n (inr x) = let l = x .kind in omega arith
 
 -- ---- each call's own answer
 
@@ -326,3 +344,7 @@ none-yet r e = kept-by-run r ∙ ap keptNumbers e
 
 pub keeps-nothing-yet : (w : World) → Every w KeepsNothingYet
 keeps-nothing-yet w = every w KeepsNothingYet (λ c rows k x c′ rows′ m ks xs r. none-yet (then-called r m))
+
+-- as an instance: not these, which say that no settings have come beside a limit, a GOAWAY and a MAX_PUSH_ID
+rubbish : ¬ (record { set = 0; limited = 1; size = 1; capacity = 4_096; blocked = 100; goaways = 1; goaway = push-id 0; pushes = 1; push = push-id 0 } ≡ nothing-said)
+rubbish e = let z = ap (λ y. y .limited) e in omega arith
