@@ -110,7 +110,7 @@ swept-all : (n : ℕ) → n ≡ 24 → (rows : List Record) → map (sweptOf n) 
 swept-all n e [] = refl
 swept-all n e (r ∷ rows) = ap (λ x. x ∷ map (sweptOf n) rows) (sym (swept-free n r e refl)) ∙ ap (λ x. free-record ∷ x) (swept-all n e rows)
 
-starts-anew : {c : Connection} {rows : List Record} {n : ℕ} {c′ : Connection} {rows′ : List Record} → Started c rows c′ rows′ n → StartsAnew c rows n c′ rows′
+pub starts-anew : {c : Connection} {rows : List Record} {n : ℕ} {c′ : Connection} {rows′ : List Record} → Started c rows c′ rows′ n → StartsAnew c rows n c′ rows′
 unfolding reportOf
 starts-anew {c} {rows} m = record {
   anew = λ long. let b = sym (begun-fresh c (length rows) long refl) in
@@ -133,7 +133,7 @@ lowest-free : {id : ℕ} {rows : List Record} {f : Found} → FoundIn 0 id rows 
 unfolding Wanted
 lowest-free x l = record { there = l; is-free = x .there l; lowest = x .before }
 
-first-of : {call id : ℕ} {rows : List Record} {f : Found} → ¬ (call ≡ 0) → FoundIn call id rows f → f .at < length rows → FirstOf id rows (f .at)
+pub first-of : {call id : ℕ} {rows : List Record} {f : Found} → ¬ (call ≡ 0) → FoundIn call id rows f → f .at < length rows → FirstOf id rows (f .at)
 first-of {call} {id} {rows} {f} n x l =
     record { there = l; own = wanted-belongs id (getD rows (f .at) free-record) call n (x .there l); first = λ j m b. x .before j m (belongs-wanted id (getD rows j free-record) call n b) }
 

@@ -46,6 +46,7 @@ pub mod Rebuilt
 pub mod ExportedMemory
 pub mod Said
 pub mod ExportedRecords
+pub mod ExportedConnection
 pub mod RunInMemory
 pub mod Stops
 pub mod ExportedStops

@@ -196,7 +196,7 @@ types-same : (d : Side) → typesIn (keepsOf d) ≡ typesOf (d .control) (d .enc
 unfolding typesIn typesOf
 types-same d = let a = came-same (d .control) 0 in let b = came-same (d .encoder) 2 in let c = came-same (d .decoder) 3 in rw (a, b, c) refl
 
-said-back : (p : Control) → controlOf (keptNumbers p) ≡ p
+pub said-back : (p : Control) → controlOf (keptNumbers p) ≡ p
 unfolding controlAt keptNumbers
 said-back unset = refl
 said-back (set s g m) = set-back s g m
