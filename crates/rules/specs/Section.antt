@@ -230,8 +230,11 @@ uploads = ascii "PUT" ∷ ascii "POST" ∷ ascii "PATCH" ∷ []
 unfoldable pub isUpload : (method : List ℕ) → Bool
 isUpload method = any (same method) uploads
 
+unfoldable pub uploading : Section → Bool
+uploading s = holds isUpload (valueOf :method s)
+
 unfoldable pub upload-check : Check
-upload-check = check no-length (λ s. holds isUpload (valueOf :method s) && not (has content-length s))
+upload-check = check no-length (λ s. uploading s && not (has content-length s))
 
 -- ---- the order
 

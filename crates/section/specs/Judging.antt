@@ -12,7 +12,7 @@ use Rattle.rules.specs.Text.{ascii, any, same}
 use Rattle.rules.specs.Block.{Section, Lines, readable}
 use Rattle.rules.specs.Block as block
 use Rattle.rules.specs.Section as rules
-use Rattle.rules.specs.Section.{Check, refused, sound, isEmpty, begins, holds, isUpload, uploads, decimal, decimalFrom, named, has, valueOf, methodOf, statedIn, unless, firstBroken, goodPath, size-limit, length-limit, size-check, bytes-check, unknown-check, repeated-check, late-check, in-trailers-check, connection-check, te-check, method-check, no-method-check, repeated-length-check, length-in-trailers-check, digits-check, length-above-check, repeated-host-check, connect-check, present-check, scheme-check, path-check, authority-check, empty-check, differ-check, at-check, length-check, upload-check, header-checks, trailer-checks, header-section}
+use Rattle.rules.specs.Section.{Check, refused, sound, isEmpty, begins, holds, isUpload, uploads, uploading, decimal, decimalFrom, named, has, valueOf, methodOf, statedIn, unless, firstBroken, goodPath, size-limit, length-limit, size-check, bytes-check, unknown-check, repeated-check, late-check, in-trailers-check, connection-check, te-check, method-check, no-method-check, repeated-length-check, length-in-trailers-check, digits-check, length-above-check, repeated-host-check, connect-check, present-check, scheme-check, path-check, authority-check, empty-check, differ-check, at-check, length-check, upload-check, header-checks, trailer-checks, header-section}
 use Rattle.fields.specs.Laws.{empty-is}
 use Rattle.fields.specs.Walk.{isReadable, held}
 use Rattle.fields.specs.Decimal.{capped, capped-below, past}
@@ -188,7 +188,7 @@ module _ (s : Section) where
       three false false false = refl
 
   no-length : (sendsContent (valueAt s method) && not (there content-length)) ≡ upload-check .broken s
-  unfolding upload-check
+  unfolding upload-check uploading
   no-length = rw (sends-content (valueOf (nameAt method) s), there-is (nameAt content-length) s)
 
   no-authority : not (there authority || there host) ≡ authority-check .broken s
@@ -334,6 +334,18 @@ module _ (s : Section) where
   pub length-passed : firstBroken header-checks s ≡ none → length-check .broken s ≡ false
   unfolding header-checks
   length-passed e = passed header-checks 21 length-check (lit< tt) e
+
+  -- and a sound upload states its length
+  pub upload-states : firstBroken header-checks s ≡ none → uploading s ≡ true → (n : ℕ) × (statedIn (valueOf lengthName s) ≡ some n)
+  unfolding header-checks upload-check statedIn
+  upload-states e u =
+      let b : (uploading s && not (has lengthName s)) ≡ false = passed header-checks 22 upload-check (lit< tt) e in
+      let t : not (has lengthName s) ≡ false = rw u at b in
+      by (valueOf lengthName s) (sym (value-is lengthName s) ∙ absent-is lengthName s ∙ t)
+    where
+      by : (o : Option (List ℕ)) → not (isSome o) ≡ false → (n : ℕ) × (statedIn o ≡ some n)
+      by none t = let z : _≡_ {A = ℕ} 0 1 = cc in absurd (omega arith)
+      by (some v) t = (decimal v, refl)
 
 -- ---- the answer's side
 
