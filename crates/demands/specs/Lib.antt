@@ -36,6 +36,7 @@ pub mod SecondOfType
 pub mod OneWayInstances
 pub mod WrongOneWays
 pub mod Exported
+pub mod FeedReports
 pub mod Allowed
 pub mod Events
 pub mod WrongEvents
