@@ -16,7 +16,7 @@ use Rattle.connection.specs.declared.Connection.{Connection}
 use Rattle.connection.specs.declared.Report.{Report}
 use Rattle.calls.specs.Promises.{Fed}
 use Rattle.demands.specs.Demands.{Calls}
-use Rattle.demands.specs.Parts.{KeepsTo, parts}
+use Rattle.demands.specs.Parts.{Bounded, KeepsTo, parts}
 use Rattle.demands.specs.Means.{noticed, reported, reportOf}
 use Rattle.demands.specs.Runs.{Seen, feeds}
 use Rattle.demands.specs.Host.{Run, reports}
@@ -96,10 +96,23 @@ accepted allow piece (code k u h) b z = let l = code-high k in absurd (omega ari
 fed-by : (So : (used heads : ℕ) → Event → Type 0) (allow : ℕ) (piece : List ℕ) (a : Answer) → KeepsTo allow piece a → ((u h : ℕ) (e : Event) → a ≡ gave (fed u h e) → So u h e) → reportOf a .number ≡ 0 → ReportsFed (reportOf a) So
 fed-by So allow piece a b f z = let i = accepted allow piece a b z in record { event = i .0; read-as = ap reportOf (i .1); so = f (reportOf a .used) (reportOf a .heads) (i .0) (i .1) }
 
--- WHAT HOLDS OF THE TRACE'S ANSWER to a feed, where that accepts it, holds of a report with the number 0
-pub reports-fed : {ks : Calls} {xs : List Seen} {c : Connection} {rows : List Record} {id allow : ℕ} {piece : List ℕ} {r : Report} {c′ : Connection} {rows′ : List Record} {So : (used heads : ℕ) → Event → Type 0}
-    → Run ks xs c rows → Fed c rows id piece allow c′ rows′ r → ((u h : ℕ) (e : Event) → call (on id (feed allow piece)) (run fresh ks) .answer ≡ gave (fed u h e) → So u h e)
-    → r .number ≡ 0 → ReportsFed r So
-reports-fed {ks} {id = id} {allow = allow} {piece = piece} {So = So} s m f =
-    let k = on id (feed allow piece) in
-    subst (λ r. r .number ≡ 0 → ReportsFed r So) (sym (reports s k (feeds m))) (fed-by So allow piece (call k (run fresh ks) .answer) (parts ks id allow piece) f)
+bounded-by : (allow : ℕ) (piece : List ℕ) (a : Answer) → KeepsTo allow piece a → Bounded allow piece (reportOf a .used) (reportOf a .heads)
+unfolding reportOf
+bounded-by allow piece (gave done) b = absurd b
+bounded-by allow piece (gave (fed u h e)) b = let i = has u h e in record { fits = omega (arith, i .bytes, b .0 .fits); allowed = omega (arith, i .headers, b .0 .allowed) }
+bounded-by allow piece (left l) b = absurd b
+bounded-by allow piece (house n) b = record { fits = omega arith; allowed = omega arith }
+bounded-by allow piece (code k u h) b = b
+
+module _ {ks : Calls} {xs : List Seen} {c : Connection} {rows : List Record} {id allow : ℕ} {piece : List ℕ} {r : Report} {c′ : Connection} {rows′ : List Record} (s : Run ks xs c rows) (m : Fed c rows id piece allow c′ rows′ r) where
+  -- WHAT HOLDS OF THE TRACE'S ANSWER to a feed, where that accepts it, holds of a report with the number 0
+  pub reports-fed : {So : (used heads : ℕ) → Event → Type 0} → ((u h : ℕ) (e : Event) → call (on id (feed allow piece)) (run fresh ks) .answer ≡ gave (fed u h e) → So u h e) → r .number ≡ 0 → ReportsFed r So
+  reports-fed {So} f =
+      let k = on id (feed allow piece) in
+      subst (λ r. r .number ≡ 0 → ReportsFed r So) (sym (reports s k (feeds m))) (fed-by So allow piece (call k (run fresh ks) .answer) (parts ks id allow piece) f)
+
+  -- and every report is of no more bytes than the piece has, and no more headers than allowed
+  pub reports-bounded : Bounded allow piece (r .used) (r .heads)
+  reports-bounded =
+      let k = on id (feed allow piece) in
+      subst (λ r. Bounded allow piece (r .used) (r .heads)) (sym (reports s k (feeds m))) (bounded-by allow piece (call k (run fresh ks) .answer) (parts ks id allow piece))

@@ -37,6 +37,7 @@ pub mod OneWayInstances
 pub mod WrongOneWays
 pub mod Exported
 pub mod FeedReports
+pub mod ExportedAnswers
 pub mod Allowed
 pub mod Events
 pub mod WrongEvents
@@ -52,3 +53,4 @@ pub mod RunInMemory
 pub mod Stops
 pub mod ExportedStops
 pub mod WrongStops
+pub mod WrongReports
