@@ -145,26 +145,26 @@ module _ (ks : Calls) (id : ℕ) (o : Own streams) where
 so : {ks : Calls} {xs : List Seen} {c : Connection} {rows : List Record} {id : ℕ} {o : Own streams} {r : Report} {c′ : Connection} {rows′ : List Record} → Run ks xs c rows → Does c rows (on id o) (a-report r) c′ rows′ → Says ks id o r
 so {ks} {id = id} {o = o} s m = subst (Says ks id o) (sym (reports s (on id o) m)) (says ks id o)
 
-abbrev pub FeedReports : FeedSays
-FeedReports c rows id piece allow r c′ rows′ = (ks : Calls) (xs : List Seen) → Run ks xs c rows → Says ks id (feed allow piece) r
+abbrev pub FeedAnswered : FeedSays
+FeedAnswered c rows id piece allow r c′ rows′ = (ks : Calls) (xs : List Seen) → Run ks xs c rows → Says ks id (feed allow piece) r
 
-pub feed-reports : (w : World) → OfFeed w FeedReports
-feed-reports w = of-feed w FeedReports (λ c rows id piece allow r c′ rows′ m ks xs s. so s (feeds m))
+pub feed-reports : (w : World) → OfFeed w FeedAnswered
+feed-reports w = of-feed w FeedAnswered (λ c rows id piece allow r c′ rows′ m ks xs s. so s (feeds m))
 
-abbrev pub GiveReports : GiveSays
-GiveReports c rows id block r c′ rows′ = (ks : Calls) (xs : List Seen) → Run ks xs c rows → Says ks id (section block) r
+abbrev pub GiveAnswered : GiveSays
+GiveAnswered c rows id block r c′ rows′ = (ks : Calls) (xs : List Seen) → Run ks xs c rows → Says ks id (section block) r
 
-pub give-reports : (w : World) → OfGive w GiveReports
-give-reports w = of-give w GiveReports (λ c rows id block r c′ rows′ m ks xs s. so s (gives m))
+pub give-reports : (w : World) → OfGive w GiveAnswered
+give-reports w = of-give w GiveAnswered (λ c rows id block r c′ rows′ m ks xs s. so s (gives m))
 
-abbrev pub EndReports : StreamSays
-EndReports c rows id r c′ rows′ = (ks : Calls) (xs : List Seen) → Run ks xs c rows → Says ks id end r
+abbrev pub EndAnswered : StreamSays
+EndAnswered c rows id r c′ rows′ = (ks : Calls) (xs : List Seen) → Run ks xs c rows → Says ks id end r
 
-pub end-reports : (w : World) → OfEnd w EndReports
-end-reports w = of-end w EndReports (λ c rows id r c′ rows′ m ks xs s. so s (ends m))
+pub end-reports : (w : World) → OfEnd w EndAnswered
+end-reports w = of-end w EndAnswered (λ c rows id r c′ rows′ m ks xs s. so s (ends m))
 
-abbrev pub ResetReports : StreamSays
-ResetReports c rows id r c′ rows′ = (ks : Calls) (xs : List Seen) → Run ks xs c rows → Says ks id reset r
+abbrev pub ResetAnswered : StreamSays
+ResetAnswered c rows id r c′ rows′ = (ks : Calls) (xs : List Seen) → Run ks xs c rows → Says ks id reset r
 
-pub reset-reports : (w : World) → OfReset w ResetReports
-reset-reports w = of-reset w ResetReports (λ c rows id r c′ rows′ m ks xs s. so s (resets m))
+pub reset-reports : (w : World) → OfReset w ResetAnswered
+reset-reports w = of-reset w ResetAnswered (λ c rows id r c′ rows′ m ks xs s. so s (resets m))

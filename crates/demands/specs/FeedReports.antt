@@ -23,7 +23,7 @@ use Rattle.demands.specs.Host.{Run, reports}
 
 -- ---- DEFINITION
 
--- AN ACCEPTED FEED is what this reports: of as many bytes and headers as it has, and with an event; and so it is with them
+-- AN ACCEPTED FEED is what this reports: of as many bytes and headers as it has, and with an event; and this holds of them
 pub record ReportsFed (r : Report) (So : (used heads : ℕ) → Event → Type 0) : Type 0 where
   pub event : Event
   pub read-as : r ≡ reportOf (gave (fed (r .used) (r .heads) event))

@@ -22,7 +22,7 @@ use Rattle.demands.specs.Host as host
 use Rattle.demands.specs.Instances.{shows, block}
 use Rattle.demands.specs.RunInMemory.{one-open, one-spent, frame, opened-run, dead-run}
 use Rattle.demands.specs.ExportedStops.{RequestStops, OneWayStops}
-use Rattle.demands.specs.ExportedAnswers.{FeedReports, ResetReports}
+use Rattle.demands.specs.ExportedAnswers.{FeedAnswered, ResetAnswered}
 
 -- ---- SEVEN ZEROS to a feed that is given a byte and an allowance of 1 or more
 
@@ -48,7 +48,7 @@ module _ {ks : Calls} {xs : List Seen} {c : Connection} {rows : List Record} (s 
   pub zeros-break₁ : kindOf id ≡ some one-way → ¬ (OneWayStops c rows id piece allow (numbered 0) c′ rows′)
   zeros-break₁ q p = let f = p ks xs s q n refl in let z = f .so .2 (zeros-quiet 0 0 (f .event) (f .read-as)) (omega arith) .spent in omega arith
 
--- so of DATA with three bytes, in any run that is where these come; and of a frame of unknown type, in the run in memory
+-- so of DATA with three bytes, in any run of these calls; and of a frame of unknown type, in the run in memory
 pub zeros-for-content : {xs : List Seen} {c : Connection} {rows : List Record} → Run (open′ 0 ∷ on 0 (feed 5 (0x01 ∷ 0x01 ∷ 0x00 ∷ [])) ∷ on 0 (section block) ∷ []) xs c rows → (c′ : Connection) (rows′ : List Record)
     → ¬ (RequestStops c rows 0 (0x00 ∷ 0x03 ∷ 0x61 ∷ 0x62 ∷ 0x63 ∷ []) 5 (numbered 0) c′ rows′)
 unfolding shows block
@@ -59,11 +59,11 @@ unfolding shows
 zeros-for-frame c′ rows′ = zeros-break opened-run 0 refl frame 1 (omega arith) (omega arith) c′ rows′ refl
 
 -- ---- A RESET OF AN OPEN REQUEST, reported as not open
-pub reset-as-one : (c′ : Connection) (rows′ : List Record) → ¬ (ResetReports one-spent one-open 0 (numbered 1) c′ rows′)
+pub reset-as-one : (c′ : Connection) (rows′ : List Record) → ¬ (ResetAnswered one-spent one-open 0 (numbered 1) c′ rows′)
 unfolding shows reportOf
 reset-as-one c′ rows′ p = let z = ap (λ r. r .event) (p _ _ opened-run .on-request refl refl) in omega arith
 
 -- ---- A FEED ON A DEAD CONNECTION, reported with the number 0, whatever else it says
-pub dead-as-zero : (piece : List ℕ) (allow : ℕ) (r : Report) (c′ : Connection) (rows′ : List Record) → r .number ≡ 0 → ¬ (FeedReports (withCode FRAME-UNEXPECTED one-spent) one-open 0 piece allow r c′ rows′)
+pub dead-as-zero : (piece : List ℕ) (allow : ℕ) (r : Report) (c′ : Connection) (rows′ : List Record) → r .number ≡ 0 → ¬ (FeedAnswered (withCode FRAME-UNEXPECTED one-spent) one-open 0 piece allow r c′ rows′)
 unfolding shows ledger ledgerFrom noted dies opens counts blank reportOf
 dead-as-zero piece allow r c′ rows′ e p = let z = ap (λ r. r .number) (p _ _ dead-run .on-dead frame-unexpected refl) in omega arith
