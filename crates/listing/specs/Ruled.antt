@@ -15,6 +15,7 @@ use Rattle.meaning.specs.Hom.{map-ruling}
 use Rattle.meaning.specs.FrameLaws.{head}
 use Rattle.meaning.specs.NumberLaws.{code-high}
 use Rattle.meaning.specs.RequestLaws.{RuleView, r-refused, r-skipped, r-content, r-header, r-trailers, rule-view}
+use Rattle.frames.specs.Modes.{BODY, TRAILED, USE-SKIPPED, USE-CONTENT, USE-HEADER-SECTION, USE-TRAILERS}
 use Rattle.frames.specs.Both.{of-request}
 use Rattle.frames.specs.Both as both
 use Rattle.frames.specs.Uses.{statedOf, placeOf, useNumber, numberOf, data-lawful}
@@ -116,21 +117,21 @@ module _ (p : Place) (from t len number : ℕ) (phase : p .phase < 3) (known : n
   unfolding ruledLine
   by-number k e = ap (lineBy p (head (p .at) from t len)) (sym e ∙ is) ∙ line-view p (head (p .at) from t len) (rule-view (messageOf (p .phase) (p .sum)) t len)
 
-  pub line-skipped : number ≡ 0 → Frame (p .at) t len Skipped (place (from + len) (p .phase) (p .sum)) ≡ ruledLine p (head (p .at) from t len)
-  line-skipped e = unfold lineBy in by-number 0 e
+  pub line-skipped : number ≡ USE-SKIPPED → Frame (p .at) t len Skipped (place (from + len) (p .phase) (p .sum)) ≡ ruledLine p (head (p .at) from t len)
+  line-skipped e = unfold lineBy in by-number USE-SKIPPED e
 
-  pub line-content : number ≡ 1 → Frame (p .at) t len Content (place (from + len) (p .phase) (p .sum + len)) ≡ ruledLine p (head (p .at) from t len)
-  line-content e = unfold lineBy in by-number 1 e
+  pub line-content : number ≡ USE-CONTENT → Frame (p .at) t len Content (place (from + len) (p .phase) (p .sum + len)) ≡ ruledLine p (head (p .at) from t len)
+  line-content e = unfold lineBy in by-number USE-CONTENT e
 
-  pub line-header-section : number ≡ 2 → Frame (p .at) t len HeaderSection (place (from + len) 1 0) ≡ ruledLine p (head (p .at) from t len)
-  line-header-section e = unfold lineBy in by-number 2 e
+  pub line-header-section : number ≡ USE-HEADER-SECTION → Frame (p .at) t len HeaderSection (place (from + len) BODY 0) ≡ ruledLine p (head (p .at) from t len)
+  line-header-section e = unfold lineBy in by-number USE-HEADER-SECTION e
 
-  pub line-trailers : number ≡ 3 → Frame (p .at) t len Trailers (place (from + len) 2 (p .sum)) ≡ ruledLine p (head (p .at) from t len)
-  line-trailers e = unfold lineBy in by-number 3 e
+  pub line-trailers : number ≡ USE-TRAILERS → Frame (p .at) t len Trailers (place (from + len) TRAILED (p .sum)) ≡ ruledLine p (head (p .at) from t len)
+  line-trailers e = unfold lineBy in by-number USE-TRAILERS e
 
   pub line-refused : 4 ≤ number → Refused from number ≡ ruledLine p (head (p .at) from t len)
   line-refused l = sym (line-high p (head (p .at) from t len) number l) ∙ by-number number refl
 
   -- the sum stays small
-  pub content-fits : number ≡ 1 → p .sum + len ≤ 2 ^ 62
+  pub content-fits : number ≡ USE-CONTENT → p .sum + len ≤ 2 ^ 62
   content-fits e = data-lawful (p .phase) 0 0 (p .sum) t len (omega arith) (as-request (p .phase) (p .sum) t len phase ∙ sym is ∙ e) .1

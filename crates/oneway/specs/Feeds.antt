@@ -338,17 +338,17 @@ module _ (r : Record) (o : Heeds r) (d : Side) {c : Cells} (ec : c ≡ cellsIn r
 
     -- what is left is an open stream, in the state after
     pub on-stays : (x : OneState) → feeding d allow s (stateHere r d) .after ≡ lives x → Heeds row × (stateHere row side ≡ x)
-    on-stays = by (eqb (a .event) 6) refl
+    on-stays = by (eqb (a .event) KEPT-PART) refl
       where
-        by : (b : Bool) → eqb (a .event) 6 ≡ b → (x : OneState) → feeding d allow s (stateHere r d) .after ≡ lives x → Heeds row × (stateHere row side ≡ x)
+        by : (b : Bool) → eqb (a .event) KEPT-PART ≡ b → (x : OneState) → feeding d allow s (stateHere r d) .after ≡ lives x → Heeds row × (stateHere row side ≡ x)
         by true e = let q = eqb-true (a .event) 6 e in stays-at (take (a .len) (drop (a .start) s)) (part-after (a .event) (a .start) (a .len) (a .used) (a .heads) (a .payload) q) (part-beside q)
         by false e = let q = eqb-false (a .event) 6 e in stays-at [] (plain-after (a .event) (a .start) (a .len) (a .used) (a .heads) (a .payload) n4 n5 q) (side-is [] (none-begun q) none-kept)
 
     -- nothing else comes
     pub on-other : (a .event ≡ QPACK → ⊥) → heard 0 0 0 0 (a .used) (a .heads) 0 row side ≡ want
-    on-other n7 = by (eqb (a .event) 6) refl
+    on-other n7 = by (eqb (a .event) KEPT-PART) refl
       where
-        by : (b : Bool) → eqb (a .event) 6 ≡ b → heard 0 0 0 0 (a .used) (a .heads) 0 row side ≡ want
+        by : (b : Bool) → eqb (a .event) KEPT-PART ≡ b → heard 0 0 0 0 (a .used) (a .heads) 0 row side ≡ want
         by true e = on-part (eqb-true (a .event) 6 e)
         by false e = on-quiet (own-fed .plain (heeds-shape r o) (below-four (a .event) (own-fed .known) n4 n5 (eqb-false (a .event) 6 e) n7))
 
@@ -364,9 +364,9 @@ module _ (r : Record) (o : Heeds r) (d : Side) {c : Cells} (ec : c ≡ cellsIn r
 
   -- it is a control stream
   pub kept-kind : r .kind ≡ CONTROL
-  kept-kind = by (eqb (r .kind) 3) refl
+  kept-kind = by (eqb (r .kind) CONTROL) refl
     where
-      by : (b : Bool) → eqb (r .kind) 3 ≡ b → r .kind ≡ CONTROL
+      by : (b : Bool) → eqb (r .kind) CONTROL ≡ b → r .kind ≡ CONTROL
       by true e = eqb-true (r .kind) 3 e
       by false e = let z = o .sound .fit .shaped .bare-mode (o .kind) (eqb-false (r .kind) 3 e) in absurd (omega (arith, kept-mode))
 

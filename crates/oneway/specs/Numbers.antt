@@ -8,7 +8,7 @@ use lib.ListN.{length, take, drop, getD, set, replicate, length-replicate}
 use lib.Seq.{sets, sets-eq, length-sets, take-suc, take-all, take-append-seam, length-take-le}
 use native.Mathlib.Numerals.{add-one}
 use borrow.Author.Tests.{eq-eqb, ne-eqb}
-use Rattle.rules.specs.Events.{NOTHING, SETTINGS, GOAWAY, MAX-PUSH-ID}
+use Rattle.rules.specs.Events.{NOTHING, KEPT-PART, SETTINGS, GOAWAY, MAX-PUSH-ID}
 use Rattle.rules.specs.Reading.{settings, goaway, max-push-id, cancel-push}
 use Rattle.rules.specs.OneWay.{encoder, decoder}
 use Rattle.record.specs.Kinds.{CONTROL, ENCODER, DECODER}
@@ -186,15 +186,15 @@ module _ (d : Side) where
 
 -- ---- bytes of a piece
 
-pub begun-all : (event len : ℕ) → event ≡ 6 → len < 256 → len ≡ begunIn event len
+pub begun-all : (event len : ℕ) → event ≡ KEPT-PART → len < 256 → len ≡ begunIn event len
 unfolding begunIn
 begun-all event len e h = let x = eq-eqb event 6 e in let m : min len 256 ≡ len = omega arith in rw (x, begunIn) (sym m)
 
-pub begun-most : (event len : ℕ) → event ≡ 6 → 256 ≤ len → 256 ≡ begunIn event len
+pub begun-most : (event len : ℕ) → event ≡ KEPT-PART → 256 ≤ len → 256 ≡ begunIn event len
 unfolding begunIn
 begun-most event len e h = let x = eq-eqb event 6 e in let m : min len 256 ≡ 256 = omega arith in rw (x, begunIn) (sym m)
 
-pub begun-none : (event len : ℕ) → (event ≡ 6 → ⊥) → 0 ≡ begunIn event len
+pub begun-none : (event len : ℕ) → (event ≡ KEPT-PART → ⊥) → 0 ≡ begunIn event len
 unfolding begunIn
 begun-none event len n = let x = ne-eqb event 6 n in rw (x, begunIn) refl
 

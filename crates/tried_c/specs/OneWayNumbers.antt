@@ -29,7 +29,7 @@ wayFaultOr true a r = wayReport (r .len) 0 0 0 (r .used) (r .heads) 0 a
 wayFaultOr false a r = wayReport 0 (r .event) (r .start) (r .len) (r .used) (r .heads) (r .payload) (r .stream)
 
 abbrev pub wayReportOf : OneWay → OneAnswer → WayReport
-wayReportOf a r = wayFaultOr (eqb (r .event) 4) a r
+wayReportOf a r = wayFaultOr (eqb (r .event) FAULT) a r
 
 -- WHAT A FEED REPORTS, of any numbers
 pub record WayReported (a : OneWay) (came : Seen) (s : List ℕ) (allow : ℕ) (r : WayReport) : Type 0 where
@@ -85,11 +85,11 @@ module _ (w : OneWay) where
 module _ (a : OneWay) (r : OneAnswer) where
   pub way-fault : r .event ≡ FAULT → wayReport (r .len) 0 0 0 (r .used) (r .heads) 0 a ≡ wayReportOf a r
   unfolding wayFaultOr
-  way-fault e = let x = eq-eqb (r .event) 4 e in rw (x, wayFaultOr) refl
+  way-fault e = let x = eq-eqb (r .event) FAULT e in rw (x, wayFaultOr) refl
 
   pub way-left : (r .event ≡ FAULT → ⊥) → wayReport 0 (r .event) (r .start) (r .len) (r .used) (r .heads) (r .payload) (r .stream) ≡ wayReportOf a r
   unfolding wayFaultOr
-  way-left n = let x = ne-eqb (r .event) 4 n in rw (x, wayFaultOr) refl
+  way-left n = let x = ne-eqb (r .event) FAULT n in rw (x, wayFaultOr) refl
 
 module _ (a : OneWay) (came : Seen) (s : List ℕ) (allow : ℕ) where
   pub way-unsound : (OneSound a → ⊥) → WayReported a came s allow (wayReport 10 0 0 0 0 0 0 a)

@@ -34,7 +34,7 @@ faultOr true a r = report (r .len) 0 0 0 (r .used) (r .heads) a
 faultOr false a r = report 0 (r .event) (r .start) (r .len) (r .used) (r .heads) (r .cells)
 
 abbrev pub reportOf : Cells → Answer → Report
-reportOf a r = faultOr (eqb (r .event) 4) a r
+reportOf a r = faultOr (eqb (r .event) FAULT) a r
 
 -- a section is due
 abbrev pub IsDue : Cells → Type 0
@@ -93,11 +93,11 @@ module _ (c : Cells) (modes : c .mode ≤ IN-CANCEL-PUSH) (small : c .acc < 2 ^ 
 module _ (a : Cells) (r : Answer) where
   pub report-fault : r .event ≡ FAULT → report (r .len) 0 0 0 (r .used) (r .heads) a ≡ reportOf a r
   unfolding faultOr
-  report-fault e = let x = eq-eqb (r .event) 4 e in rw (x, faultOr) refl
+  report-fault e = let x = eq-eqb (r .event) FAULT e in rw (x, faultOr) refl
 
   pub report-left : (r .event ≡ FAULT → ⊥) → report 0 (r .event) (r .start) (r .len) (r .used) (r .heads) (r .cells) ≡ reportOf a r
   unfolding faultOr
-  report-left n = let x = ne-eqb (r .event) 4 n in rw (x, faultOr) refl
+  report-left n = let x = ne-eqb (r .event) FAULT n in rw (x, faultOr) refl
 
 module _ (a : Cells) (s : List ℕ) (allow : ℕ) {r : Report} where
   pub feed-unsound : (Sane a → ⊥) → r ≡ refused 10 a → Reported a s allow r
