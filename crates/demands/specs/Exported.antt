@@ -12,7 +12,6 @@ use Rattle.rules.specs.Integers.{integer, got}
 use Rattle.rules.specs.Frames.{frame, framesFrom}
 use Rattle.meaning.specs.FrameLaws.{head}
 use Rattle.meaning.specs.IntegerLaws.{Bytes}
-use Rattle.meaning.specs.WriterLaws.{FrameBack}
 use Rattle.rules.specs.Numbers.{OTHER-ROW, Code, of-stream, codeNumber}
 use Rattle.rules.specs.Calls.{feed, section, end, request, one-way, kindOf, find, open′, on, goaway, Answer, call, run, fresh, trace}
 use Rattle.rules.specs.Shown.{View, running, ended, refused, ledger}
@@ -39,7 +38,7 @@ use Rattle.demands.specs.Others as others
 use Rattle.demands.specs.Others.{verdictIn, Opens, Sends}
 use Rattle.demands.specs.Runs.{Seen, seenIn, starts, opens-one, feeds, gives, ends, numberIn, Refuses, does-nothing, goaway-refused, ToldSettings, settings-kept}
 use Rattle.demands.specs.Writes as writes
-use Rattle.demands.specs.Writes.{Ends, EitherAbove, twelve, OpensControl}
+use Rattle.demands.specs.Writes.{BeginsFrame, Ends, EitherAbove, twelve, OpensControl}
 use Rattle.demands.specs.Host.{Run, begun, then-called, shows, meant, leaves, answers, reports, sends, report-number, HandsNothing, AsTheTableSays, refused-so, SaysWhole, whole-seen, seen-whole, WholeAt, whole-at}
 use Rattle.demands.specs.Exports.{CallSays, StartSays, StreamSays, FeedSays, GiveSays, GoawaySays, FrameSays, RoomSays, World, OfStart, of-start, OfOpen, of-open, OfFeed, of-feed, OfGive, of-give, OfEnd, of-end, OfGoaway, of-goaway, Every, every, OfHeader, of-header, OfIntegerFrame, of-integer-frame, OfOpening, of-opening}
 
@@ -265,9 +264,9 @@ HeaderEnds type len room r room′ = (a : Wrote) × (r ≡ writtenOf a) × Ends 
 pub header-ends : (w : World) → OfHeader w HeaderEnds
 header-ends w = of-header w HeaderEnds (λ type len room r room′ m. writes.lent-header-ends type len m)
 
--- an integer frame
+-- an integer frame, whatever is sent behind it
 abbrev pub IntegerFrameRead : FrameSays
-IntegerFrameRead type value room r room′ = r .number ≡ 0 → (bytes : List ℕ) × (r .count ≡ length bytes) × (room′ ≡ bytes ++ drop (r .count) room) × FrameBack 0 type value bytes (drop (r .count) room)
+IntegerFrameRead type value room r room′ = r .number ≡ 0 → BeginsFrame type value (r .count) room room′
 
 pub integer-frame-read : (w : World) → OfIntegerFrame w IntegerFrameRead
 integer-frame-read w = of-integer-frame w IntegerFrameRead (λ type value room r room′ m. writes.lent-integer-frame-read type value m)
@@ -298,9 +297,9 @@ OpeningEnds room r room′ = (a : Wrote) × (r ≡ writtenOf a) × Ends ⊥ 12 r
 pub opening-ends : (w : World) → OfOpening w OpeningEnds
 opening-ends w = of-opening w OpeningEnds (λ room r room′ m. writes.lent-opening-ends m)
 
--- our GOAWAY
+-- our GOAWAY, whatever is sent behind it
 abbrev pub GoawayRead : GoawaySays
-GoawayRead c id room r c′ room′ = r .number ≡ 0 → (bytes : List ℕ) × (r .count ≡ length bytes) × (room′ ≡ bytes ++ drop (r .count) room) × FrameBack 0 7 id bytes (drop (r .count) room)
+GoawayRead c id room r c′ room′ = r .number ≡ 0 → BeginsFrame 7 id (r .count) room room′
 
 pub goaway-read : (w : World) → OfGoaway w GoawayRead
 goaway-read w = of-goaway w GoawayRead (λ c id room r c′ room′ m. writes.goaway-read m)

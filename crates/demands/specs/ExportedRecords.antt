@@ -1,6 +1,6 @@
 -- WHAT EACH CALL LEAVES OF THE HOST'S RECORDS, OF THE EXPORTED FUNCTIONS: a start one content, whatever memory it is lent; a call on a stream one record
--- altered, in its place; and at every moment of a run the connection's record keeps of the client what its notices have reported (Said). Exported says what
--- `Every` is. Assumes nothing.
+-- altered, in its place; and at every moment of a run they mean what the trace leaves, and the connection's record keeps of the client what its notices have
+-- reported (Said). Exported says what `Every` is. Assumes nothing.
 use mathlib.Core.Path.{_≡_, refl, sym, ap, _∙_, subst}
 use Prim.Native.Nat.{ℕ, zero, suc, _<_}
 use native.Mathlib.Decide.{decLt}
@@ -20,7 +20,7 @@ use Rattle.meaning.specs.Machine.{State, in-type, in-length, in-payload, due, O
 use Rattle.meaning.specs.Feed as F
 use Rattle.meaning.specs.OneWayFeed as O
 use Rattle.meaning.specs.OneWayFeed.{OneState, OneEvent, OneOutcome}
-use Rattle.rules.specs.Calls.{feed, section, end, reset, done, Pair, Call, start, open′, on, goaway, gave, same, fresh, call, trace}
+use Rattle.rules.specs.Calls.{feed, section, end, reset, done, Pair, Call, start, open′, on, goaway, gave, same, fresh, call, run, trace}
 use Rattle.record.specs.declared.Record.{Record}
 use Rattle.record.specs.Row.{requestRecord, oneWayRecord, free-record}
 use Rattle.requests.specs.declared.Reply.{Reply}
@@ -47,7 +47,7 @@ use Rattle.connection.specs.Ways.{begun-fresh, swept-free, none-at}
 use Rattle.calls.specs.Promises.{Started, Stepped}
 use Rattle.demands.specs.Streams.{streams}
 use Rattle.demands.specs.Demands.{Calls}
-use Rattle.demands.specs.Means.{reportOf}
+use Rattle.demands.specs.Means.{pairOf, reportOf}
 use Rattle.demands.specs.Runs.{Seen, a-written, Does, starts, opens-one, feeds, gives, ends, resets, goes-away, numberIn, start-nine, fault-alters, SettingsAre}
 use Rattle.demands.specs.Host.{Run, then-called, meant}
 use Rattle.demands.specs.InMemory.{IsStreamFault, turned-freed, stream-fault}
@@ -79,7 +79,7 @@ pub record FirstOf (id : ℕ) (rows : List Record) (at : ℕ) : Type 0 where
 abbrev pub HoldsState : (id : ℕ) → Record → Type 0
 HoldsState id x = ((s : State Message) × (x ≡ requestRecord id s)) ⊎ ((s : OneState) × (x ≡ oneWayRecord id s))
 
--- the stream's record holds a state of the stream (which one: Reads, over runs), every other is as it was and where it was
+-- the stream's record holds a state of the stream (which one: leaves-as-traced, over runs), every other is as it was and where it was
 abbrev pub Alters : (id : ℕ) (rows rows′ : List Record) → Type 0
 Alters id rows rows′ = (at : ℕ) × FirstOf id rows at × ((x : Record) × HoldsState id x × (rows′ ≡ set rows at x))
 
@@ -369,6 +369,14 @@ keeps-code (goes-away m) l z = absurd l
 
 pub fault-keeps-code : (w : World) → Every w KeepsCode
 fault-keeps-code w = every w KeepsCode (λ c rows k x c′ rows′ m. keeps-code m)
+
+-- ---- WHAT IS LEFT MEANS WHAT THE TRACE LEAVES, after every call of a run: the state of each stream (of a request its stated length and its sum too), and the
+-- connection
+abbrev pub LeavesAsTraced : CallSays
+LeavesAsTraced c rows k x c′ rows′ = (ks : Calls) (xs : List Seen) → Run ks xs c rows → pairOf c′ rows′ ≡ run fresh (ks ++ (k ∷ []))
+
+pub leaves-as-traced : (w : World) → Every w LeavesAsTraced
+leaves-as-traced w = every w LeavesAsTraced (λ c rows k x c′ rows′ m ks xs r. meant (then-called r m) .holds)
 
 -- ---- WHAT THE CONNECTION'S RECORD KEEPS OF THE CLIENT
 

@@ -34,7 +34,7 @@ use Rattle.demands.specs.Demands.{end-exactly, two-traces, demand-3, hal
 use Rattle.demands.specs.Others.{dead-stays, Opens, opens-exactly, Sends, sends-exactly}
 use Rattle.demands.specs.Writes.{header-read}
 use Rattle.demands.specs.Only.{EndsWhole, whole-only}
-use Rattle.demands.specs.Uploads.{Uploads, StatesAll, upload-whole}
+use Rattle.demands.specs.Uploads.{Uploads, StatesAll, upload-whole, upload-once}
 
 abbrev Calls : Type 0
 Calls = List (Call streams)
@@ -139,11 +139,18 @@ pub three-bytes : length (view 0 (trace fresh uploaded) .shown .content) ≡ 3
 unfolding shows uploaded block
 three-bytes = half-an-upload 0 refl uploaded 3 refl refl
 
--- demand 3 at document 01's own pair
-pub the-pair : let v = view 0 (trace fresh uploaded) .shown in let w = view 0 (trace fresh with-more) .shown in
+-- demand 3 at document 01's own pair; and as an upload's, which has to state its length (document 02, Q-1)
+abbrev pub OneUpload : Type 0
+OneUpload = let v = view 0 (trace fresh uploaded) .shown in let w = view 0 (trace fresh with-more) .shown in
     (headerOf (v .bytes) (v .sections) ≡ headerOf (w .bytes) (w .sections)) × (v .content ≡ w .content) × Added (v .bytes) behind-it (w .sections)
+
+pub the-pair : OneUpload
 unfolding shows uploaded with-more block
 the-pair = demand-3 0 0 refl refl uploaded with-more 3 behind-it refl refl refl refl refl
+
+pub the-pair-once : OneUpload
+unfolding shows uploaded with-more block firstOf Uploads
+the-pair-once = upload-once 0 0 refl refl uploaded with-more behind-it refl refl refl refl refl
 
 -- in other pieces: the same content, section bytes and headers, and the same fate
 pub the-same : let v = view 0 (trace fresh uploaded) in let w = view 0 (trace fresh cut-up) in SameOutput (v .shown) (w .shown) × (v .fate ≡ w .fate)

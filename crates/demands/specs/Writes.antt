@@ -189,6 +189,13 @@ module _ (room type v : ℕ) {before after : List ℕ} {n : ℕ} where
 
 -- ---- read back, from the room itself
 
+-- the room begins with n bytes that are one frame of this type, its payload this integer and nothing else, WHATEVER FOLLOWS THEM; the rest of the room is as it was
+abbrev pub BeginsFrame : (type v n : ℕ) (before after : List ℕ) → Type 0
+BeginsFrame type v n before after = (bytes : List ℕ) × (n ≡ length bytes) × (after ≡ bytes ++ drop n before) × ((rest : List ℕ) → FrameBack 0 type v bytes rest)
+
+begins-frame : (room type v : ℕ) {before after : List ℕ} {n : ℕ} → Put (write-integer-frame room type v) before after n → BeginsFrame type v n before after
+begins-frame room type v p = (p .bytes, p .count, p .leaves, λ rest. integer-frame-back room type v 0 (p .bytes) rest (p .is))
+
 module _ {before after : List ℕ} {n : ℕ} where
   -- ONE INTEGER
   pub integer-read : (v : ℕ) → Meets (write-integer (length before) v) before (Count n) after → integer 0 after ≡ got v n (drop n before)
@@ -222,11 +229,9 @@ module _ {before after : List ℕ} {n : ℕ} where
       let l = header-least type len (p .bytes) (into-some (length before) (header-bytes type len) (p .is)) b (begun bs e) in
       omega (arith, p .count)
 
-  -- AN INTEGER FRAME: of that type, its payload the integer and nothing else
-  pub integer-frame-read : (type v : ℕ) → Meets (write-integer-frame (length before) type v) before (Count n) after → (bytes : List ℕ) × (n ≡ length bytes) × (after ≡ bytes ++ drop n before) × FrameBack 0 type v bytes (drop n before)
-  integer-frame-read type v m =
-      let p = was-put (write-integer-frame (length before) type v) m in
-      (p .bytes, p .count, p .leaves, integer-frame-back (length before) type v 0 (p .bytes) (drop n before) (p .is))
+  -- AN INTEGER FRAME
+  pub integer-frame-read : (type v : ℕ) → Meets (write-integer-frame (length before) type v) before (Count n) after → BeginsFrame type v n before after
+  integer-frame-read type v m = begins-frame (length before) type v (was-put (write-integer-frame (length before) type v) m)
 
   -- IN THE SHORTEST FORM: no bytes that begin a frame of this type with this integer have fewer up to the integer's end
   pub integer-frame-shortest : (type v : ℕ) → Meets (write-integer-frame (length before) type v) before (Count n) after → {bs : List ℕ} {from len : ℕ} {payload : List ℕ} → Bytes bs
@@ -436,7 +441,7 @@ module _ {before after : List ℕ} {r : Written} where
     pub lent-integer-frame : r .number ≡ 0 → Meets (write-integer-frame (length before) type v) before (Count (r .count)) after
     lent-integer-frame = lent-meets (write-integer-frame (length before) type v) (integer-frame-ends type v) m
 
-    pub lent-integer-frame-read : r .number ≡ 0 → (bytes : List ℕ) × (r .count ≡ length bytes) × (after ≡ bytes ++ drop (r .count) before) × FrameBack 0 type v bytes (drop (r .count) before)
+    pub lent-integer-frame-read : r .number ≡ 0 → BeginsFrame type v (r .count) before after
     lent-integer-frame-read z = integer-frame-read type v (lent-integer-frame z)
 
     pub lent-integer-frame-shortest : r .number ≡ 0 → {bs : List ℕ} {from len : ℕ} {payload : List ℕ} → Bytes bs
@@ -508,8 +513,8 @@ module _ {c c′ : Connection} {id : ℕ} {before after : List ℕ} {w : Written
       rw k (sent-by (doorsIn c) id before after (c .doors .code) g (s .goes .sends .answers) (s .goes .sends .leaves) n)
 
   -- OUR GOAWAY: accepted, the room begins with one frame of type 7 that holds this ID and nothing else
-  pub goaway-read : (bytes : List ℕ) × (w .count ≡ length bytes) × (after ≡ bytes ++ drop (w .count) before) × FrameBack 0 7 id bytes (drop (w .count) before)
-  goaway-read = let p = goaway-put in (p .bytes, p .count, p .leaves, integer-frame-back (length before) 7 id 0 (p .bytes) (drop (w .count) before) (p .is))
+  pub goaway-read : BeginsFrame 7 id (w .count) before after
+  goaway-read = begins-frame (length before) 7 id goaway-put
 
   -- IN THE SHORTEST FORM: no bytes that begin a frame of type 7 with this ID have fewer up to the ID's end
   pub goaway-shortest : {bs : List ℕ} {from len : ℕ} {payload : List ℕ} → Bytes bs → firstOf (framesFrom 0 bs) ≡ some (head 0 from 7 len, payload) → {next : ℕ} {rest : List ℕ} → integer 0 payload ≡ got id next rest

@@ -1,28 +1,41 @@
--- WRONG REPORTS: a report that is refused, at a run, by what the theorems say of the exported functions (ExportedStops, ExportedAnswers). Assumes nothing.
-use mathlib.Core.Path.{_≡_, refl, ap}
+-- WRONG REPORTS, and wrong memory left: what is refused, at a run, by what the theorems say of the exported functions (ExportedStops, ExportedAnswers,
+-- ExportedRecords, Exported). Assumes nothing.
+use mathlib.Core.Path.{_≡_, refl, sym, ap, subst, _∙_}
 use Prim.Native.Nat.{ℕ, _≤_}
 use native.Mathlib.Omega.{arith}
 use mathlib.Core.List.{List, [], _∷_}
 use mathlib.Core.Bool.{true, false}
-use mathlib.Core.Option.{some}
-use lib.ListN.{length}
+use mathlib.Core.Option.{Option, some}
+use lib.ListN.{length, take}
+use lib.Seq.{take-at}
 use Rattle.rules.specs.Numbers.{FRAME-UNEXPECTED, frame-unexpected}
-use Rattle.rules.specs.Calls.{qpack-bytes, settings, client-goaway, max-push-id, Event, quiet, section-bytes, content-bytes, notice, fed, feed, section, reset, request, one-way, kindOf, open′, on, gave}
+use Rattle.rules.specs.Integers.{extra, more, integer}
+use Rattle.rules.specs.Frames.{Frames, Frames.none as no-more, Frames.frame as a-frame, in-payload, framesUpTo, framesFrom}
+use Rattle.rules.specs.Message.{body}
+use Rattle.rules.specs.Calls.{qpack-bytes, settings, client-goaway, max-push-id, Event, quiet, section-bytes, content-bytes, notice, fed, feed, section, reset, request, one-way, kindOf, asking, Stream, find, open′, on, gave}
 use Rattle.rules.specs.Shown.{running, ledger, ledgerFrom, noted, dies, opens, counts, blank}
+use Rattle.meaning.specs.Machine.{between}
+use Rattle.meaning.specs.FrameLaws.{head}
+use Rattle.meaning.specs.WriterLaws.{FrameBack}
 use Rattle.record.specs.declared.Record.{Record}
+use Rattle.record.specs.Row.{requestRecord}
+use Rattle.requests.specs.Opens.{state-back}
 use Rattle.connection.specs.declared.Connection.{Connection}
 use Rattle.connection.specs.declared.Report.{Report}
 use Rattle.connection.specs.Faults.{withCode}
 use Rattle.connection.specs.Turned.{numbered}
+use Rattle.demands.specs.Streams.{streams}
 use Rattle.demands.specs.Demands.{Calls}
-use Rattle.demands.specs.Means.{noticed, reported, reportOf}
+use Rattle.demands.specs.Means.{slotAt, noticed, reported, reportOf}
 use Rattle.demands.specs.Runs.{Seen}
 use Rattle.demands.specs.Host.{Run}
 use Rattle.demands.specs.Host as host
-use Rattle.demands.specs.Instances.{shows, block}
+use Rattle.demands.specs.Instances.{shows, block, headed}
 use Rattle.demands.specs.RunInMemory.{one-open, one-spent, frame, opened-run, dead-run}
 use Rattle.demands.specs.ExportedStops.{RequestStops, OneWayStops}
+use Rattle.demands.specs.Exported.{GoawayRead}
 use Rattle.demands.specs.ExportedAnswers.{FeedAnswered, ResetAnswered}
+use Rattle.demands.specs.ExportedRecords.{LeavesAsTraced}
 
 -- ---- SEVEN ZEROS to a feed that is given a byte and an allowance of 1 or more
 
@@ -67,3 +80,23 @@ reset-as-one c′ rows′ p = let z = ap (λ r. r .event) (p _ _ opened-run .on-
 pub dead-as-zero : (piece : List ℕ) (allow : ℕ) (r : Report) (c′ : Connection) (rows′ : List Record) → r .number ≡ 0 → ¬ (FeedAnswered (withCode FRAME-UNEXPECTED one-spent) one-open 0 piece allow r c′ rows′)
 unfolding shows ledger ledgerFrom noted dies opens counts blank reportOf
 dead-as-zero piece allow r c′ rows′ e p = let z = ap (λ r. r .number) (p _ _ dead-run .on-dead frame-unexpected refl) in omega arith
+
+-- ---- A RECORD LEFT WITH ANOTHER LENGTH than the 3 that the section behind HEADERS has stated, in any run of these calls
+pub states-another : {xs : List Seen} {c : Connection} {rows : List Record} → Run headed xs c rows → (x : Seen) (c′ : Connection) (rest : List Record) (n : ℕ) → ¬ (n ≡ 3)
+    → ¬ (LeavesAsTraced c rows (on 0 (section block)) x c′ (requestRecord 0 (between (body (some n) 0)) ∷ rest))
+unfolding shows block headed slotAt
+states-another {xs} s x c′ rest n other p =
+    let held = ap (λ y. some (asking y)) (sym (state-back 0 (between (body (some n) 0)) tt)) in
+    let e : _≡_ {A = Option (Stream streams)} (some (asking (between (body (some n) 0)))) (some (asking (between (body (some 3) 0)))) = held ∙ ap (λ q. find 0 (q .row)) (p headed xs s) in
+    other cc
+
+-- ---- OUR GOAWAY OF ID 0 left as 40 07 01, a header alone: its payload would be the 00 that lay behind it in the room
+pub header-as-goaway : (c c′ : Connection) → ¬ (GoawayRead c 0 (0xAA ∷ 0xAA ∷ 0xAA ∷ 0x00 ∷ 0xC0 ∷ []) (record { number = 0; count = 3 }) c′ (0x40 ∷ 0x07 ∷ 0x01 ∷ 0x00 ∷ 0xC0 ∷ []))
+unfolding framesFrom framesUpTo integer more extra
+header-as-goaway c c′ p =
+    let f = p refl in
+    let same : f .0 ≡ 0x40 ∷ 0x07 ∷ 0x01 ∷ [] = sym (take-at (f .0) (0x00 ∷ 0xC0 ∷ []) 3 (sym (f .1))) ∙ sym (ap (take 3) (f .2)) in
+    let back = subst (λ bytes. FrameBack 0 7 0 bytes []) same (f .3 []) in
+    let e : in-payload (head 0 3 7 1) [] ≡ a-frame (head 0 (back .from) 7 (length (back .payload))) (back .payload) no-more = back .reads in
+    let z : _≡_ {A = ℕ} 0 1 = cc in
+    omega arith
