@@ -1,4 +1,4 @@
--- WRONG REPORTS, and wrong memory left: what is refused, at a run, by what the theorems say of the exported functions (ExportedStops, ExportedAnswers,
+-- WRONG REPORTS, and wrong memory left: what is refused, at a run (the bytes of a write: in any), by what the theorems say of the exported functions (ExportedStops, ExportedAnswers,
 -- ExportedRecords, Exported). Assumes nothing.
 use mathlib.Core.Path.{_≡_, refl, sym, ap, subst, _∙_}
 use Prim.Native.Nat.{ℕ, _≤_}
