@@ -36,6 +36,8 @@ pub mod SecondOfType
 pub mod OneWayInstances
 pub mod WrongOneWays
 pub mod Exported
+pub mod FeedReports
+pub mod ExportedAnswers
 pub mod Allowed
 pub mod Events
 pub mod WrongEvents
@@ -51,3 +53,4 @@ pub mod RunInMemory
 pub mod Stops
 pub mod ExportedStops
 pub mod WrongStops
+pub mod WrongReports

@@ -29,7 +29,7 @@ use Rattle.demands.specs.Streams.{isReadable, streams}
 use Rattle.demands.specs.Reading.{reading}
 use Rattle.demands.specs.Reads.{reads}
 use Rattle.demands.specs.Moves.{alone}
-use Rattle.demands.specs.OneWayReads.{faultBy, codeFor, closes-reached}
+use Rattle.demands.specs.OneWayReads.{faultBy, codeFor, closes-reached, closeAnswer}
 use Rattle.demands.specs.Parts.{never-waits}
 use Rattle.demands.specs.Demands.{end-exactly}
 use Rattle.demands.specs.Only.{shut}
@@ -287,11 +287,6 @@ answers-exactly id q cs o = by (ledger (trace fresh cs) .dead) refl
     by (some k) e = let z = dead-stays cs (on id o) k tt e in rw z (is-dead e)
 
 -- ---- a call on a one-way stream
-
--- an end or a reset: accepted, or the fault that the bytes make of it
-unfoldable pub closeAnswer : Option Code → Answer
-closeAnswer none = left freed
-closeAnswer (some k) = code k 0 0
 
 -- the code of a dead connection; 1; a feed is never turned away; section, 5; end and reset, as the bytes say
 pub data Answers₁ (l : Ledger) (v : View streams) : Own streams → Answer → Type 0 where

@@ -9,8 +9,8 @@ use lib.ListN.{length, replicate, set}
 use Rattle.rules.specs.Text.{lookup}
 use Rattle.rules.specs.Integers.{extra}
 use Rattle.rules.specs.Reading.{ended}
-use Rattle.rules.specs.Message.{Message, opening, ends}
-use Rattle.rules.specs.Request.{column, kindOf, codeOf, ruleFor, rule, end-of}
+use Rattle.rules.specs.Message.{Message, opening, carries, ends}
+use Rattle.rules.specs.Request.{column, kindOf, codeOf, data-rule, ruleFor, rule, end-of}
 use Rattle.rules.specs.Numbers.{request-incomplete, REQUEST-INCOMPLETE, FRAME-UNEXPECTED, numberOf, rows as answers-of, namedIn, named, houseLeaves, leaves}
 use Rattle.meaning.specs.Machine.{State, between, after, fed, typed, with-left, finish}
 use Rattle.meaning.specs.Machine as machine
@@ -43,10 +43,10 @@ all-free = replicate 24 free-record
 abbrev asking : Record
 asking = requestRecord 0 (between opening)
 
-abbrev one-open : List Record
+abbrev pub one-open : List Record
 one-open = set all-free 0 asking
 
-abbrev one-spent : Connection
+abbrev pub one-spent : Connection
 one-spent = withDoors fresh-connection (record { code = 0; requests = 4; oneways = 2; goaways = 0; goaway = stream-id 0 })
 
 abbrev at-first : Record → Found
@@ -87,7 +87,7 @@ nine-so = ends-one (record {
 })
 
 -- a frame of unknown type, empty
-abbrev frame : List ℕ
+abbrev pub frame : List ℕ
 frame = 0x21 ∷ 0x00 ∷ []
 
 frame-read : replied one-spent (requestAs 1 1 frame asking (between opening)) ≡ turn one-spent asking (told 0 0 0 0 2 1 0)
@@ -102,6 +102,27 @@ fed-so = feeds (record {
   is-found = record { long = refl; within = omega arith; before = λ j l. absurd (omega arith); there = λ l. record { taken = λ e. omega arith; own = refl }; row = refl };
   turned = request (record { long = refl; alive = refl }) (λ e. omega arith) (omega arith) (begins-open 0 (omega arith) refl)
       (sym (ap (λ s. replied one-spent (requestAs 1 1 frame asking s)) (begins-fresh 0) ∙ frame-read)) (λ e. inl (begins-open 0 (omega arith) refl));
+  conn-left = refl;
+  rows-left = refl;
+  answered = refl;
+})
+
+-- DATA where the header section should be
+abbrev pub early-data : List ℕ
+early-data = 0x00 ∷ 0x00 ∷ []
+
+early-read : replied one-spent (requestAs 1 1 early-data asking (between opening)) ≡ turn (withCode FRAME-UNEXPECTED one-spent) asking (told FRAME-UNEXPECTED 0 0 0 2 1 0)
+unfolding lookup extra column kindOf ruleFor rule numberOf answers-of namedIn named leaves after fed typed machine.over with-left F.halt F.also F.onward F.over-event F.left-event F.behind-header F.feed saidBy unlessDue keeps keptIf frees freedIf byCall data-rule carries codeOf
+early-read = refl
+
+died-so : Does one-spent one-open (on 0 (feed 1 early-data)) (a-report (told FRAME-UNEXPECTED 0 0 0 2 1 0)) (withCode FRAME-UNEXPECTED one-spent) one-open
+unfolding Wanted
+died-so = feeds (record {
+  found = at-first asking;
+  turn = turn (withCode FRAME-UNEXPECTED one-spent) asking (told FRAME-UNEXPECTED 0 0 0 2 1 0);
+  is-found = record { long = refl; within = omega arith; before = λ j l. absurd (omega arith); there = λ l. record { taken = λ e. omega arith; own = refl }; row = refl };
+  turned = request (record { long = refl; alive = refl }) (λ e. omega arith) (omega arith) (begins-open 0 (omega arith) refl)
+      (sym (ap (λ s. replied one-spent (requestAs 1 1 early-data asking s)) (begins-fresh 0) ∙ early-read)) (λ e. inl (begins-open 0 (omega arith) refl));
   conn-left = refl;
   rows-left = refl;
   answered = refl;
@@ -124,7 +145,14 @@ ended-so = ends-one (record {
   answered = refl;
 })
 
--- ---- the run
+-- ---- the runs
+
+-- a stream is open; and behind a connection fault
+pub opened-run : Run (open′ 0 ∷ []) (a-report (numbered 0) ∷ []) one-spent one-open
+opened-run = then-called begun-so opened-so
+
+pub dead-run : Run (open′ 0 ∷ on 0 (feed 1 early-data) ∷ []) (a-report (numbered 0) ∷ a-report (told FRAME-UNEXPECTED 0 0 0 2 1 0) ∷ []) (withCode FRAME-UNEXPECTED one-spent) one-open
+dead-run = then-called opened-run died-so
 
 abbrev pub calls : List (Call streams)
 calls = open′ 0 ∷ on 0 (feed 1 frame) ∷ on 0 end ∷ []
@@ -134,7 +162,7 @@ reports = a-report (numbered 0) ∷ a-report (told 0 0 0 0 2 1 0) ∷ a-report (
 
 -- the call that was answered 9 has left no mark, and the record is free again
 pub the-run : Run calls reports one-spent all-free
-the-run = run-between (goes-on (goes-on (with-other (begins (then-called begun-so opened-so)) tt (λ e. omega arith) nine-so) fed-so) ended-so)
+the-run = run-between (goes-on (goes-on (with-other (begins opened-run) tt (λ e. omega arith) nine-so) fed-so) ended-so)
 
 -- it is the trace of the same calls
 pub it-is-the-trace : reports ≡ map seenIn (trace fresh calls)

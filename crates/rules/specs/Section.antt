@@ -1,4 +1,4 @@
--- Header sections and trailers (document 01, "Requests"): checks in document 01's order, of which the first broken one is the reason.
+-- Header sections and trailers (document 01, "Requests"; document 02, Q-1): checks in document 01's order, of which the first broken one is the reason.
 -- Assumes nothing.
 use Prim.Native.Nat.{ℕ, _+_, _-_, _*_}
 use mathlib.Core.List.{List, [], _∷_}
@@ -118,6 +118,7 @@ pub data Reason : Type 0 where
   bad-path : Reason
   no-authority empty-authority authorities-differ at-in-authority : Reason
   length-past-limit : Reason
+  no-length : Reason
 
 pub record Check : Type 0 where
   pub reason : Reason
@@ -222,6 +223,19 @@ length-limit = 1_048_576
 unfoldable pub length-check : Check
 length-check = check length-past-limit (λ s. holds (λ v. ltb length-limit (decimal v)) (valueOf content-length s))
 
+-- an upload states its length (document 02, Q-1)
+unfoldable pub uploads : List (List ℕ)
+uploads = ascii "PUT" ∷ ascii "POST" ∷ ascii "PATCH" ∷ []
+
+unfoldable pub isUpload : (method : List ℕ) → Bool
+isUpload method = any (same method) uploads
+
+unfoldable pub uploading : Section → Bool
+uploading s = holds isUpload (valueOf :method s)
+
+unfoldable pub upload-check : Check
+upload-check = check no-length (λ s. uploading s && not (has content-length s))
+
 -- ---- the order
 
 unfoldable pub header-checks : List Check
@@ -239,6 +253,7 @@ header-checks =
     ∷ path-check
     ∷ authority-check ∷ empty-check ∷ differ-check ∷ at-check
     ∷ length-check
+    ∷ upload-check
     ∷ []
 
 -- (in trailers a pseudo-field and Content-Length are refused in any case; the checks of them before and behind give the reason)
@@ -282,6 +297,7 @@ fateOf empty-authority = malformed
 fateOf authorities-differ = malformed
 fateOf at-in-authority = malformed
 fateOf length-past-limit = unserved
+fateOf no-length = unserved
 
 abbrev pub fateCode : Fate → Code
 fateCode malformed = of-stream message-error

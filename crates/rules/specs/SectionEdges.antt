@@ -8,7 +8,7 @@ use mathlib.Core.Option.{none, some}
 use Prim.Native.String.{String}
 use Rattle.rules.specs.Text.{ascii, nibble, hexFrom, hex}
 use Rattle.rules.specs.Block.{Line, Section}
-use Rattle.rules.specs.Section.{too-large, bad-bytes, size-limit, length-limit, size}
+use Rattle.rules.specs.Section.{too-large, bad-bytes, other-scheme, at-in-authority, length-past-limit, no-length, size-limit, length-limit, size}
 use Rattle.rules.specs.Request.{document, Header, Header.bad as bad-header, Header.good as good-header, Trailer, Trailer.bad as bad-trailer, Trailer.good as good-trailer}
 use Rattle.rules.specs.Numbers.{numberOf, rows, namedIn, named, codeIn, coded}
 use Rattle.rules.specs.Worked.{header-section, trailers, header-reason, trailer-reason, header-is, trailer-is, reason-is, Worked, answer, Holds, asks, long}
@@ -424,6 +424,58 @@ pub header-order : Holds (
     )
 unfolding answer hex hexFrom nibble ascii numberOf rows namedIn named codeIn coded size-limit size
 header-order = refl
+
+-- ---- an upload states its length (document 02, Q-1)
+
+abbrev sending : (method : String) → Section
+sending method = asking method "https" "a" "/"
+
+abbrev sending-with : (method : String) → Section → Section
+sending-with method more = sending method ++ more
+
+-- the exact bytes: any other method needs none
+abbrev beside-uploads : List Section
+beside-uploads =
+    map sending
+    ("put" ∷ "Put" ∷ "PU" ∷ "PUTX" ∷ "POS" ∷ "POSTS" ∷ "Post" ∷ "PATC" ∷ "PATCHES" ∷ "patch" ∷ "GET" ∷ "HEAD" ∷ "DELETE" ∷ "OPTIONS" ∷ [])
+
+-- no line of that name
+abbrev unstated : List Section
+unstated =
+    map sending ("PUT" ∷ "POST" ∷ "PATCH" ∷ [])
+    ++ (sending-with "PUT" ("content-lengt" ⇒ "3" ∷ "content-lengths" ⇒ "3" ∷ "length" ⇒ "3" ∷ [])
+    ∷ sending-with "POST" ("te" ⇒ "trailers" ∷ "host" ⇒ "a" ∷ [])
+    ∷ (bare "PATCH" "http" "/" ++ ("host" ⇒ "u@a" ∷ []))
+    ∷ [])
+
+pub uploads-judged : Holds (
+    header-sections (good-header none) beside-uploads
+    ++ header-sections (good-header (some 0)) (map (λ m. sending-with m ("content-length" ⇒ "0" ∷ [])) ("PUT" ∷ "POST" ∷ "PATCH" ∷ []))
+    ++ header-sections (good-header (some length-limit)) (sending-with "PUT" ("content-length" ⇒ "1048576" ∷ []) ∷ [])
+    ++ header-sections (bad-header (coded 0x010b)) unstated
+    -- each other fault of the section comes first
+    ++ header-sections (bad-header (coded 0x010e)) (map (sending-with "PUT") malformed)
+    ++ header-sections (bad-header (coded 0x010e)) (
+    asking "PUT" "https" "u@a" "/"
+    ∷ asking "POST" "https" "a" "x"
+    ∷ asking "PATCH" "https" "a" "*"
+    ∷ bare "PUT" "https" "/"
+    ∷ sending-with "POST" ("host" ⇒ "b" ∷ [])
+    ∷ (":method" ⇒ "PUT" ∷ [])
+    ∷ []
+    )
+    ++ (
+    asks (header-reason (sending "PUT")) (reason-is (some no-length))
+    ∷ asks (header-reason (asking "PUT" "ftp" "a" "/")) (reason-is (some other-scheme))
+    ∷ asks (header-reason (asking "PUT" "https" "u@a" "/")) (reason-is (some at-in-authority))
+    ∷ asks (header-reason (sending-with "PUT" ("content-length" ⇒ "1048577" ∷ []))) (reason-is (some length-past-limit))
+    ∷ []
+    )
+    )
+unfolding answer hex hexFrom nibble ascii numberOf rows namedIn named codeIn coded length-limit
+uploads-judged = refl
+
+-- ---- trailers
 
 abbrev sound-trailers : List Section
 sound-trailers =

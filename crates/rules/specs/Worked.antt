@@ -105,7 +105,7 @@ those test (ℕ.suc n) b = elim (test b) [ true ↦ b ∷ those test n (ℕ.suc 
 
 -- THE RULES' ANSWER
 unfoldable pub answer : Question → Answer
-unfolding ascii nibble hexFrom hex between isOneOf lookup any all same more extra integer rows low inRow inFirst written largest little fields record-of before linesFrom lines isDigit isCapital isSmall isMark isToken isName isValue isBlank S.isEmpty S.begins S.ends S.named S.lineWith S.has S.repeated S.valueOf S.holds S.decimalFrom S.decimal S.pseudo-fields S.connection-fields S.isPseudo S.lineSize S.size S.size-limit S.size-check S.badName S.badValue S.bytes-check S.unknown-check S.repeated-check S.pseudoBehindPlain S.late-check S.in-trailers-check S.connection-check S.te-check S.method-check S.no-method-check S.repeated-length-check S.length-in-trailers-check S.digits-check S.length-above-check S.repeated-host-check S.connect-check S.present-check S.scheme-check S.goodPath S.path-check S.authority-check S.empty-check S.differ-check S.at-check S.length-limit S.length-check S.header-checks S.trailer-checks S.fateOf S.codeOf S.firstBroken S.unless S.methodOf S.statedIn S.header-section S.trailers framesUpTo framesFrom put told ended left-by completed judge readFrom read contents content-limit heads sum-to carries trails tally ends R.header-by R.trailer-by R.document R.all-sound R.column R.kindOf R.codeOf R.headers-limit R.within-limit R.data-rule R.headers-rule R.ruleFor R.rule R.next-of R.headed-by R.trailed-by R.given R.end-of C.no-settings C.set-to C.reserved-identifiers C.pairs C.settings-of C.settings-limit C.column C.ruleFor C.first-rule C.rule C.only C.above C.below C.after-goaway C.after-max-push C.after-integer C.after-settings C.judged C.settings-in C.id-in C.tells once typeRule typed behind-type oneWay faultIn closed numberOf number-rows namedIn named severity houseLeaves leaves into both write-integer header-bytes write-header integer-frame write-integer-frame opening write-opening isHigher badGoaway write-goaway sectionBytes headerBytes accepted sectionsFor request-answer verdict-alone tellings said-by those
+unfolding ascii nibble hexFrom hex between isOneOf lookup any all same more extra integer rows low inRow inFirst written largest little fields record-of before linesFrom lines isDigit isCapital isSmall isMark isToken isName isValue isBlank S.isEmpty S.begins S.ends S.named S.lineWith S.has S.repeated S.valueOf S.holds S.decimalFrom S.decimal S.pseudo-fields S.connection-fields S.isPseudo S.lineSize S.size S.size-limit S.size-check S.badName S.badValue S.bytes-check S.unknown-check S.repeated-check S.pseudoBehindPlain S.late-check S.in-trailers-check S.connection-check S.te-check S.method-check S.no-method-check S.repeated-length-check S.length-in-trailers-check S.digits-check S.length-above-check S.repeated-host-check S.connect-check S.present-check S.scheme-check S.goodPath S.path-check S.authority-check S.empty-check S.differ-check S.at-check S.length-limit S.length-check S.uploads S.isUpload S.uploading S.upload-check S.header-checks S.trailer-checks S.fateOf S.codeOf S.firstBroken S.unless S.methodOf S.statedIn S.header-section S.trailers framesUpTo framesFrom put told ended left-by completed judge readFrom read contents content-limit heads sum-to carries trails tally ends R.header-by R.trailer-by R.document R.all-sound R.column R.kindOf R.codeOf R.headers-limit R.within-limit R.data-rule R.headers-rule R.ruleFor R.rule R.next-of R.headed-by R.trailed-by R.given R.end-of C.no-settings C.set-to C.reserved-identifiers C.pairs C.settings-of C.settings-limit C.column C.ruleFor C.first-rule C.rule C.only C.above C.below C.after-goaway C.after-max-push C.after-integer C.after-settings C.judged C.settings-in C.id-in C.tells once typeRule typed behind-type oneWay faultIn closed numberOf number-rows namedIn named severity houseLeaves leaves into both write-integer header-bytes write-header integer-frame write-integer-frame opening write-opening isHigher badGoaway write-goaway sectionBytes headerBytes accepted sectionsFor request-answer verdict-alone tellings said-by those
 answer (reads bytes) = read-as (integer 0 bytes)
 answer (writes room value) = written-as (write-integer room value)
 answer (writes-header room type len) = written-as (write-header room type len)

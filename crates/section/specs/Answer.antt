@@ -9,10 +9,10 @@ use Rattle.rules.specs.Text.{ascii}
 use Rattle.rules.specs.Block.{Line, Section, Lines, readable}
 use Rattle.rules.specs.Block as block
 use Rattle.rules.specs.Section as rules
-use Rattle.rules.specs.Section.{Judgement, refused, sound, Head, named, valueOf, methodOf, statedIn, header-section, Fate, malformed, unserved, fateOf, fateCode, codeOf, size-check, bytes-check, unknown-check, repeated-check, late-check, in-trailers-check, connection-check, te-check, method-check, no-method-check, repeated-length-check, length-in-trailers-check, digits-check, length-above-check, repeated-host-check, connect-check, present-check, scheme-check, path-check, authority-check, empty-check, differ-check, at-check, length-check}
+use Rattle.rules.specs.Section.{Judgement, refused, sound, Head, named, valueOf, methodOf, statedIn, header-section, Fate, malformed, unserved, fateOf, fateCode, codeOf, size-check, bytes-check, unknown-check, repeated-check, late-check, in-trailers-check, connection-check, te-check, method-check, no-method-check, repeated-length-check, length-in-trailers-check, digits-check, length-above-check, repeated-host-check, connect-check, present-check, scheme-check, path-check, authority-check, empty-check, differ-check, at-check, length-check, upload-check}
 use Rattle.fields.specs.Walk.{part}
 use Rattle.section.specs.declared.Reason.{Reason}
-use Rattle.section.specs.declared.Reason.the-variants.{TooLarge, BadBytes, UnknownPseudo, RepeatedPseudo, LatePseudo, PseudoInTrailers, ConnectionField, OtherTe, BadMethod, NoMethod, RepeatedLength, LengthInTrailers, NoDigits, LengthAbove, RepeatedHost, Connect, NoSchemeOrPath, OtherScheme, BadPath, NoAuthority, EmptyAuthority, AuthoritiesDiffer, AtInAuthority, LengthPastLimit}
+use Rattle.section.specs.declared.Reason.the-variants.{TooLarge, BadBytes, UnknownPseudo, RepeatedPseudo, LatePseudo, PseudoInTrailers, ConnectionField, OtherTe, BadMethod, NoMethod, RepeatedLength, LengthInTrailers, NoDigits, LengthAbove, RepeatedHost, Connect, NoSchemeOrPath, OtherScheme, BadPath, NoAuthority, EmptyAuthority, AuthoritiesDiffer, AtInAuthority, LengthPastLimit, NoLength}
 use Rattle.section.specs.declared.Stated.{Stated}
 use Rattle.section.specs.declared.Stated.the-variants as stated
 use Rattle.section.specs.declared.HeaderAnswer.{HeaderAnswer}
@@ -150,9 +150,10 @@ reasonBack rules.empty-authority = EmptyAuthority
 reasonBack rules.authorities-differ = AuthoritiesDiffer
 reasonBack rules.at-in-authority = AtInAuthority
 reasonBack rules.length-past-limit = LengthPastLimit
+reasonBack rules.no-length = NoLength
 
 reason-back : (r : Reason) → reasonBack (reasonOf r) ≡ r
-unfolding reasonBack reasonOf checks size-check bytes-check unknown-check repeated-check late-check in-trailers-check connection-check te-check method-check no-method-check repeated-length-check length-in-trailers-check digits-check length-above-check repeated-host-check connect-check present-check scheme-check path-check authority-check empty-check differ-check at-check length-check
+unfolding reasonBack reasonOf checks size-check bytes-check unknown-check repeated-check late-check in-trailers-check connection-check te-check method-check no-method-check repeated-length-check length-in-trailers-check digits-check length-above-check repeated-host-check connect-check present-check scheme-check path-check authority-check empty-check differ-check at-check length-check upload-check
 reason-back TooLarge = refl
 reason-back BadBytes = refl
 reason-back UnknownPseudo = refl
@@ -177,6 +178,7 @@ reason-back EmptyAuthority = refl
 reason-back AuthoritiesDiffer = refl
 reason-back AtInAuthority = refl
 reason-back LengthPastLimit = refl
+reason-back NoLength = refl
 
 statedBack : Option ℕ → Stated
 statedBack none = stated.Nothing

@@ -9,9 +9,9 @@ use lib.Dec.{ltb, leb·suc-zero, leb·suc-suc}
 use borrow.Author.Tests.{lt-ltb}
 use lib.ListN.{length, getD}
 use Rattle.rules.specs.Section as rules
-use Rattle.rules.specs.Section.{Check, size-check, bytes-check, unknown-check, repeated-check, late-check, in-trailers-check, connection-check, te-check, method-check, no-method-check, repeated-length-check, length-in-trailers-check, digits-check, length-above-check, repeated-host-check, connect-check, present-check, scheme-check, path-check, authority-check, empty-check, differ-check, at-check, length-check}
+use Rattle.rules.specs.Section.{Check, size-check, bytes-check, unknown-check, repeated-check, late-check, in-trailers-check, connection-check, te-check, method-check, no-method-check, repeated-length-check, length-in-trailers-check, digits-check, length-above-check, repeated-host-check, connect-check, present-check, scheme-check, path-check, authority-check, empty-check, differ-check, at-check, length-check, upload-check}
 use Rattle.section.specs.declared.Reason.{Reason}
-use Rattle.section.specs.declared.Reason.the-variants.{TooLarge, BadBytes, UnknownPseudo, RepeatedPseudo, LatePseudo, PseudoInTrailers, ConnectionField, OtherTe, BadMethod, NoMethod, RepeatedLength, LengthInTrailers, NoDigits, LengthAbove, RepeatedHost, Connect, NoSchemeOrPath, OtherScheme, BadPath, NoAuthority, EmptyAuthority, AuthoritiesDiffer, AtInAuthority, LengthPastLimit}
+use Rattle.section.specs.declared.Reason.the-variants.{TooLarge, BadBytes, UnknownPseudo, RepeatedPseudo, LatePseudo, PseudoInTrailers, ConnectionField, OtherTe, BadMethod, NoMethod, RepeatedLength, LengthInTrailers, NoDigits, LengthAbove, RepeatedHost, Connect, NoSchemeOrPath, OtherScheme, BadPath, NoAuthority, EmptyAuthority, AuthoritiesDiffer, AtInAuthority, LengthPastLimit, NoLength}
 
 -- of header sections and of trailers, in one list
 unfoldable pub checks : List Check
@@ -29,7 +29,12 @@ checks =
     ∷ path-check
     ∷ authority-check ∷ empty-check ∷ differ-check ∷ at-check
     ∷ length-check
+    ∷ upload-check
     ∷ []
+
+-- no check is broken: past the last
+abbrev pub unbroken : ℕ
+unbroken = 25
 
 -- a reason's number: the place of its check
 abbrev pub at : Reason → ℕ
@@ -57,6 +62,7 @@ at EmptyAuthority = 20
 at AuthoritiesDiffer = 21
 at AtInAuthority = 22
 at LengthPastLimit = 23
+at NoLength = 24
 
 -- the rules' name of a reason
 unfoldable pub reasonOf : Reason → rules.Reason
@@ -154,10 +160,10 @@ told-out [] n h = refl
 told-out (c ∷ cs) zero h = absurd (omega arith)
 told-out (c ∷ cs) (suc n) h = told-out cs n (omega arith)
 
-pub told-reason : (r : Reason) (n : ℕ) → at r ≡ n → n < 24 → told checks n ≡ some (reasonOf r)
+pub told-reason : (r : Reason) (n : ℕ) → at r ≡ n → n < unbroken → told checks n ≡ some (reasonOf r)
 unfolding reasonOf checks
 told-reason r n e h = told-in checks n size-check h ∙ ap (λ (m : ℕ). some (getD checks m size-check .reason)) (sym e)
 
-pub told-none : (n : ℕ) → 24 ≤ n → told checks n ≡ none
+pub told-none : (n : ℕ) → unbroken ≤ n → told checks n ≡ none
 unfolding checks
 told-none n h = told-out checks n h

@@ -19,7 +19,7 @@ use Rattle.fields.specs.Walk.{held, isReadable}
 use Rattle.section.specs.declared.Reason.the-variants.{BadBytes, UnknownPseudo, RepeatedPseudo, LatePseudo, ConnectionField, OtherTe, BadMethod, RepeatedLength, NoDigits, LengthAbove, RepeatedHost}
 use Rattle.section.specs.declared.Facts.{Facts}
 use Rattle.section.specs.declared.Walked.{Walked}
-use Rattle.section.specs.Checks.{at, lowest, lowerOf, put, push}
+use Rattle.section.specs.Checks.{unbroken, at, lowest, lowerOf, put, push}
 use Rattle.section.specs.Names.{method, scheme, authority, path, host, content-length, te, connection, unknown, plain, by-kind, pseudoName, nameAt, isOneName, nameOf, ten, text-told, connection-told, pseudo-told, unknown-told}
 use Rattle.section.specs.Finding.{first, valueFrom, valueTo, fromOf, toOf}
 
@@ -38,7 +38,7 @@ rowOf s =
     ∷ method-check .broken s ∷ false
     ∷ repeated-length-check .broken s ∷ false ∷ digits-check .broken s ∷ length-above-check .broken s
     ∷ repeated-host-check .broken s
-    ∷ false ∷ false ∷ false ∷ false ∷ false ∷ false ∷ false ∷ false ∷ false
+    ∷ false ∷ false ∷ false ∷ false ∷ false ∷ false ∷ false ∷ false ∷ false ∷ false
     ∷ []
 
 -- the six names whose first line is kept
@@ -69,7 +69,7 @@ factsOf s =
     (map (toIn s) kept-names)
 
 unfoldable pub noFacts : Facts
-noFacts = facts 0 24 false false 0 (0 ∷ 0 ∷ 0 ∷ 0 ∷ 0 ∷ 0 ∷ []) (0 ∷ 0 ∷ 0 ∷ 0 ∷ 0 ∷ 0 ∷ [])
+noFacts = facts 0 unbroken false false 0 (0 ∷ 0 ∷ 0 ∷ 0 ∷ 0 ∷ 0 ∷ []) (0 ∷ 0 ∷ 0 ∷ 0 ∷ 0 ∷ 0 ∷ [])
 
 -- ---- one line more, by what its name is
 
@@ -336,7 +336,7 @@ module _ (s : Section) (l : Line) where
       ∷ ((q .length && has (nameAt content-length) s) || repeated-length-check .broken s) ∷ false
       ∷ ((q .length && noDigits (l .value)) || digits-check .broken s) ∷ ((q .length && aboveLargest (l .value)) || length-above-check .broken s)
       ∷ ((q .host && has (nameAt host) s) || repeated-host-check .broken s)
-      ∷ false ∷ false ∷ false ∷ false ∷ false ∷ false ∷ false ∷ false ∷ false
+      ∷ false ∷ false ∷ false ∷ false ∷ false ∷ false ∷ false ∷ false ∷ false ∷ false
       ∷ []
 
   row-more : rowOf (more l s) ≡ rowBy (askedOf (l .name))

@@ -12,16 +12,16 @@ use Rattle.rules.specs.Text.{ascii, any, same}
 use Rattle.rules.specs.Block.{Section, Lines, readable}
 use Rattle.rules.specs.Block as block
 use Rattle.rules.specs.Section as rules
-use Rattle.rules.specs.Section.{Check, refused, sound, isEmpty, begins, holds, decimal, decimalFrom, named, has, valueOf, methodOf, statedIn, unless, firstBroken, goodPath, size-limit, length-limit, size-check, bytes-check, unknown-check, repeated-check, late-check, in-trailers-check, connection-check, te-check, method-check, no-method-check, repeated-length-check, length-in-trailers-check, digits-check, length-above-check, repeated-host-check, connect-check, present-check, scheme-check, path-check, authority-check, empty-check, differ-check, at-check, length-check, header-checks, trailer-checks, header-section}
+use Rattle.rules.specs.Section.{Check, refused, sound, isEmpty, begins, holds, isUpload, uploads, uploading, decimal, decimalFrom, named, has, valueOf, methodOf, statedIn, unless, firstBroken, goodPath, size-limit, length-limit, size-check, bytes-check, unknown-check, repeated-check, late-check, in-trailers-check, connection-check, te-check, method-check, no-method-check, repeated-length-check, length-in-trailers-check, digits-check, length-above-check, repeated-host-check, connect-check, present-check, scheme-check, path-check, authority-check, empty-check, differ-check, at-check, length-check, upload-check, header-checks, trailer-checks, header-section}
 use Rattle.fields.specs.Laws.{empty-is}
 use Rattle.fields.specs.Walk.{isReadable, held}
 use Rattle.fields.specs.Decimal.{capped, capped-below, past}
 use Rattle.section.specs.declared.Reason.{Reason}
-use Rattle.section.specs.declared.Reason.the-variants.{TooLarge, PseudoInTrailers, NoMethod, LengthInTrailers, Connect, NoSchemeOrPath, OtherScheme, BadPath, NoAuthority, EmptyAuthority, AuthoritiesDiffer, AtInAuthority, LengthPastLimit}
+use Rattle.section.specs.declared.Reason.the-variants.{TooLarge, PseudoInTrailers, NoMethod, LengthInTrailers, Connect, NoSchemeOrPath, OtherScheme, BadPath, NoAuthority, EmptyAuthority, AuthoritiesDiffer, AtInAuthority, LengthPastLimit, NoLength}
 use Rattle.section.specs.declared.Facts.{Facts}
 use Rattle.section.specs.declared.Stated.{Stated}
 use Rattle.section.specs.declared.HeaderAnswer.the-variants as header
-use Rattle.section.specs.Checks.{checks, at, reasonOf, lowest, lowerOf, fill, and-then, told, firstIn, first-told, told-reason, told-none}
+use Rattle.section.specs.Checks.{checks, unbroken, at, reasonOf, lowest, lowerOf, fill, and-then, told, firstIn, first-told, told-reason, told-none}
 use Rattle.section.specs.Names.{method, scheme, authority, path, host, content-length, nameAt}
 use Rattle.section.specs.Finding.{first, toOf}
 use Rattle.section.specs.Facts.{rowOf, factsOf, toIn, thereAt, valueAt, there-is, somewhere}
@@ -45,6 +45,7 @@ headerRow s =
     ∷ path-check .broken s
     ∷ authority-check .broken s ∷ empty-check .broken s ∷ differ-check .broken s ∷ at-check .broken s
     ∷ length-check .broken s
+    ∷ upload-check .broken s
     ∷ []
 
 unfoldable pub trailerRow : Section → List Bool
@@ -56,7 +57,7 @@ trailerRow s =
     ∷ method-check .broken s ∷ false
     ∷ repeated-length-check .broken s ∷ length-in-trailers-check .broken s ∷ digits-check .broken s ∷ length-above-check .broken s
     ∷ repeated-host-check .broken s
-    ∷ false ∷ false ∷ false ∷ false ∷ false ∷ false ∷ false ∷ false ∷ false
+    ∷ false ∷ false ∷ false ∷ false ∷ false ∷ false ∷ false ∷ false ∷ false ∷ false
     ∷ []
 
 -- ---- the checks that the lines do not settle by themselves
@@ -80,9 +81,18 @@ isHttp v = same v (ascii "http") || same v (ascii "https")
 unfoldable pub isPath : (path method : List ℕ) → Bool
 isPath p m = begins (eqb 0x2f) p || (same (ascii "*") p && same (ascii "OPTIONS") m)
 
-unfoldable pub byRequest : (method scheme path : List ℕ) (first : ℕ) → ℕ
-byRequest m h p n =
-    lowerOf (lowerOf (lowerOf n (at Connect) (same (ascii "CONNECT") m)) (at OtherScheme) (not (isHttp h))) (at BadPath) (not (isPath p m))
+unfoldable pub sendsContent : (method : List ℕ) → Bool
+sendsContent m = (same m (ascii "PUT") || same m (ascii "POST")) || same m (ascii "PATCH")
+
+unfoldable pub byRequest : (method scheme path : List ℕ) (stated : Bool) (first : ℕ) → ℕ
+byRequest m h p t n =
+    lowerOf
+    (lowerOf
+    (lowerOf
+    (lowerOf n (at Connect) (same (ascii "CONNECT") m))
+    (at OtherScheme) (not (isHttp h)))
+    (at BadPath) (not (isPath p m)))
+    (at NoLength) (sendsContent m && not t)
 
 unfoldable pub byAuthority : (authority : List ℕ) (given : Bool) (host : List ℕ) (hosted : Bool) (first : ℕ) → ℕ
 byAuthority a ta h th n =
@@ -165,6 +175,22 @@ module _ (s : Section) where
   bad-path =
       rw (holds-by (begins (eqb 0x2f)) (valueOf (nameAt path) s) refl, holds-by (same (ascii "*")) (valueOf (nameAt path) s) refl, holds-by (same (ascii "OPTIONS")) (valueOf (nameAt method) s) refl)
 
+  -- a method that is not there is none of the three
+  sends-content : (o : Option (List ℕ)) → sendsContent (methodOf o) ≡ holds isUpload o
+  unfolding sendsContent isUpload uploads holds methodOf any ascii same
+  sends-content none = refl
+  sends-content (some m) = three (same m (ascii "PUT")) (same m (ascii "POST")) (same m (ascii "PATCH"))
+    where
+      three : (a b c : Bool) → ((a || b) || c) ≡ (a || (b || (c || false)))
+      three true b c = refl
+      three false true c = refl
+      three false false true = refl
+      three false false false = refl
+
+  no-length : (sendsContent (valueAt s method) && not (there content-length)) ≡ upload-check .broken s
+  unfolding upload-check uploading
+  no-length = rw (sends-content (valueOf (nameAt method) s), there-is (nameAt content-length) s)
+
   no-authority : not (there authority || there host) ≡ authority-check .broken s
   unfolding authority-check
   no-authority = rw (there-is (nameAt authority) s, there-is (nameAt host) s)
@@ -186,7 +212,7 @@ module _ (s : Section) where
   first-is = refl
 
   pub header-lowest : byAuthority (valueAt s authority) (there authority) (valueAt s host) (there host)
-      (byRequest (valueAt s method) (valueAt s scheme) (valueAt s path) (byPlaces (factsOf s)))
+      (byRequest (valueAt s method) (valueAt s scheme) (valueAt s path) (there content-length) (byPlaces (factsOf s)))
       ≡ lowest (headerRow s)
   unfolding byAuthority byRequest byPlaces headerRow rowOf fill
   header-lowest =
@@ -194,6 +220,7 @@ module _ (s : Section) where
       (and-then _ (at AuthoritiesDiffer) (differ-check .broken s)
       (and-then _ (at EmptyAuthority) (empty-check .broken s)
       (and-then _ (at NoAuthority) (authority-check .broken s)
+      (and-then _ (at NoLength) (upload-check .broken s)
       (and-then _ (at BadPath) (path-check .broken s)
       (and-then _ (at OtherScheme) (scheme-check .broken s)
       (and-then _ (at Connect) (connect-check .broken s)
@@ -208,6 +235,7 @@ module _ (s : Section) where
       (lit< tt) refl connects)
       (lit< tt) refl other-scheme)
       (lit< tt) refl bad-path)
+      (lit< tt) refl no-length)
       (lit< tt) refl no-authority)
       (lit< tt) refl empties)
       (lit< tt) refl differs)
@@ -239,17 +267,17 @@ module _ (s : Section) where
   unfolding firstBroken trailer-checks checks trailerRow firstIn
   trailer-first = first-told checks (trailerRow s) refl
 
-  module _ (n : ℕ) (r : Reason) (is : at r ≡ n) (h : n < 24) where
+  module _ (n : ℕ) (r : Reason) (is : at r ≡ n) (h : n < unbroken) where
     pub header-broken : n ≡ lowest (headerRow s) → firstBroken header-checks s ≡ some (reasonOf r)
     header-broken e = header-first ∙ ap (told checks) (sym e) ∙ told-reason r n is h
 
     pub trailer-broken : n ≡ byTrailers (factsOf s) → firstBroken trailer-checks s ≡ some (reasonOf r)
     trailer-broken e = trailer-first ∙ ap (told checks) (sym (e ∙ trailer-lowest)) ∙ told-reason r n is h
 
-  pub header-unbroken : (n : ℕ) → n ≡ lowest (headerRow s) → 24 ≤ n → firstBroken header-checks s ≡ none
+  pub header-unbroken : (n : ℕ) → n ≡ lowest (headerRow s) → unbroken ≤ n → firstBroken header-checks s ≡ none
   header-unbroken n e h = header-first ∙ ap (told checks) (sym e) ∙ told-none n h
 
-  pub trailer-unbroken : (n : ℕ) → n ≡ byTrailers (factsOf s) → 24 ≤ n → firstBroken trailer-checks s ≡ none
+  pub trailer-unbroken : (n : ℕ) → n ≡ byTrailers (factsOf s) → unbroken ≤ n → firstBroken trailer-checks s ≡ none
   trailer-unbroken n e h = trailer-first ∙ ap (told checks) (sym (e ∙ trailer-lowest)) ∙ told-none n h
 
 -- ---- the rules' side
@@ -306,6 +334,18 @@ module _ (s : Section) where
   pub length-passed : firstBroken header-checks s ≡ none → length-check .broken s ≡ false
   unfolding header-checks
   length-passed e = passed header-checks 21 length-check (lit< tt) e
+
+  -- and a sound upload states its length
+  pub upload-states : firstBroken header-checks s ≡ none → uploading s ≡ true → (n : ℕ) × (statedIn (valueOf lengthName s) ≡ some n)
+  unfolding header-checks upload-check statedIn
+  upload-states e u =
+      let b : (uploading s && not (has lengthName s)) ≡ false = passed header-checks 22 upload-check (lit< tt) e in
+      let t : not (has lengthName s) ≡ false = rw u at b in
+      by (valueOf lengthName s) (sym (value-is lengthName s) ∙ absent-is lengthName s ∙ t)
+    where
+      by : (o : Option (List ℕ)) → not (isSome o) ≡ false → (n : ℕ) × (statedIn o ≡ some n)
+      by none t = let z : _≡_ {A = ℕ} 0 1 = cc in absurd (omega arith)
+      by (some v) t = (decimal v, refl)
 
 -- ---- the answer's side
 

@@ -1,15 +1,15 @@
 -- What a request stream makes of an answer: what the rules make of the block's lines. Assumes nothing.
 use Prim.Native.Nat.{ℕ, _≤_, _^_}
-use mathlib.Core.Path.{_≡_, refl, ap, _∙_}
+use mathlib.Core.Path.{_≡_, refl, sym, ap, _∙_}
 use mathlib.Core.List.{List}
 use mathlib.Core.Option.{Option, none, some}
-use mathlib.Core.Bool.{false}
+use mathlib.Core.Bool.{true, false}
 use native.Mathlib.Omega.{arith}
 use lib.Dec.{ltb}
 use borrow.Author.Tests.{ltb-false}
 use Rattle.rules.specs.Block.{Section, unreadable, readable, lines}
 use Rattle.rules.specs.Section as rules
-use Rattle.rules.specs.Section.{Judgement, refused, sound, Head, header-section, codeOf, holds, length-limit, decimal, statedIn, firstBroken, header-checks, unless, valueOf, length-check}
+use Rattle.rules.specs.Section.{Judgement, refused, sound, Head, header-section, codeOf, holds, uploading, length-limit, decimal, statedIn, firstBroken, header-checks, unless, valueOf, length-check}
 use Rattle.rules.specs.Request.{Header, Trailer, header-by, trailer-by, document}
 use Rattle.rules.specs.Request as request
 use Rattle.section.specs.declared.HeaderAnswer.{HeaderAnswer}
@@ -18,7 +18,7 @@ use Rattle.section.specs.declared.TrailerAnswer.{TrailerAnswer}
 use Rattle.section.specs.declared.TrailerAnswer.the-variants as trailer
 use Rattle.section.specs.Checks.{reasonOf}
 use Rattle.section.specs.Answer.{lengthName, Told, judged, Headed, at-method, placed-in, tellHeader, tellTrailers, readStated, readHeader, readTrailers, says}
-use Rattle.section.specs.Judging.{length-passed}
+use Rattle.section.specs.Judging.{length-passed, upload-states}
 use Rattle.section.specs.Answer as answer
 
 -- none where the block is unreadable
@@ -102,3 +102,15 @@ judged-within s (some x) q n e = let z : _≡_ {A = ℕ} 0 1 = cc in absurd (ome
 pub stated-within : (s : Section) (stated : Option ℕ) → document .header s ≡ request.Header.good stated → (n : ℕ) → stated ≡ some n → n ≤ 2 ^ 62
 unfolding document header-section
 stated-within s stated e n f = judged-within s (firstBroken header-checks s) refl n (e ∙ ap request.Header.good f)
+
+-- ---- and a sound upload states one
+
+judged-stated : (s : Section) (r : Option rules.Reason) → firstBroken header-checks s ≡ r → uploading s ≡ true → (stated : Option ℕ)
+    → header-by (unless r (says s)) ≡ request.Header.good stated → (n : ℕ) × (stated ≡ some n)
+unfolding header-by unless
+judged-stated s none q u stated e = let w = upload-states s q u in let f : statedIn (valueOf lengthName s) ≡ stated = cc in (w .0, sym f ∙ w .1)
+judged-stated s (some x) q u stated e = let z : _≡_ {A = ℕ} 0 1 = cc in absurd (omega arith)
+
+pub upload-stated : (s : Section) (stated : Option ℕ) → document .header s ≡ request.Header.good stated → uploading s ≡ true → (n : ℕ) × (stated ≡ some n)
+unfolding document header-section
+upload-stated s stated e u = judged-stated s (firstBroken header-checks s) refl u stated e

@@ -1,4 +1,4 @@
-// Header sections and trailers (document 01, "Requests"): one walk of a section block's lines collects what the rules ask of them. Of the
+// Header sections and trailers (document 01, "Requests"; document 02, Q-1): one walk of a section block's lines collects what the rules ask of them. Of the
 // checks that are broken the lowest in document 01's order is the reason.
 use fields::Class;
 use fields::Record;
@@ -15,10 +15,10 @@ ghost use Rattle.rules.specs.Section.{isEmpty, codeOf};
 ghost use Rattle.fields.specs.Bytes.{isIn};
 ghost use Rattle.fields.specs.Table.{allRight};
 ghost use Rattle.fields.specs.Walk.{held};
-ghost use Rattle.section.specs.Checks.{at, reasonOf, lowerOf, lowest};
+ghost use Rattle.section.specs.Checks.{unbroken, at, reasonOf, lowerOf, lowest};
 ghost use Rattle.section.specs.Names.{method, host, content-length, te, unknown, otherName, oneName, ofSeven, ofTen, longName, nameOf};
 ghost use Rattle.section.specs.Facts.{noFacts, keptOf, keepAt, knownBy, plainBy, noteBy, lineStep, factsOf, valueAt, Walks};
-ghost use Rattle.section.specs.Judging.{headerRow, byPlaces, isHttp, isPath, byRequest, byAuthority, byTrailers, statedBy};
+ghost use Rattle.section.specs.Judging.{headerRow, byPlaces, isHttp, isPath, sendsContent, byRequest, byAuthority, byTrailers, statedBy};
 ghost use Rattle.section.specs.Answer.{readStated, readHeader, tellHeader, readTrailers, tellTrailers};
 
 // ---- reasons
@@ -49,14 +49,15 @@ pub enum Reason {
     AuthoritiesDiffer = 21,
     AtInAuthority = 22,
     LengthPastLimit = 23,
+    NoLength = 24,
 }
 
 // No check is broken.
-const NONE: usize = 24;
+const NONE: usize = 25;
 
 // The reason of a number.
 fn why(n: usize) -> Reason
-    requires { ⌜ n < 24 ⌝ }
+    requires { ⌜ n < unbroken ⌝ }
     ensures { λ r. ⌜ at r ≡ n ⌝ }
 {
     match n {
@@ -83,7 +84,8 @@ fn why(n: usize) -> Reason
         20 => Reason::EmptyAuthority,
         21 => Reason::AuthoritiesDiffer,
         22 => Reason::AtInAuthority,
-        _ => Reason::LengthPastLimit,
+        23 => Reason::LengthPastLimit,
+        _ => Reason::NoLength,
     }
 }
 
@@ -92,7 +94,9 @@ pub fn code(reason: Reason) -> u64
     ensures { λ r. ⌜ r ≡ codeNumber (codeOf (reasonOf reason)) ⌝ }
 {
     match reason {
-        Reason::Connect | Reason::OtherScheme | Reason::LengthPastLimit => rules::REQUEST_REJECTED,
+        Reason::Connect | Reason::OtherScheme | Reason::LengthPastLimit | Reason::NoLength => {
+            rules::REQUEST_REJECTED
+        }
         _ => rules::MESSAGE_ERROR,
     }
 }
@@ -518,9 +522,25 @@ fn is_path<'a>(path: &'a [u8], method: &'a [u8]) -> bool
     either(fields::begins_with(path, b'/'), star)
 }
 
-// What the method, the scheme and the path say.
-fn request_fault<'a>(method: &'a [u8], scheme: &'a [u8], path: &'a [u8], n: usize) -> usize
-    ensures { λ r. ⌜ r ≡ byRequest (now (method .entry)) (now (scheme .entry)) (now (path .entry)) n ⌝ }
+fn sends_content(method: &[u8]) -> bool
+    ensures { λ r. ⌜ r ≡ sendsContent (now (method .entry)) ⌝ }
+{
+    let two = either(
+        fields::same_bytes(method, b"PUT"),
+        fields::same_bytes(method, b"POST"),
+    );
+    either(two, fields::same_bytes(method, b"PATCH"))
+}
+
+// What the method, the scheme and the path say, and whether a length is stated.
+fn request_fault<'a>(
+    method: &'a [u8],
+    scheme: &'a [u8],
+    path: &'a [u8],
+    stated: bool,
+    n: usize,
+) -> usize
+    ensures { λ r. ⌜ r ≡ byRequest (now (method .entry)) (now (scheme .entry)) (now (path .entry)) stated n ⌝ }
 {
     let n = lower(
         n,
@@ -528,7 +548,12 @@ fn request_fault<'a>(method: &'a [u8], scheme: &'a [u8], path: &'a [u8], n: usiz
         fields::same_bytes(b"CONNECT", method),
     );
     let n = lower(n, Reason::OtherScheme as usize, !is_http(scheme));
-    lower(n, Reason::BadPath as usize, !is_path(path, method))
+    let n = lower(n, Reason::BadPath as usize, !is_path(path, method));
+    lower(
+        n,
+        Reason::NoLength as usize,
+        both(sends_content(method), !stated),
+    )
 }
 
 // What the authority and the host say, each with whether it is there.
@@ -564,6 +589,7 @@ fn header_fault(block: &[u8], f: Facts) -> usize
         value_of(block, f, METHOD),
         value_of(block, f, SCHEME),
         value_of(block, f, PATH),
+        f.to[LENGTH] != 0,
         places_fault(f),
     );
     authority_fault(

@@ -1,4 +1,4 @@
--- `section::code` meets its contract: three of the reasons, by their tags, have the one code, and the others the other. Assumes nothing.
+-- `section::code` meets its contract: four of the reasons, by their tags, have the one code, and the others the other. Assumes nothing.
 use Prim.Native.Nat.{ℕ}
 use mathlib.Core.Path.{_≡_, refl, _∙_}
 use mathlib.Core.List.{List, [], _∷_, map}
@@ -9,18 +9,18 @@ use types.Run.{OneOf}
 use denote.Enum.Declared.{tagOf}
 use Rattle.rules.specs.Numbers.{REQUEST-REJECTED, MESSAGE-ERROR, codeNumber}
 use Rattle.section.proofs.Reason.{the-type}
-use Rattle.rules.specs.Section.{fateOf, codeOf, size-check, bytes-check, unknown-check, repeated-check, late-check, in-trailers-check, connection-check, te-check, method-check, no-method-check, repeated-length-check, length-in-trailers-check, digits-check, length-above-check, repeated-host-check, connect-check, present-check, scheme-check, path-check, authority-check, empty-check, differ-check, at-check, length-check}
+use Rattle.rules.specs.Section.{fateOf, codeOf, size-check, bytes-check, unknown-check, repeated-check, late-check, in-trailers-check, connection-check, te-check, method-check, no-method-check, repeated-length-check, length-in-trailers-check, digits-check, length-above-check, repeated-host-check, connect-check, present-check, scheme-check, path-check, authority-check, empty-check, differ-check, at-check, length-check, upload-check}
 use Rattle.section.specs.declared.Reason.{Reason}
-use Rattle.section.specs.declared.Reason.the-variants.{TooLarge, BadBytes, UnknownPseudo, RepeatedPseudo, LatePseudo, PseudoInTrailers, ConnectionField, OtherTe, BadMethod, NoMethod, RepeatedLength, LengthInTrailers, NoDigits, LengthAbove, RepeatedHost, Connect, NoSchemeOrPath, OtherScheme, BadPath, NoAuthority, EmptyAuthority, AuthoritiesDiffer, AtInAuthority, LengthPastLimit}
+use Rattle.section.specs.declared.Reason.the-variants.{TooLarge, BadBytes, UnknownPseudo, RepeatedPseudo, LatePseudo, PseudoInTrailers, ConnectionField, OtherTe, BadMethod, NoMethod, RepeatedLength, LengthInTrailers, NoDigits, LengthAbove, RepeatedHost, Connect, NoSchemeOrPath, OtherScheme, BadPath, NoAuthority, EmptyAuthority, AuthoritiesDiffer, AtInAuthority, LengthPastLimit, NoLength}
 use Rattle.section.specs.Checks.{checks, reasonOf}
 use Rattle.section.proofs.code.Statement.{statement}
 use Rattle.section.proofs.code.Tie as tie
 
 byTag : ℕ → ℕ
-byTag t = cond (eqb t 15 || eqb t 17 || eqb t 23) REQUEST-REJECTED MESSAGE-ERROR
+byTag t = cond (eqb t 15 || eqb t 17 || eqb t 23 || eqb t 24) REQUEST-REJECTED MESSAGE-ERROR
 
 by-tag : (r : Reason) → byTag (tagOf the-type r) ≡ codeNumber (codeOf (reasonOf r))
-unfolding byTag fateOf codeOf reasonOf checks size-check bytes-check unknown-check repeated-check late-check in-trailers-check connection-check te-check method-check no-method-check repeated-length-check length-in-trailers-check digits-check length-above-check repeated-host-check connect-check present-check scheme-check path-check authority-check empty-check differ-check at-check length-check
+unfolding byTag fateOf codeOf reasonOf checks size-check bytes-check unknown-check repeated-check late-check in-trailers-check connection-check te-check method-check no-method-check repeated-length-check length-in-trailers-check digits-check length-above-check repeated-host-check connect-check present-check scheme-check path-check authority-check empty-check differ-check at-check length-check upload-check
 by-tag TooLarge = refl
 by-tag BadBytes = refl
 by-tag UnknownPseudo = refl
@@ -45,6 +45,7 @@ by-tag EmptyAuthority = refl
 by-tag AuthoritiesDiffer = refl
 by-tag AtInAuthority = refl
 by-tag LengthPastLimit = refl
+by-tag NoLength = refl
 
 alike : ℕ → List ℕ → List ℕ
 alike code [] = []
@@ -62,7 +63,7 @@ one-of code (k ∷ j ∷ ks) t a h =
 
 returns : tie.Need-returns
 unfolding alike byTag
-returns c = one-of REQUEST-REJECTED (15 ∷ 17 ∷ 23 ∷ []) _ refl (c .match .keys1) ∙ by-tag _
+returns c = one-of REQUEST-REJECTED (15 ∷ 17 ∷ 23 ∷ 24 ∷ []) _ refl (c .match .keys1) ∙ by-tag _
 
 returns-2 : tie.Need-returns-2
 unfolding alike byTag

@@ -14,6 +14,9 @@ value-of-requires-2 c κs = search needs
 value-of-requires-3 : tie.Need-value-of-requires-3
 value-of-requires-3 c κs = search needs
 
+element-copy-out-request-fault : tie.Need-element-copy-out-request-fault
+element-copy-out-request-fault c = search needs
+
 places-fault-requires : tie.Need-places-fault-requires
 places-fault-requires c κs = search needs
 
@@ -37,7 +40,7 @@ authority-fault-requires c κs = search needs
 
 returns : tie.Need-returns
 unfolding factsOf
-returns c = rw (c .authority-fault .ensures, c .before .before .value-of5 .ensures, c .before .before .before .before .value-of4 .ensures, c .before .before .before .before .before .request-fault .ensures, c .before .before .before .before .before .before .places-fault .ensures, c .before .before .before .before .before .before .before .value-of3 .ensures, c .before .before .before .before .before .before .before .before .value-of2 .ensures, c .before .before .before .before .before .before .before .before .before .value-of .ensures, c .before .before .before .before .before .before .before .before .before .before .before .pre) (header-lowest _)
+returns c = rw (c .authority-fault .ensures, c .before .before .value-of5 .ensures, c .before .before .before .before .value-of4 .ensures, c .before .before .before .before .before .request-fault .ensures, c .before .before .before .before .before .before .places-fault .ensures, c .before .before .before .before .before .before .before .before .value-of3 .ensures, c .before .before .before .before .before .before .before .before .before .value-of2 .ensures, c .before .before .before .before .before .before .before .before .before .before .value-of .ensures, c .before .before .before .before .before .before .before .before .before .before .before .before .pre) (header-lowest _)
 
 pub header-fault-spec : {M : Type 1} → statement M
 header-fault-spec =
@@ -46,6 +49,7 @@ header-fault-spec =
     value-of-requires
     value-of-requires-2
     value-of-requires-3
+    element-copy-out-request-fault
     places-fault-requires
     request-fault-requires
     value-of-requires-4

@@ -35,9 +35,21 @@ is-path-requires c κs = search needs
 lower-requires-3 : tie.Need-lower-requires-3
 lower-requires-3 c κs = search needs
 
+cast-lower-4 : tie.Need-cast-lower-4
+cast-lower-4 c = search needs
+
+sends-content-requires : tie.Need-sends-content-requires
+sends-content-requires c κs = search needs
+
+both-requires : tie.Need-both-requires
+both-requires c κs = search needs
+
+lower-requires-4 : tie.Need-lower-requires-4
+lower-requires-4 c κs = search needs
+
 returns : tie.Need-returns
 unfolding byRequest ascii
-returns c = rw (c .lower3 .ensures, c .before .is-path .ensures, c .before .before .lower2 .ensures, c .before .before .before .is-http .ensures, c .before .before .before .before .lower .ensures, c .before .before .before .before .before .same-bytes .ensures)
+returns c = rw (c .lower4 .ensures, c .before .both .ensures, c .before .before .sends-content .ensures, c .before .before .before .lower3 .ensures, c .before .before .before .before .is-path .ensures, c .before .before .before .before .before .lower2 .ensures, c .before .before .before .before .before .before .is-http .ensures, c .before .before .before .before .before .before .before .lower .ensures, c .before .before .before .before .before .before .before .before .same-bytes .ensures)
 
 pub request-fault-spec : {M : Type 1} → statement M
 request-fault-spec =
@@ -53,4 +65,8 @@ request-fault-spec =
     cast-lower-3
     is-path-requires
     lower-requires-3
+    cast-lower-4
+    sends-content-requires
+    both-requires
+    lower-requires-4
     returns)

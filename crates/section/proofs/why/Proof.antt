@@ -75,7 +75,10 @@ returns-23 : tie.Need-returns-23
 returns-23 c = search needs
 
 returns-24 : tie.Need-returns-24
-returns-24 c = omega (arith, none-below 23 _ (c .match .rest))
+returns-24 c = search needs
+
+returns-25 : tie.Need-returns-25
+returns-25 c = omega (arith, none-below 24 _ (c .match .rest))
 
 pub why-spec : {M : Type 1} → statement M
 why-spec =
@@ -104,4 +107,5 @@ why-spec =
     returns-21
     returns-22
     returns-23
-    returns-24)
+    returns-24
+    returns-25)

@@ -1,0 +1,69 @@
+-- WRONG REPORTS: a report that is refused, at a run, by what the theorems say of the exported functions (ExportedStops, ExportedAnswers). Assumes nothing.
+use mathlib.Core.Path.{_≡_, refl, ap}
+use Prim.Native.Nat.{ℕ, _≤_}
+use native.Mathlib.Omega.{arith}
+use mathlib.Core.List.{List, [], _∷_}
+use mathlib.Core.Bool.{true, false}
+use mathlib.Core.Option.{some}
+use lib.ListN.{length}
+use Rattle.rules.specs.Numbers.{FRAME-UNEXPECTED, frame-unexpected}
+use Rattle.rules.specs.Calls.{qpack-bytes, settings, client-goaway, max-push-id, Event, quiet, section-bytes, content-bytes, notice, fed, feed, section, reset, request, one-way, kindOf, open′, on, gave}
+use Rattle.rules.specs.Shown.{running, ledger, ledgerFrom, noted, dies, opens, counts, blank}
+use Rattle.record.specs.declared.Record.{Record}
+use Rattle.connection.specs.declared.Connection.{Connection}
+use Rattle.connection.specs.declared.Report.{Report}
+use Rattle.connection.specs.Faults.{withCode}
+use Rattle.connection.specs.Turned.{numbered}
+use Rattle.demands.specs.Demands.{Calls}
+use Rattle.demands.specs.Means.{noticed, reported, reportOf}
+use Rattle.demands.specs.Runs.{Seen}
+use Rattle.demands.specs.Host.{Run}
+use Rattle.demands.specs.Host as host
+use Rattle.demands.specs.Instances.{shows, block}
+use Rattle.demands.specs.RunInMemory.{one-open, one-spent, frame, opened-run, dead-run}
+use Rattle.demands.specs.ExportedStops.{RequestStops, OneWayStops}
+use Rattle.demands.specs.ExportedAnswers.{FeedAnswered, ResetAnswered}
+
+-- ---- SEVEN ZEROS to a feed that is given a byte and an allowance of 1 or more
+
+-- they report no event, no byte and no header
+zeros-quiet : (u h : ℕ) (e : Event) → numbered 0 ≡ reportOf (gave (fed u h e)) → e ≡ quiet
+unfolding reportOf reported noticed
+zeros-quiet u h quiet q = refl
+zeros-quiet u h (content-bytes from len) q = let z = ap (λ r. r .event) q in absurd (omega arith)
+zeros-quiet u h (section-bytes from len true) q = let z = ap (λ r. r .event) q in absurd (omega arith)
+zeros-quiet u h (section-bytes from len false) q = let z = ap (λ r. r .event) q in absurd (omega arith)
+zeros-quiet u h (notice (qpack-bytes type from len)) q = let z = ap (λ r. r .event) q in absurd (omega arith)
+zeros-quiet u h (notice (settings size capacity blocked)) q = let z = ap (λ r. r .event) q in absurd (omega arith)
+zeros-quiet u h (notice (client-goaway id)) q = let z = ap (λ r. r .event) q in absurd (omega arith)
+zeros-quiet u h (notice (max-push-id id)) q = let z = ap (λ r. r .event) q in absurd (omega arith)
+
+module _ {ks : Calls} {xs : List Seen} {c : Connection} {rows : List Record} (s : Run ks xs c rows) (id : ℕ) (n : host.shows id ks .fate ≡ running) (piece : List ℕ) (allow : ℕ) (l : 1 ≤ allow) (some-byte : 1 ≤ length piece)
+    (c′ : Connection) (rows′ : List Record) where
+  -- of any request stream that runs
+  pub zeros-break : kindOf id ≡ some request → ¬ (RequestStops c rows id piece allow (numbered 0) c′ rows′)
+  zeros-break q p = let f = p ks xs s q n refl in let z = f .so .2 (zeros-quiet 0 0 (f .event) (f .read-as)) (omega arith) .spent in omega arith
+
+  -- and of any one-way stream
+  pub zeros-break₁ : kindOf id ≡ some one-way → ¬ (OneWayStops c rows id piece allow (numbered 0) c′ rows′)
+  zeros-break₁ q p = let f = p ks xs s q n refl in let z = f .so .2 (zeros-quiet 0 0 (f .event) (f .read-as)) (omega arith) .spent in omega arith
+
+-- so of DATA with three bytes, in any run of these calls; and of a frame of unknown type, in the run in memory
+pub zeros-for-content : {xs : List Seen} {c : Connection} {rows : List Record} → Run (open′ 0 ∷ on 0 (feed 5 (0x01 ∷ 0x01 ∷ 0x00 ∷ [])) ∷ on 0 (section block) ∷ []) xs c rows → (c′ : Connection) (rows′ : List Record)
+    → ¬ (RequestStops c rows 0 (0x00 ∷ 0x03 ∷ 0x61 ∷ 0x62 ∷ 0x63 ∷ []) 5 (numbered 0) c′ rows′)
+unfolding shows block
+zeros-for-content s c′ rows′ = zeros-break s 0 refl (0x00 ∷ 0x03 ∷ 0x61 ∷ 0x62 ∷ 0x63 ∷ []) 5 (omega arith) (omega arith) c′ rows′ refl
+
+pub zeros-for-frame : (c′ : Connection) (rows′ : List Record) → ¬ (RequestStops one-spent one-open 0 frame 1 (numbered 0) c′ rows′)
+unfolding shows
+zeros-for-frame c′ rows′ = zeros-break opened-run 0 refl frame 1 (omega arith) (omega arith) c′ rows′ refl
+
+-- ---- A RESET OF AN OPEN REQUEST, reported as not open
+pub reset-as-one : (c′ : Connection) (rows′ : List Record) → ¬ (ResetAnswered one-spent one-open 0 (numbered 1) c′ rows′)
+unfolding shows reportOf
+reset-as-one c′ rows′ p = let z = ap (λ r. r .event) (p _ _ opened-run .on-request refl refl) in omega arith
+
+-- ---- A FEED ON A DEAD CONNECTION, reported with the number 0, whatever else it says
+pub dead-as-zero : (piece : List ℕ) (allow : ℕ) (r : Report) (c′ : Connection) (rows′ : List Record) → r .number ≡ 0 → ¬ (FeedAnswered (withCode FRAME-UNEXPECTED one-spent) one-open 0 piece allow r c′ rows′)
+unfolding shows ledger ledgerFrom noted dies opens counts blank reportOf
+dead-as-zero piece allow r c′ rows′ e p = let z = ap (λ r. r .number) (p _ _ dead-run .on-dead frame-unexpected refl) in omega arith
