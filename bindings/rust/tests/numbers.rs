@@ -229,7 +229,9 @@ fn an_upload_states_a_length() {
         let mut connection = Connection::new();
         due(&mut connection).unwrap();
         let mut block = get_but(":method", method);
-        line.iter().for_each(|(name, value)| drop(block.line(name, value).unwrap()));
+        if let Some((name, value)) = line {
+            block.line(name, value).unwrap();
+        }
         (give(&mut connection, &block), end(&mut connection, 0))
     };
     for method in ["PUT", "POST", "PATCH"] {
