@@ -214,7 +214,7 @@ AddsNothing c rows i r c′ rows′ = (ks : Calls) (xs : List Seen) → Run ks x
     → (n : ℕ) (more : List ℕ) → let s = shows i ks .shown in let t = shows j ls .shown in t .bytes ≡ s .bytes ++ more → firstOf (s .sections) ≡ firstOf (t .sections) → statedBy n (firstOf (s .sections))
     → (headerOf (s .bytes) (s .sections) ≡ headerOf (t .bytes) (t .sections)) × (s .content ≡ t .content) × Added (s .bytes) more (t .sections)
 
-adds-nothing : {i j : ℕ} {ks ls : Calls} → WholeAt i ks → WholeAt j ls → (n : ℕ) (more : List ℕ) → let s = shows i ks .shown in let t = shows j ls .shown in
+pub adds-nothing : {i j : ℕ} {ks ls : Calls} → WholeAt i ks → WholeAt j ls → (n : ℕ) (more : List ℕ) → let s = shows i ks .shown in let t = shows j ls .shown in
     t .bytes ≡ s .bytes ++ more → firstOf (s .sections) ≡ firstOf (t .sections) → statedBy n (firstOf (s .sections))
     → (headerOf (s .bytes) (s .sections) ≡ headerOf (t .bytes) (t .sections)) × (s .content ≡ t .content) × Added (s .bytes) more (t .sections)
 adds-nothing {i} {j} {ks} {ls} a b n more =

@@ -9,7 +9,7 @@ use mathlib.Core.List.{List, [], _∷_, _++_, map}
 use mathlib.Core.Bool.{true}
 use mathlib.Core.Option.{some}
 use lib.ListN.{length}
-use Rattle.rules.specs.Numbers.{not-open, not-next, section-due, bad-value, message-error, frame-unexpected, closed-critical-stream, of-stream, of-connection}
+use Rattle.rules.specs.Numbers.{not-open, not-next, section-due, bad-value, message-error, request-rejected, frame-unexpected, closed-critical-stream, of-stream, of-connection}
 use Rattle.rules.specs.Text.{ascii, hex}
 use Rattle.rules.specs.Frames.{frame, framesFrom}
 use Rattle.rules.specs.Writer.{into, both, header-bytes, write-header, integer-frame, isHigher, badGoaway}
@@ -34,6 +34,7 @@ use Rattle.demands.specs.Demands.{end-exactly, two-traces, demand-3, hal
 use Rattle.demands.specs.Others.{dead-stays, Opens, opens-exactly, Sends, sends-exactly}
 use Rattle.demands.specs.Writes.{header-read}
 use Rattle.demands.specs.Only.{EndsWhole, whole-only}
+use Rattle.demands.specs.Uploads.{Uploads, StatesAll, upload-whole}
 
 abbrev Calls : Type 0
 Calls = List (Call streams)
@@ -45,12 +46,16 @@ shows cs = view 0 (trace fresh cs)
 
 -- ---- the calls
 
--- GET https://a/ with Content-Length 3, in document 01's block form
-unfoldable pub block : List ℕ
+-- PUT https://a/, in document 01's block form; and with Content-Length 3
+unfoldable pub unstated : List ℕ
 unfolding hex ascii
-block =
-    hex "0E 00 01 00 07 00" ++ ascii ":methodGET" ++ hex "10 00 01 00 07 00" ++ ascii ":schemehttps" ++ hex "0F 00 01 00 0A 00" ++ ascii ":authoritya"
-    ++ hex "0A 00 01 00 05 00" ++ ascii ":path/" ++ hex "13 00 01 00 0E 00" ++ ascii "content-length3"
+unstated =
+    hex "0E 00 01 00 07 00" ++ ascii ":methodPUT" ++ hex "10 00 01 00 07 00" ++ ascii ":schemehttps" ++ hex "0F 00 01 00 0A 00" ++ ascii ":authoritya"
+    ++ hex "0A 00 01 00 05 00" ++ ascii ":path/"
+
+unfoldable pub block : List ℕ
+unfolding unstated hex ascii
+block = unstated ++ hex "13 00 01 00 0E 00" ++ ascii "content-length3"
 
 -- H, its section, DATA of three bytes
 unfoldable pub upload : Calls
@@ -98,6 +103,19 @@ content-of = (refl, refl)
 pub upload-ends : call (on 0 end) (run fresh upload) .answer ≡ left whole
 unfolding shows upload block
 upload-ends = end-exactly 0 refl upload refl
+
+-- it stated its length, and carries so many bytes (document 02, Q-1)
+pub upload-stated : StatesAll (firstOf (shows uploaded .shown .sections)) (shows uploaded .shown .content)
+unfolding shows uploaded block firstOf Uploads
+upload-stated = upload-whole 0 refl uploaded refl refl
+
+-- without a length it is refused at its section, and the stream is not open then
+unfoldable pub asked-unstated : Calls
+asked-unstated = open′ 0 ∷ on 0 (feed 5 (0x01 ∷ 0x01 ∷ 0x00 ∷ [])) ∷ on 0 (section unstated) ∷ on 0 end ∷ []
+
+pub unstated-refused : map (λ e. e .answer) (trace fresh asked-unstated) ≡ gave done ∷ gave (fed 3 1 (section-bytes 2 1 true)) ∷ code (of-stream request-rejected) 0 0 ∷ house not-open ∷ []
+unfolding shows asked-unstated unstated
+unstated-refused = refl
 
 -- so it is an end of a legal stream
 pub upload-legal : EndsWhole upload (on 0 end)

@@ -54,3 +54,4 @@ pub mod Stops
 pub mod ExportedStops
 pub mod WrongStops
 pub mod WrongReports
+pub mod Uploads
