@@ -275,7 +275,7 @@ void gateway_answer(struct gateway *g, const struct asked *q, struct answer *a) 
     }
     if (!is_at_home(g)) return tell(a, 500, "the folder is not there\n");
     if (log) return get_log(g, a);
-    if (!is_wanted(g, q)) return tell(a, get && (q->fields & ~ASKED_LENGTH) == ASKED_IF_NONE ? 304 : 412, "the condition does not hold\n");
+    if (!is_wanted(g, q)) return tell(a, get && q->fields == ASKED_IF_NONE ? 304 : 412, "the condition does not hold\n");
     if (put) return put_settings(g, q, a);
     get_settings(g, a);
 }

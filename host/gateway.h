@@ -39,12 +39,11 @@ struct asked {
 };
 
 enum {
-    ASKED_LENGTH = 1, /* Content-Length */
-    ASKED_PART = 2,   /* Content-Range */
-    ASKED_IF_ANY = 4, /* If-Match: * */
-    ASKED_IF_TAG = 8, /* If-Match with tags */
-    ASKED_IF_NONE = 16, /* If-None-Match: * */
-    ASKED_IF_OLD = 32 /* If-Unmodified-Since */
+    ASKED_PART = 1,    /* Content-Range */
+    ASKED_IF_ANY = 2,  /* If-Match: * */
+    ASKED_IF_TAG = 4,  /* If-Match with tags */
+    ASKED_IF_NONE = 8, /* If-None-Match: * */
+    ASKED_IF_OLD = 16  /* If-Unmodified-Since */
 };
 
 struct answer {

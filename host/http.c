@@ -141,7 +141,6 @@ static void keep_text(char *to, size_t room, const struct read_line *line) {
 /* What a line says of the request beside its method and its path. */
 static unsigned meaning(const struct read_line *line) {
     bool any = is(line->value, line->value_count, "*");
-    if (is(line->name, line->name_count, "content-length")) return ASKED_LENGTH;
     if (is(line->name, line->name_count, "content-range")) return ASKED_PART;
     if (is(line->name, line->name_count, "if-match")) return any ? ASKED_IF_ANY : ASKED_IF_TAG;
     if (is(line->name, line->name_count, "if-none-match")) return any ? ASKED_IF_NONE : 0; /* no settings have a tag */
@@ -149,8 +148,8 @@ static unsigned meaning(const struct read_line *line) {
     return 0;
 }
 
-/* A header section was accepted. Until the engine itself asks uploads for a length, the host refuses a PUT without one. */
-static void begin(struct http *h, struct request *r, const struct bytes *block) {
+/* A header section was accepted. */
+static void begin(struct request *r, const struct bytes *block) {
     r->begun = true;
     for (const uint8_t *at = block->at, *end = at + block->count; at < end;) {
         struct read_line line;
@@ -159,7 +158,6 @@ static void begin(struct http *h, struct request *r, const struct bytes *block) 
         if (is(line.name, line.name_count, ":path")) keep_text(r->path, sizeof r->path, &line);
         r->fields |= meaning(&line);
     }
-    if (!(r->fields & ASKED_LENGTH) && !strcmp(r->method, "PUT")) give_up(h, r->id, EISTULKO_REQUEST_REJECTED);
 }
 
 /* The section is due: it is decoded and given. */
@@ -171,7 +169,7 @@ static void give(struct http *h, struct request *r) {
     else if (code) close_with(h, code);
     else if (accepted(h, r->id, eistulko_give(PAIR(h), r->id, block.at, block.count).number)) {
         bytes_free(&r->section);
-        if (!r->begun) begin(h, r, &block);
+        if (!r->begun) begin(r, &block);
     }
     bytes_free(&block);
 }

@@ -31,11 +31,10 @@
  *   3. When a section is due (event EISTULKO_SECTION_END), decode it and give it before anything else on that stream.
  *   4. END A STREAM ONLY AT ITS FIN, AND WHEN EVERY BYTE WAS CONSUMED. A lost link, an idle timeout, a closed connection or a stream that
  *      the stack gave up is a reset, never an end. Half an upload is kept out by this and by the stated Content-Length, and by nothing else.
+ *      PUT, POST and PATCH must state one; content under another method may come without, and nothing tells its half from its whole.
  *   5. Act on a request when it is whole (event EISTULKO_WHOLE) and not before.
  *   6. After a stream fault, reset the stream and ask the peer to stop sending, both with the code; what still comes on it is dropped without
  *      a call. After a connection fault, close the connection with the code; it is kept in `code`.
- *   7. Refuse an upload (PUT, POST, PATCH) whose header section states no Content-Length, if half of it would do harm: nothing tells its
- *      half from its whole. Give it up as soon as its section was given: `eistulko_reset`, then as after a stream fault, with 0x010b.
  */
 #ifndef EISTULKO_H
 #define EISTULKO_H
@@ -79,7 +78,8 @@ enum {
     EISTULKO_MISSING_SETTINGS = 0x010a,       /* the control stream begins with another frame than SETTINGS */
     /* Stream faults: the stream's record is freed (an ID that our GOAWAY bars is spent), and all else stays. Reset the stream with the code
      * and ask the peer to stop sending with it. */
-    EISTULKO_REQUEST_REJECTED = 0x010b,   /* barred by our GOAWAY, CONNECT, another scheme, or a Content-Length above 1,048,576 */
+    EISTULKO_REQUEST_REJECTED = 0x010b,   /* barred by our GOAWAY, CONNECT, another scheme, a Content-Length above 1,048,576, or a PUT, POST
+                                             or PATCH without one */
     EISTULKO_REQUEST_CANCELLED = 0x010c,  /* content above 1,048,576 bytes without a Content-Length */
     EISTULKO_REQUEST_INCOMPLETE = 0x010d, /* ended without a header section */
     EISTULKO_MESSAGE_ERROR = 0x010e       /* a malformed section, or content that is not as long as stated */

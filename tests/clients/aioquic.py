@@ -36,12 +36,12 @@ class Client(QuicConnectionProtocol):
             if told.stream_ended:
                 answer["done"].set_result(None)
 
-    async def ask(self, method, path, content=b"", length=None):
-        """Status and content; or, of a stream that the gateway has reset, the code."""
+    async def ask(self, method, path, content=b"", length=None, stated=True):
+        """Status and content; or, of a stream that the gateway has reset, the code. The length of content is stated, or another one, or none."""
         stream = self._quic.get_next_available_stream_id()
         answer = self.open[stream] = {"status": None, "content": b"", "done": asyncio.get_running_loop().create_future()}
         fields = {":method": method, ":scheme": "https", ":authority": f"localhost:{port}", ":path": path}
-        if content:
+        if content and stated:
             fields["content-length"] = str(length or len(content))
         self.http.send_headers(stream, [(name.encode(), value.encode()) for name, value in fields.items()], end_stream=not content)
         if content:
@@ -65,10 +65,14 @@ async def main():
         assert answers == [(b"200", log)] * MANY, "some answer differs"
         code = await client.ask("PUT", "/settings", bytes(100000), length=200000)
         assert code == 0x10E, f"half an upload: {code}"
+        for method in ("PUT", "POST", "PATCH"):
+            code = await client.ask(method, "/settings", b"half", stated=False)
+            assert code == 0x10B, f"a {method} without a length: {code}"
         assert await client.ask("GET", "/settings") == (b"200", sent), "half an upload changed the settings"
     print(
         f"PUT, GET /settings (same bytes), GET /log, {MANY} GETs at once, all on one connection: ALPN h3; "
-        "a PUT that states 200000 bytes and ends after 100000: reset with 0x10e, settings unchanged"
+        "a PUT that states 200000 bytes and ends after 100000: reset with 0x10e; "
+        "a PUT, a POST and a PATCH without Content-Length: reset with 0x10b; settings unchanged"
     )
 
 

@@ -45,7 +45,7 @@ static ino_t settings; /* the file's; 0 while there is none */
 /* ---- a reader of its own */
 
 struct reading {
-    bool whole, put, stated, unreadable; /* the last: a section is none */
+    bool whole, put, upload, stated, unreadable; /* a PUT of the settings; any PUT, POST or PATCH; a section is none */
     uint64_t length;
     struct bytes content;
 };
@@ -64,7 +64,10 @@ static bool is(nghttp3_rcbuf *text, const char *what) {
 }
 
 static void read_line(struct reading *r, const nghttp3_qpack_nv *line, bool *method, bool *path) {
-    if (is(line->name, ":method")) *method = is(line->value, "PUT");
+    if (is(line->name, ":method")) {
+        *method = is(line->value, "PUT");
+        r->upload = *method || is(line->value, "POST") || is(line->value, "PATCH");
+    }
     if (is(line->name, ":path")) *path = is(line->value, "/settings");
     if (is(line->name, "content-length")) {
         nghttp3_vec v = nghttp3_rcbuf_get_buf(line->value);
@@ -206,13 +209,13 @@ static void check_settings(struct run *r, struct seen *s) {
     bytes_free(&read.content);
 }
 
-/* An answered PUT was a whole one, and one that is not whole was not answered. */
+/* An answered request was a whole one, and an answered upload stated its length. */
 static void check_end(struct run *r, struct seen *s) {
     if (!s->answered) return;
     struct reading read = read_all(&s->bytes);
     HOLDS(read.whole && !r->closed);
     HOLDS(!read.stated || read.length == read.content.count);
-    HOLDS(!read.put || read.stated);
+    HOLDS(!read.upload || read.stated);
     bytes_free(&read.content);
 }
 
@@ -270,7 +273,7 @@ static void add_head(struct bytes *b, uint64_t type, uint64_t length) {
 
 /* A HEADERS frame with one of a list of sections. */
 static void add_section(struct bytes *b, uint8_t which, uint8_t number) {
-    static const char *methods[] = {"GET", "PUT", "PUT", "PUT", "HEAD", "POST", "CONNECT", "OPTIONS"};
+    static const char *methods[] = {"GET", "PUT", "PUT", "PATCH", "HEAD", "POST", "CONNECT", "OPTIONS"};
     static const char *paths[] = {"/settings", "/log", "/", "*"};
     static char long_name[400];
     memset(long_name, 'n', sizeof long_name - 1);

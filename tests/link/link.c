@@ -55,13 +55,16 @@ static uint64_t fed(uint64_t id, const uint8_t *bytes, size_t count, const text 
     return 0;
 }
 
-static text sound_block(const char *length) {
+static text block_of(const char *method, const char *length) {
     static text t;
     t.count = 0;
-    add_sound(&t);
+    add_sound(&t, method);
     if (length) add_line(&t, "content-length", length);
     return t;
 }
+
+/* An upload where a length is stated. */
+static text sound_block(const char *length) { return block_of(length ? "PUT" : "GET", length); }
 
 static void sizes(void) {
     check(eistulko_connection_size() == sizeof(eistulko_connection), "the connection's size");
@@ -103,6 +106,30 @@ static void cut_request(size_t bytes, uint64_t number) {
     check(ended(0) == number, "a cut upload is refused at its end");
     check(eistulko_is_connection_fault(number) ? connection.code == number : connection.code == 0 && is_free(row), "what the refusal leaves");
     check(ended(0) == (connection.code ? number : EISTULKO_NOT_OPEN), "and it is not open behind it");
+}
+
+/* What a header section is answered with; a refusal frees the record alone, and the stream is not open behind it. */
+static uint64_t comes_to(text block) {
+    begin();
+    check(opened(0) == 0 && feed(0, put_request, 7).event == EISTULKO_SECTION_END, "a section is due");
+    uint64_t number = given(0, &block);
+    check(connection.code == 0 && (number == 0) == !is_free(row), "what a section leaves");
+    check(ended(0) == (number ? EISTULKO_NOT_OPEN : 0), "the end of what was refused, or of a whole request");
+    return number;
+}
+
+/* PUT, POST and PATCH, to the byte, must state a length; it is the last that is looked at. */
+static void uploads(void) {
+    static const char *const all[] = {"PUT", "POST", "PATCH"}, *const others[] = {"put", "PUTX", "PATC", "POS", "DELETE", "GET"};
+    for (size_t i = 0; i < COUNT(all); i++) {
+        check(comes_to(block_of(all[i], 0)) == EISTULKO_REQUEST_REJECTED, "an upload without a length");
+        check(comes_to(block_of(all[i], "0")) == 0, "a length of 0 is stated");
+        check(comes_to(block_of(all[i], "1048577")) == EISTULKO_REQUEST_REJECTED, "a length above the limit");
+        text bad = block_of(all[i], 0);
+        add_line(&bad, "host", "a@h");
+        check(comes_to(bad) == EISTULKO_MESSAGE_ERROR, "what is malformed comes first");
+    }
+    for (size_t i = 0; i < COUNT(others); i++) check(comes_to(block_of(others[i], 0)) == 0, "another method needs no length");
 }
 
 /* Each of 1 to 9, by a call that has to give it. */
@@ -201,13 +228,14 @@ static void worked(void) {
     whole_request();
     cut_request(PUT_HALF, EISTULKO_MESSAGE_ERROR);
     cut_request(PUT_INSIDE, EISTULKO_FRAME_ERROR);
+    uploads();
     house_numbers();
     codes();
     our_goaway();
     writes();
     for (size_t i = 1; i < COUNT(worked_numbers); i++) distinct += worked_numbers[i] > 0;
     check(distinct == 21, "every number came");
-    if (!failures) printf("worked: sizes, a request cut at every byte, cut uploads, all %u numbers, our GOAWAY, the writes\n", distinct);
+    if (!failures) printf("worked: sizes, a request cut at every byte, cut uploads and those without a length, all %u numbers, our GOAWAY, the writes\n", distinct);
 }
 
 /* ---- schedules */
@@ -319,7 +347,7 @@ static unsigned long stack_of_frames(uint8_t type, size_t bytes) {
 static unsigned long stack_of_lines(size_t lines) {
     static text block;
     block.count = 0;
-    add_sound(&block);
+    add_sound(&block, "GET");
     for (size_t i = 0; i < lines; i++) add_line(&block, "n", "");
     stands((eistulko_record){.kind = 1, .mode = 6});
     return stack_of(GIVE, block.bytes, block.count);

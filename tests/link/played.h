@@ -131,12 +131,13 @@ static const token of_begin[] = {
     FRAME("\x00\x07\x01"), FRAME("\x00\x04\x02\x02\x00"), FRAME("\x00\x04\x04\x06\x01\x06\x02"), FRAME("\x00\x04\x01\x06"), FRAME("\x00\x04\x41\x01"),
 };
 
-/* What a request has to say, each in four ways: the first is sound. */
-static const char *const asked[4][5] = {
-    {":method", "PUT", "OPTIONS", "CONNECT", ""},
-    {":scheme", "https", "http", "ftp", ""},
-    {":path", "/", "*", "x", ""},
-    {":authority", "h", "g", "a@h", ""},
+/* What a request has to say, each in six ways: the first is sound. An upload must also state a length. */
+#define WAYS 6
+static const char *const asked[4][1 + WAYS] = {
+    {":method", "GET", "PUT", "POST", "OPTIONS", "CONNECT", ""},
+    {":scheme", "https", "http", "https", "ftp", "HTTP", ""},
+    {":path", "/", "/x", "*", "*", "x", ""},
+    {":authority", "h", "h", "g", "a@h", "@", ""},
 };
 
 /* What else it may say, the sound ones first. */
@@ -162,8 +163,9 @@ static void add_line(text *t, const char *name, const char *value) {
     add(t, value, v);
 }
 
-static void add_sound(text *t) {
-    for (unsigned i = 0; i < 4; i++) add_line(t, asked[i][0], asked[i][1]);
+static void add_sound(text *t, const char *method) {
+    add_line(t, asked[0][0], method);
+    for (unsigned i = 1; i < 4; i++) add_line(t, asked[i][0], asked[i][1]);
 }
 
 /* As many bytes of name and value as a section may have, and more with any other line. */
@@ -205,7 +207,7 @@ static void take_piece(source *s, text *t, unsigned stream) {
 static void take_asked(source *s, text *t) {
     for (unsigned i = 0; i < 4; i++) {
         unsigned which = (unsigned)take(s, 1);
-        if (which < 240) add_line(t, asked[i][0], asked[i][1 + (which < 160 ? 0 : which % 4)]);
+        if (which < 240) add_line(t, asked[i][0], asked[i][1 + (which < 160 ? 0 : which % WAYS)]);
     }
 }
 
@@ -214,7 +216,7 @@ static void take_block(source *s, text *t) {
     t->count = 0;
     if (how == 0) take_raw(s, t);
     else if (how < 4) take_asked(s, t);
-    else if (how < 14) add_sound(t);
+    else if (how < 14) add_sound(t, how < 12 ? "GET" : how == 12 ? "PUT" : "PATCH");
     for (unsigned i = (unsigned)take(s, 1) % 4; i; i--) {
         size_t which = take_choice(s, COUNT(fields));
         add_line(t, fields[which][0], fields[which][1]);

@@ -63,16 +63,13 @@
 //! 4. **End a stream only at its FIN, and when every byte was consumed. A lost link, an idle timeout, a
 //!    closed connection or a stream that the stack gave up is a [reset](Connection::reset), never an
 //!    [end](Connection::end).** Half an upload is kept out by this and by the stated Content-Length, and by
-//!    nothing else.
+//!    nothing else. PUT, POST and PATCH must state one; content under another method may come without, and
+//!    nothing tells its half from its whole.
 //! 5. Act on a request when it is [`Ended::Whole`] and not before.
 //! 6. After a [stream fault](Refused::is_stream_fault), reset the stream and ask the peer to stop sending,
 //!    both with its [number](Refused::number); what still comes on it is dropped without a call. After a
 //!    [connection fault](Refused::is_connection_fault), close the connection with it; [`Connection::code`]
 //!    keeps it.
-//! 7. Refuse an upload (PUT, POST, PATCH) whose header section states no Content-Length, if half of it would
-//!    do harm: nothing tells its half from its whole. Give it up as soon as its section was given:
-//!    [`reset`](Connection::reset), then as after a stream fault, with
-//!    [`RequestRejected`](Refused::RequestRejected).
 
 #![deny(missing_docs, unsafe_code, unsafe_op_in_unsafe_fn)]
 

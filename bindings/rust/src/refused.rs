@@ -55,7 +55,7 @@ numbers! {
     SettingsError = 0x0109, "A setting of HTTP/2, or one that comes twice";
     MissingSettings = 0x010a, "The control stream begins with another frame than SETTINGS";
     RequestRejected = 0x010b,
-        "Barred by our GOAWAY, CONNECT, another scheme, or a Content-Length above 1,048,576";
+        "Barred by our GOAWAY, CONNECT, another scheme, a Content-Length above 1,048,576, or a PUT, POST or PATCH without one";
     RequestCancelled = 0x010c, "Content above 1,048,576 bytes without a Content-Length";
     RequestIncomplete = 0x010d, "Ended without a header section";
     MessageError = 0x010e, "A malformed section, or content that is not as long as stated";

@@ -2,7 +2,7 @@
 
 mod common;
 
-use common::{block, hex, one_way, put, request, unbound, Random, Stream};
+use common::{block, get, get_but, hex, one_way, put, request, sound, unbound, Random, Stream};
 use eistulko::{Block, Connection, Ended, Refused, StreamId};
 
 /// A request's bytes, its header section and trailers, and what it comes to.
@@ -22,12 +22,14 @@ fn requests() -> Vec<Request> {
         ("c0 00 00 00 00 00 00 21 00", None, Err(Refused::RequestIncomplete)),
         ("21 01 61 01 80 00 40 01", None, Err(Refused::ExcessiveLoad)),
     ] {
-        requests.push((hex(text), [put(length), trailers()], verdict));
+        requests.push((hex(text), [sound(length), trailers()], verdict));
     }
     let bad = block(&[("te", "gzip")]);
     let rejected = Err(Refused::MessageError);
     requests.push((hex("01 02 00 d1 00 01 61"), [bad.clone(), trailers()], rejected));
-    requests.push((hex("01 02 00 d1 00 01 61 01 03 00 00 00"), [put(Some(1)), bad], rejected));
+    let unsized_put = [get_but(":method", "PUT"), trailers()];
+    requests.push((hex("21 00 01 02 00 d1 00 01 61"), unsized_put, Err(Refused::RequestRejected)));
+    requests.push((hex("01 02 00 d1 00 01 61 01 03 00 00 00"), [put(1), bad], rejected));
     requests
 }
 
@@ -108,7 +110,7 @@ fn a_cut_put_is_never_whole() {
     for frame in PUT {
         boundaries.push(boundaries[boundaries.len() - 1] + hex(frame).len());
     }
-    let blocks = [put(Some(6))];
+    let blocks = [put(6)];
     for cut in 0..bytes.len() {
         let expected = match boundaries.iter().position(|boundary| *boundary == cut) {
             None => Refused::FrameError,
@@ -129,7 +131,7 @@ fn whole_means_all_of_the_content() {
     let bytes = hex(&format!("{} 21 02 00 00 01 02 00 d2", PUT.join(" ")));
     let mut whole = Vec::new();
     for cut in 0..=bytes.len() {
-        let blocks = [put(Some(6)), block(&[("x-sum", "9f")])];
+        let blocks = [put(6), block(&[("x-sum", "9f")])];
         let (stream, verdict) = request([&bytes[..cut]], &blocks, unbound);
         match verdict {
             Ok(ended) => {
@@ -143,13 +145,13 @@ fn whole_means_all_of_the_content() {
     assert_eq!(whole, [all, all + 4, all + 8]);
 }
 
-/// Without a Content-Length the half cannot be told from the whole: a lost link must be a reset.
+/// Content without a length, which is no upload's: the half cannot be told from the whole, and a lost link must be a reset.
 #[test]
 fn without_a_length_the_fin_alone_tells() {
     let half = hex("01 01 00 00 02 6c 65");
-    assert_eq!(request([&half[..]], &[put(None)], unbound).1, Ok(Ended::Whole));
+    assert_eq!(request([&half[..]], &[get()], unbound).1, Ok(Ended::Whole));
     let mut connection = Connection::new();
-    let mut stream = Stream::new(&mut connection, 0, &[put(None)]);
+    let mut stream = Stream::new(&mut connection, 0, &[get()]);
     stream.feed(&mut connection, &half, unbound).unwrap();
     assert_eq!(connection.reset(StreamId(0)), Ok(()));
     assert_eq!(connection.end(StreamId(0)), Err(Refused::NotOpen));
@@ -239,5 +241,5 @@ fn any_request(connection: &mut Connection, id: u64, random: &mut Random) -> Ope
         rest.truncate(random.below(rest.len()));
     }
     let stated = content.len() + usize::from(fate == Fate::Short);
-    Open { stream: Stream::new(connection, id, &[put(Some(stated))]), rest, content, fate }
+    Open { stream: Stream::new(connection, id, &[put(stated)]), rest, content, fate }
 }

@@ -2,7 +2,7 @@
 
 mod common;
 
-use common::{block, hex, one_way, put, request, unbound, Stream};
+use common::{block, get, hex, one_way, request, sound, unbound, Stream};
 use eistulko::{
     write_header, write_integer_frame, write_opening, Block, Connection, Ended, Event, PushId, Refused,
     StreamId, TooLong, HEADER_ROOM, INTEGER_FRAME_ROOM, OPENING_ROOM,
@@ -12,7 +12,7 @@ use eistulko::{
 fn read(text: &str, content_length: Option<usize>) -> (Result<Ended, Refused>, String) {
     let bytes = hex(&text.replace('H', "01 01 00"));
     let (stream, verdict) =
-        request([&bytes[..]], &[put(content_length), block(&[("x-trailer", "1")])], unbound);
+        request([&bytes[..]], &[sound(content_length), block(&[("x-trailer", "1")])], unbound);
     (verdict, String::from_utf8(stream.content).unwrap())
 }
 
@@ -55,11 +55,11 @@ fn requests() {
 fn content_without_a_length_ends_at_1_048_576() {
     let mut bytes = hex("01 01 00 00 80 10 00 00");
     bytes.resize(bytes.len() + 1_048_576, b'a');
-    let (stream, verdict) = request([&bytes[..]], &[put(None)], unbound);
+    let (stream, verdict) = request([&bytes[..]], &[get()], unbound);
     assert_eq!((stream.content.len(), verdict), (1_048_576, Ok(Ended::Whole)));
     // The fault is at the header of the byte too many.
     bytes.extend([0, 1]);
-    let (stream, verdict) = request([&bytes[..]], &[put(None)], unbound);
+    let (stream, verdict) = request([&bytes[..]], &[get()], unbound);
     assert_eq!((stream.content.len(), verdict), (1_048_576, Err(Refused::RequestCancelled)));
 }
 
@@ -204,9 +204,9 @@ fn section_blocks() {
 
 #[test]
 fn a_section_of_16_384_bytes_is_the_largest() {
-    let size = put(None).iter().len() - 4 * 6;
+    let size = get().iter().len() - 4 * 6;
     for (more, verdict) in [(0, Ok(Ended::Whole)), (1, Err(Refused::MessageError))] {
-        let mut block = put(None);
+        let mut block = get();
         block.line("x", vec![b'y'; 16_384 - size - 1 + more]).unwrap();
         assert_eq!(request([&hex("01 01 00")[..]], &[block], unbound).1, verdict);
     }

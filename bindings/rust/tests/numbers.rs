@@ -5,7 +5,7 @@
 
 mod common;
 
-use common::{block, hex, put, put_but, Random};
+use common::{block, get, get_but, hex, put, Random};
 use eistulko::{
     Block, Connection, Ended, Event, Fed, FeedRefused, Refused, StreamId, GOAWAY_ROOM, NO_BOUND, RECORDS,
 };
@@ -57,8 +57,8 @@ fn behind(connection: &mut Connection, section: &Block) -> Given {
     connection.give(StreamId(0), section)
 }
 
-fn unsized_put(connection: &mut Connection) -> Given {
-    behind(connection, &put(None))
+fn behind_get(connection: &mut Connection) -> Given {
+    behind(connection, &get())
 }
 
 fn control(connection: &mut Connection) -> Given {
@@ -88,10 +88,10 @@ fn reset(connection: &mut Connection, id: u64) -> Given {
 
 const CASES: &[Case] = &[
     Case { number: Refused::NotOpen, first: |_| Ok(()), call: |c| feed(c, 0, "00") },
-    Case { number: Refused::NotOpen, first: |_| Ok(()), call: |c| give(c, &put(None)) },
+    Case { number: Refused::NotOpen, first: |_| Ok(()), call: |c| give(c, &get()) },
     Case { number: Refused::NotOpen, first: opened, call: |c| end(c, 4) },
     Case { number: Refused::NotOpen, first: |c| opened(c).and(reset(c, 0)), call: |c| reset(c, 0) },
-    Case { number: Refused::NotOpen, first: |c| unsized_put(c).and(end(c, 0)), call: |c| end(c, 0) },
+    Case { number: Refused::NotOpen, first: |c| behind_get(c).and(end(c, 0)), call: |c| end(c, 0) },
     Case { number: Refused::NotNext, first: |_| Ok(()), call: |c| open(c, 4) },
     Case { number: Refused::NotNext, first: |_| Ok(()), call: |c| open(c, 1) },
     Case { number: Refused::NotNext, first: opened, call: opened },
@@ -100,8 +100,8 @@ const CASES: &[Case] = &[
     Case { number: Refused::NoRecord, first: full, call: |c| open(c, 2) },
     Case { number: Refused::SectionDue, first: due, call: |c| feed(c, 0, "00") },
     Case { number: Refused::SectionDue, first: due, call: |c| end(c, 0) },
-    Case { number: Refused::NoSection, first: opened, call: |c| give(c, &put(None)) },
-    Case { number: Refused::NoSection, first: unsized_put, call: |c| give(c, &put(None)) },
+    Case { number: Refused::NoSection, first: opened, call: |c| give(c, &get()) },
+    Case { number: Refused::NoSection, first: behind_get, call: |c| give(c, &get()) },
     Case { number: Refused::Unreadable, first: due, call: |c| give(c, &hex("04 00")) },
     Case { number: Refused::Unreadable, first: due, call: |c| give(c, &hex("04 00 02 00 00 00")) },
     Case {
@@ -128,11 +128,7 @@ const CASES: &[Case] = &[
     Case { number: Refused::FrameUnexpected, first: opened, call: |c| feed(c, 0, "04 00") },
     Case { number: Refused::FrameUnexpected, first: control, call: |c| feed(c, 2, "01 00") },
     Case { number: Refused::FrameError, first: control, call: |c| feed(c, 2, "07 00") },
-    Case {
-        number: Refused::FrameError,
-        first: |c| unsized_put(c).and(feed(c, 0, "00")),
-        call: |c| end(c, 0),
-    },
+    Case { number: Refused::FrameError, first: |c| behind_get(c).and(feed(c, 0, "00")), call: |c| end(c, 0) },
     Case { number: Refused::ExcessiveLoad, first: opened, call: |c| feed(c, 0, "01 80 00 40 01") },
     Case { number: Refused::ExcessiveLoad, first: one_way, call: |c| feed(c, 2, "00 04 41 01") },
     Case { number: Refused::IdError, first: control, call: |c| feed(c, 2, "03 01 00") },
@@ -141,19 +137,18 @@ const CASES: &[Case] = &[
     Case { number: Refused::SettingsError, first: one_way, call: |c| feed(c, 2, "00 04 02 02 00") },
     Case { number: Refused::MissingSettings, first: one_way, call: |c| feed(c, 2, "00 21 00") },
     Case { number: Refused::RequestRejected, first: |c| goaway(c, 0), call: opened },
-    Case { number: Refused::RequestRejected, first: due, call: |c| give(c, &put_but(":method", "CONNECT")) },
-    Case { number: Refused::RequestRejected, first: due, call: |c| give(c, &put_but(":scheme", "ftp")) },
-    Case { number: Refused::RequestRejected, first: due, call: |c| give(c, &put(Some(1_048_577))) },
-    Case { number: Refused::RequestCancelled, first: unsized_put, call: |c| feed(c, 0, "00 80 10 00 01") },
+    Case { number: Refused::RequestRejected, first: due, call: |c| give(c, &get_but(":method", "CONNECT")) },
+    Case { number: Refused::RequestRejected, first: due, call: |c| give(c, &get_but(":scheme", "ftp")) },
+    Case { number: Refused::RequestRejected, first: due, call: |c| give(c, &put(1_048_577)) },
+    Case { number: Refused::RequestRejected, first: due, call: |c| give(c, &get_but(":method", "PUT")) },
+    Case { number: Refused::RequestRejected, first: due, call: |c| give(c, &get_but(":method", "POST")) },
+    Case { number: Refused::RequestRejected, first: due, call: |c| give(c, &get_but(":method", "PATCH")) },
+    Case { number: Refused::RequestCancelled, first: behind_get, call: |c| feed(c, 0, "00 80 10 00 01") },
     Case { number: Refused::RequestIncomplete, first: opened, call: |c| end(c, 0) },
     Case { number: Refused::MessageError, first: due, call: |c| give(c, &block(&[("connection", "close")])) },
     Case { number: Refused::MessageError, first: due, call: |c| give(c, &[]) },
-    Case { number: Refused::MessageError, first: |c| behind(c, &put(Some(1))), call: |c| end(c, 0) },
-    Case {
-        number: Refused::MessageError,
-        first: |c| behind(c, &put(Some(1))),
-        call: |c| feed(c, 0, "00 02"),
-    },
+    Case { number: Refused::MessageError, first: |c| behind(c, &put(1)), call: |c| end(c, 0) },
+    Case { number: Refused::MessageError, first: |c| behind(c, &put(1)), call: |c| feed(c, 0, "00 02") },
 ];
 
 /// All that a host can see of a connection but its code and its requests.
@@ -227,19 +222,42 @@ fn a_freed_record_is_used_again() {
     assert_eq!((open(&mut connection, 96), connection.free_records()), (Ok(()), 0));
 }
 
+/// The last that is looked at in a header section.
+#[test]
+fn an_upload_states_a_length() {
+    let given = |method, line: Option<(&str, &str)>| {
+        let mut connection = Connection::new();
+        due(&mut connection).unwrap();
+        let mut block = get_but(":method", method);
+        if let Some((name, value)) = line {
+            block.line(name, value).unwrap();
+        }
+        (give(&mut connection, &block), end(&mut connection, 0))
+    };
+    for method in ["PUT", "POST", "PATCH"] {
+        assert_eq!(given(method, None), (Err(Refused::RequestRejected), Err(Refused::NotOpen)), "{method}");
+        assert_eq!(given(method, Some(("content-length", "0"))), (Ok(()), Ok(())));
+        let malformed = (Err(Refused::MessageError), Err(Refused::NotOpen));
+        assert_eq!(given(method, Some(("host", "other"))), malformed);
+    }
+    for method in ["put", "PUTX", "PATC", "DELETE"] {
+        assert_eq!(given(method, None), (Ok(()), Ok(())), "{method}");
+    }
+}
+
 #[test]
 fn an_unreadable_block_leaves_the_section_due() {
     let mut connection = Connection::new();
     due(&mut connection).unwrap();
     assert_eq!(give(&mut connection, &[1]), Err(Refused::Unreadable));
-    assert_eq!(give(&mut connection, &put(None)), Ok(()));
+    assert_eq!(give(&mut connection, &get()), Ok(()));
     assert_eq!(connection.end(StreamId(0)), Ok(Ended::Whole));
 }
 
 #[test]
 fn an_allowance_of_0_reads_no_header() {
     let mut connection = Connection::new();
-    unsized_put(&mut connection).unwrap();
+    behind_get(&mut connection).unwrap();
     let mut fed = |piece, allow| connection.feed(StreamId(0), piece, allow).unwrap();
     assert_eq!(fed(b"\x00\x01a", 0), Fed { event: None, used: 0, heads: 0 });
     assert_eq!(fed(b"\x00\x01", 1), Fed { event: None, used: 2, heads: 1 });
@@ -284,7 +302,7 @@ fn random_calls() {
                 2 => end(&mut connection, id),
                 3 => reset(&mut connection, id),
                 4 if random.below(8) == 0 => goaway(&mut connection, id),
-                4..=5 => connection.give(StreamId(id), &put(None)),
+                4..=5 => connection.give(StreamId(id), &get()),
                 6 => connection.give(StreamId(id), &bytes),
                 _ => connection
                     .feed(StreamId(id), &bytes, random.below(4) as u64)

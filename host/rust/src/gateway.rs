@@ -9,8 +9,7 @@ use std::path::PathBuf;
 pub struct Asked {
     pub method: String,
     pub path: String,
-    pub stated: bool, // a Content-Length
-    pub part: bool,   // a Content-Range
+    pub part: bool, // a Content-Range
     pub conditional: bool,
     pub content: Vec<u8>,
 }

@@ -109,7 +109,6 @@ fn asked_by(block: &[u8]) -> Asked {
         match name {
             b":method" => asked.method = short(value),
             b":path" => asked.path = short(value),
-            b"content-length" => asked.stated = true,
             b"content-range" => asked.part = true,
             b"if-match" | b"if-none-match" | b"if-unmodified-since" => asked.conditional = true,
             _ => {}
@@ -129,7 +128,7 @@ async fn next(recv: &mut RecvStream, until: Instant) -> Result<Option<quinn::Chu
 }
 
 impl Client {
-    /// A section is due: it is decoded and given. Until the engine itself asks uploads for a length, the host refuses a PUT without one.
+    /// A section is due: it is decoded and given.
     fn give(&self, id: StreamId, section: &[u8], asked: &mut Option<Asked>) -> Result<(), Fault> {
         let block = match self.qpack.borrow_mut().decode(id.0, section) {
             Ok(block) => block,
@@ -139,13 +138,7 @@ impl Client {
             Err(code) => return Err(Fault::Connection(code)),
         };
         self.engine.borrow_mut().give(id, &block)?;
-        if asked.is_some() {
-            return Ok(()); // trailers
-        }
-        let begun = asked.insert(asked_by(&block));
-        if begun.method == "PUT" && !begun.stated {
-            return self.give_up(id, Refused::RequestRejected.number());
-        }
+        asked.get_or_insert_with(|| asked_by(&block)); // the second is trailers
         Ok(())
     }
 

@@ -289,24 +289,39 @@ fn blocks_by_byte(leaves: &mut Leaves) -> Asked {
         ("x-y", "a b"),
     ];
     for line in 0..sound.len() {
-        for byte in 0..=u8::MAX {
-            let (name, value) = sound[line];
-            for place in 0..=name.len() + value.len() + 1 {
-                for inserted in [false, true] {
-                    let mut lines: blocks::Lines = sound
-                        .map(|(name, value)| (name.as_bytes().to_vec(), value.as_bytes().to_vec()))
-                        .to_vec();
-                    let (bytes, at) = match place.checked_sub(name.len() + 1) {
-                        None => (&mut lines[line].0, place),
-                        Some(at) => (&mut lines[line].1, at),
-                    };
-                    match bytes.get_mut(at) {
-                        Some(old) if !inserted => *old = byte,
-                        _ => bytes.insert(at, byte),
-                    }
-                    leaves.block(&blocks::bytes(&lines))?;
-                    leaves.block(&blocks::bytes(&lines[line..=line].to_vec()))?;
+        by_byte(leaves, &sound, line)?;
+    }
+    // Without a length, the method alone decides.
+    for method in ["PUT", "POST", "PATCH"] {
+        by_byte(
+            leaves,
+            &[(":method", method), (":scheme", "https"), (":authority", "ab"), (":path", "/")],
+            0,
+        )?;
+    }
+    Ok(())
+}
+
+/// In one of the lines, in place of a byte and between two.
+fn by_byte(leaves: &mut Leaves, all: &[(&str, &str)], line: usize) -> Asked {
+    let (name, value) = all[line];
+    for byte in 0..=u8::MAX {
+        for place in 0..=name.len() + value.len() + 1 {
+            for inserted in [false, true] {
+                let mut lines: blocks::Lines = all
+                    .iter()
+                    .map(|(name, value)| (name.as_bytes().to_vec(), value.as_bytes().to_vec()))
+                    .collect();
+                let (bytes, at) = match place.checked_sub(name.len() + 1) {
+                    None => (&mut lines[line].0, place),
+                    Some(at) => (&mut lines[line].1, at),
+                };
+                match bytes.get_mut(at) {
+                    Some(old) if !inserted => *old = byte,
+                    _ => bytes.insert(at, byte),
                 }
+                leaves.block(&blocks::bytes(&lines))?;
+                leaves.block(&blocks::bytes(&lines[line..=line].to_vec()))?;
             }
         }
     }

@@ -1,4 +1,4 @@
-//! Eistulko: an independent second reading of document 01, to hold the proved engine to from outside.
+//! Eistulko: an independent second reading of documents 01 and 02, to hold the proved engine to from outside.
 //!
 //! Each stream keeps every byte it consumed, and each call reads the whole stream again from its first byte;
 //! nothing is carried from one call to the next but those bytes and the sections taken.

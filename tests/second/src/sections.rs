@@ -13,6 +13,9 @@ const PSEUDO: [&[u8]; 4] = [b":method", b":scheme", b":authority", b":path"];
 const FORBIDDEN: [&[u8]; 5] =
     [b"connection", b"keep-alive", b"proxy-connection", b"transfer-encoding", b"upgrade"];
 
+/// Document 02, Q-1: these must state a length.
+const UPLOADS: [&[u8]; 3] = [b"PUT", b"POST", b"PATCH"];
+
 #[derive(Clone, Copy, Debug, PartialEq, Eq)]
 pub enum Part {
     HeaderSection,
@@ -49,6 +52,9 @@ pub fn judge_header_section(lines: &[Line]) -> Result<Option<u64>, u16> {
     }
     let content_length = first(lines, b"content-length").and_then(content_length);
     if content_length.is_some_and(|stated| stated > CONTENT_LIMIT) {
+        return Err(REQUEST_REJECTED);
+    }
+    if content_length.is_none() && UPLOADS.contains(&method) {
         return Err(REQUEST_REJECTED);
     }
     Ok(content_length)

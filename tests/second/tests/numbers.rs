@@ -153,10 +153,14 @@ fn stream_faults_free_the_record() {
     for (lines, number) in [
         (vec![(":method", "CONNECT"), (":authority", "a")], "267"),
         (vec![(":method", "GET"), (":authority", "a"), (":path", "/")], "270"),
+        (vec![(":method", "PUT"), (":scheme", "https"), (":authority", "a"), (":path", "/")], "267"),
     ] {
         let mut session = due();
         session.says(&format!("H 0 {}", block(&lines)), &format!("{number} 0 0 -"));
         session.state("0 4 2 - - - - 0 0");
+        for call in ["F 0 1 0000", "H 0 -", "E 0", "R 0"] {
+            session.says(call, "1 0 0 -");
+        }
         session.accepts("O 4");
         session.state("0 8 2 - - - - 0 0 0:4:request");
     }
@@ -347,6 +351,14 @@ fn order_of_the_header_section() {
         // Above 2^62-1 it is one of the rules, before CONNECT.
         (with(&[(":method", "CONNECT"), ("content-length", "4611686018427387904")]), 270),
         (with(&[(":method", "CONNECT"), ("content-length", "4611686018427387903")]), 267),
+        // An upload without a length is last: behind size, the rules, scheme, path and origin.
+        (with(&[(":method", "PUT"), ("x", long)]), 270),
+        (with(&[(":method", "PUT"), ("upgrade", "x")]), 270),
+        (without(":scheme", with(&[(":method", "PUT")])), 270),
+        (with(&[(":method", "PUT"), (":path", "*")]), 270),
+        (with(&[(":method", "PUT"), (":authority", "a@b")]), 270),
+        (with(&[(":method", "PUT")]), 267),
+        (with(&[(":method", "PUT"), ("content-length", "0")]), 0),
     ] {
         let mut session = due();
         session.says(&format!("H 0 {}", block(&lines)), &format!("{number} 0 0 -"));

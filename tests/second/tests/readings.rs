@@ -470,3 +470,75 @@ fn h_trailers_refused_free_the_record() {
     session.says(&format!("H 0 {}", block(&GET)), "270 0 0 -");
     session.state("0 4 2 - - - - 0 0");
 }
+
+/// A header section of that method, with a Content-Length if one is given.
+fn section_of(method: &'static str, length: Option<&'static str>) -> String {
+    let mut lines = GET.to_vec();
+    lines[0].1 = method;
+    lines.extend(length.map(|length| ("content-length", length)));
+    block(&lines)
+}
+
+#[test]
+fn q1_1_the_three_methods_to_the_byte() {
+    for (method, answer) in [
+        ("PUT", "267 0 0 -"),
+        ("POST", "267 0 0 -"),
+        ("PATCH", "267 0 0 -"),
+        ("put", "0 0 0 -"),
+        ("PUTX", "0 0 0 -"),
+        ("PATC", "0 0 0 -"),
+    ] {
+        let mut session = Session::new();
+        session.accepts("O 0");
+        session.says("F 0 1 010100", "0 3 1 section 2 1 1");
+        session.says(&format!("H 0 {}", section_of(method, None)), answer);
+        let open = answer.starts_with("0 ");
+        session.says("E 0", if open { "0 0 0 whole" } else { "1 0 0 -" });
+        session.state("0 4 2 - - - - 0 0");
+    }
+}
+
+#[test]
+fn q1_2_a_length_of_0_is_stated() {
+    let mut session = Session::new();
+    for (id, content, end) in [(0, "-", "0 0 0 whole"), (4, "0000", "0 0 0 whole"), (8, "0001", "1 0 0 -")] {
+        session.accepts(&format!("O {id}"));
+        session.says(&format!("F {id} 1 010100"), "0 3 1 section 2 1 1");
+        session.accepts(&format!("H {id} {}", section_of("PUT", Some("0"))));
+        let fed = match content {
+            "-" => "0 0 0 -",
+            "0000" => "0 2 1 -",
+            _ => "270 2 1 -",
+        };
+        session.says(&format!("F {id} 1 {content}"), fed);
+        session.says(&format!("E {id}"), end);
+    }
+}
+
+#[test]
+fn q1_4_trailers_state_nothing() {
+    let mut session = Session::new();
+    session.accepts("O 0");
+    session.says("F 0 1 010100", "0 3 1 section 2 1 1");
+    session.accepts(&format!("H 0 {}", section_of("PATCH", Some("1"))));
+    session.says("F 0 1 000161", "0 3 1 content 2 1");
+    session.says("F 0 1 0100", "0 2 1 section 2 0 1");
+    session.says(&format!("H 0 {}", block(&[("content-length", "1")])), "270 0 0 -");
+}
+
+#[test]
+fn q1_5_other_methods_go_on_without_a_length() {
+    for method in ["GET", "DELETE", "put"] {
+        let mut session = Session::new();
+        session.accepts("O 0");
+        session.says("F 0 1 010100", "0 3 1 section 2 1 1");
+        session.accepts(&format!("H 0 {}", section_of(method, None)));
+        session.says("F 0 1 0003616263", "0 5 1 content 2 3");
+        session.accepts("O 4");
+        session.says("E 0", "0 0 0 whole");
+        session.says("F 4 1 010100", "0 3 1 section 2 1 1");
+        session.accepts(&format!("H 4 {}", section_of(method, None)));
+        session.says("F 4 1 0080100001", "268 5 1 -");
+    }
+}

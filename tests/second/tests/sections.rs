@@ -230,6 +230,41 @@ fn content_lengths() {
 }
 
 #[test]
+fn uploads_state_a_length() {
+    let limit = (b"content-length", b"1048577");
+    for method in ["PUT", "POST", "PATCH"] {
+        let upload = set(b":method", method.as_bytes());
+        assert_eq!(header(&upload), REJECTED, "{method}");
+        for (value, length) in [("0", 0), ("00", 0), ("3", 3), ("1048576", 1_048_576)] {
+            assert_eq!(header(&with(&upload, b"content-length", value.as_bytes())), Ok(Some(length)));
+        }
+        assert_eq!(header(&with(&upload, limit.0, limit.1)), REJECTED);
+        // What only looks like a length states none; a malformed one is malformed.
+        assert_eq!(header(&with(&upload, b"content-lengths", b"3")), REJECTED);
+        assert_eq!(header(&with(&upload, b"x", b"content-length: 3")), REJECTED);
+        assert_eq!(header(&with(&upload, b"content-length", b"")), MALFORMED);
+        // Every earlier fault comes first.
+        for (name, value) in [(":authority", "a@b"), (":authority", ""), (":path", "x"), (":path", "*")] {
+            let mut lines = upload.clone();
+            lines.iter_mut().find(|line| line.0 == name.as_bytes()).unwrap().1 = value.as_bytes().to_vec();
+            assert_eq!(header(&lines), MALFORMED, "{method} {name} {value}");
+        }
+        assert_eq!(header(&with(&upload, b"te", b"gzip")), MALFORMED);
+        assert_eq!(header(&with(&upload, b"host", b"b")), MALFORMED);
+    }
+    for method in [
+        "put", "PUTX", "PATC", "PU", "XPUT", "Put", "POS", "POSTS", "post", "PATCHX", "patch", "GET", "HEAD",
+        "DELETE", "OPTIONS", "TRACE",
+    ] {
+        let other = set(b":method", method.as_bytes());
+        assert_eq!(header(&other), SOUND, "{method}");
+        assert_eq!(header(&with(&other, limit.0, limit.1)), REJECTED, "{method}");
+    }
+    // A line named as a method is no method.
+    assert_eq!(header(&with(&get(), b"method", b"PUT")), SOUND);
+}
+
+#[test]
 fn schemes_and_paths() {
     for scheme in ["HTTP", "Https", "", "ftp", "httpss", "htt"] {
         assert_eq!(header(&set(b":scheme", scheme.as_bytes())), REJECTED);

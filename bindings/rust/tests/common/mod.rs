@@ -23,21 +23,27 @@ pub fn block(lines: &[(&str, &str)]) -> Block {
     block
 }
 
-const PUT: [(&str, &str); 4] =
-    [(":method", "PUT"), (":scheme", "https"), (":authority", "gateway"), (":path", "/batch/7")];
+const GET: [(&str, &str); 4] =
+    [(":method", "GET"), (":scheme", "https"), (":authority", "gateway"), (":path", "/batch/7")];
 
-/// A sound header section.
-pub fn put(content_length: Option<usize>) -> Block {
-    let mut block = block(&PUT);
-    if let Some(length) = content_length {
-        block.line("content-length", length.to_string()).unwrap();
-    }
+/// The header section of a GET, with that line for its own of the name.
+pub fn get_but(name: &str, value: &str) -> Block {
+    block(&GET.map(|line| if line.0 == name { (name, value) } else { line }))
+}
+
+pub fn get() -> Block {
+    block(&GET)
+}
+
+pub fn put(content_length: usize) -> Block {
+    let mut block = get_but(":method", "PUT");
+    block.line("content-length", content_length.to_string()).unwrap();
     block
 }
 
-/// The header section of a PUT, with that line for its own of the name.
-pub fn put_but(name: &str, value: &str) -> Block {
-    block(&PUT.map(|line| if line.0 == name { (name, value) } else { line }))
+/// A sound header section: a PUT must state a length.
+pub fn sound(content_length: Option<usize>) -> Block {
+    content_length.map_or_else(get, put)
 }
 
 /// What a stream has told so far, and the sections to give when they are due.

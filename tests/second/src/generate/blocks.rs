@@ -11,6 +11,21 @@ const PSEUDO: [&str; 4] = [":method", ":scheme", ":authority", ":path"];
 
 const FORBIDDEN: [&str; 5] = ["connection", "keep-alive", "proxy-connection", "transfer-encoding", "upgrade"];
 
+/// Methods that must state a length, and some of those that need not, next to them among others.
+const UPLOADS: [&str; 3] = ["PUT", "POST", "PATCH"];
+const OTHERS: [&str; 10] = [
+    "GET",
+    "HEAD",
+    "DELETE",
+    "OPTIONS",
+    "put",
+    "PUTX",
+    "PATC",
+    "connect",
+    "M-SEARCH",
+    "!#$%&'*+-.^_`|~09azAZ",
+];
+
 const CONTENT_LENGTHS: [&str; 28] = [
     "",
     "0",
@@ -52,16 +67,8 @@ pub fn bytes(lines: &Lines) -> Vec<u8> {
 
 /// A header section that is accepted, stating `content_length` if there is one.
 pub fn sound_header_section(random: &mut Random, content_length: Option<u64>) -> Lines {
-    let method = random.pick(&[
-        "GET",
-        "POST",
-        "PUT",
-        "HEAD",
-        "OPTIONS",
-        "connect",
-        "M-SEARCH",
-        "!#$%&'*+-.^_`|~09azAZ",
-    ]);
+    let upload = content_length.is_some() && random.one_in(2);
+    let method = if upload { random.pick(&UPLOADS) } else { random.pick(&OTHERS) };
     let path = if method == "OPTIONS" {
         random.pick(&["*", "/", "/x"])
     } else {
@@ -193,8 +200,11 @@ pub fn flaw_lines(random: &mut Random, lines: &mut Lines) {
             lines.push(line("te", value));
         }
         12 => {
-            let method =
-                random.pick(&["", "CONNECT", "Connect", "G T", "GET/", "G(T", "G\u{e9}T", "OPTIONS", "get"]);
+            let method = match random.below(3) {
+                0 => random.pick(&UPLOADS),
+                1 => random.pick(&OTHERS),
+                _ => random.pick(&["", "CONNECT", "Connect", "G T", "GET/", "G(T", "G\u{e9}T"]),
+            };
             set(lines, ":method", method.as_bytes());
         }
         13 | 14 => set(lines, "content-length", random.pick(&CONTENT_LENGTHS).as_bytes()),
@@ -264,13 +274,15 @@ fn change_byte(random: &mut Random, bytes: &mut Vec<u8>) {
 /// Two flaws of a header section that its order tells apart; pseudo-fields stay in front.
 pub fn flaw_order(random: &mut Random, lines: &mut Lines) {
     for _ in 0..2 {
-        match random.below(7) {
+        match random.below(9) {
             0 => set(lines, ":method", b"CONNECT"),
             1 => remove(lines, random.pick(&[":scheme", ":path"])),
             2 => set_present(lines, ":scheme", random.pick(&["ftp", "HTTP", ""])),
             3 => set_present(lines, ":path", random.pick(&["", "x", "*", "*x"])),
             4 => set_present(lines, ":authority", random.pick(&["", "a@b", "A"])),
             5 => set(lines, "content-length", random.pick(&["1048577", "4611686018427387903"]).as_bytes()),
+            6 => remove(lines, "content-length"),
+            7 => set(lines, ":method", random.pick(&UPLOADS).as_bytes()),
             _ => set(lines, ":method", b"OPTIONS"),
         }
     }
