@@ -10,6 +10,7 @@ use mathlib.Core.Logic.{_⊎_, inl, inr}
 use mathlib.Core.Option.{Option, none, some}
 use lib.Dec.{ltb}
 use lib.ListN.{length, getD, set}
+use Rattle.rules.specs.Numbers.{ROOM-SHORT, BAD-VALUE}
 use Rattle.rules.specs.Integers.{written}
 use Rattle.rules.specs.Control.{Control, unset}
 use Rattle.rules.specs.OneWay.{encoder, decoder}
@@ -216,7 +217,7 @@ unfolding into
 into-not-zero room none = λ e. omega arith
 into-not-zero room (some bytes) = by (ltb room (length bytes))
   where
-    by : (x : Bool) → NotZero (elim x [ true ↦ refused 7 | false ↦ wrote bytes ])
+    by : (x : Bool) → NotZero (elim x [ true ↦ refused ROOM-SHORT | false ↦ wrote bytes ])
     by true = λ e. omega arith
     by false = tt
 
@@ -224,7 +225,7 @@ goaway-not-zero : (sent : Option ℕ) (room id : ℕ) → NotZero (write-goaway 
 unfolding write-goaway write-integer-frame
 goaway-not-zero sent room id = by (badGoaway sent id)
   where
-    by : (x : Bool) → NotZero (elim x [ true ↦ refused 8 | false ↦ into room (integer-frame 7 (written id)) ])
+    by : (x : Bool) → NotZero (elim x [ true ↦ refused BAD-VALUE | false ↦ into room (integer-frame 7 (written id)) ])
     by true = λ e. omega arith
     by false = into-not-zero room (integer-frame 7 (written id))
 

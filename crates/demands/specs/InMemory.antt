@@ -12,7 +12,7 @@ use lib.Dec.{T, eqb, leb, ltb, eqb→eq}
 use lib.ListN.{length, getD, set}
 use lib.Seq.{set-getD}
 use Rattle.rules.specs.Numbers as table
-use Rattle.rules.specs.Numbers.{House, houseNumber, StreamFault, request-rejected, ConnectionFault, closed-critical-stream, Code, of-stream, of-connection, codeNumber, named, Leaves, houseLeaves, record-freed, code-kept, leaves}
+use Rattle.rules.specs.Numbers.{ROOM-SHORT, BAD-VALUE, House, houseNumber, StreamFault, request-rejected, ConnectionFault, closed-critical-stream, Code, of-stream, of-connection, codeNumber, named, Leaves, houseLeaves, record-freed, code-kept, leaves}
 use Rattle.rules.specs.Block.{Lines, readable, unreadable, lines}
 use Rattle.rules.specs.Reading.{Verdict, whole, fault, waits}
 use Rattle.rules.specs.Message.{Message}
@@ -365,7 +365,7 @@ module _ (c : Connection) (id room : ℕ) where
   into-sends none = writes-none table.bad-value
   into-sends (some bytes) = by (ltb room (length bytes))
     where
-      by : (x : Bool) → Sends (elim x [ true ↦ refused 7 | false ↦ wrote bytes ])
+      by : (x : Bool) → Sends (elim x [ true ↦ refused ROOM-SHORT | false ↦ wrote bytes ])
       by true = writes-none table.room-short
       by false = writes
 
@@ -373,7 +373,7 @@ module _ (c : Connection) (id room : ℕ) where
   unfolding writeOf write-goaway write-integer-frame sendingOf
   goaway-sends zero e = by (badGoaway (sentIn (doorsIn c)) id)
     where
-      by : (x : Bool) → Sends (elim x [ true ↦ refused 8 | false ↦ into room (integer-frame 7 (written id)) ])
+      by : (x : Bool) → Sends (elim x [ true ↦ refused BAD-VALUE | false ↦ into room (integer-frame 7 (written id)) ])
       by true = writes-none table.bad-value
       by false = into-sends (integer-frame 7 (written id))
   goaway-sends (suc n) e = subst (λ k. Writes c k 0) (sym e) dead-writes

@@ -10,7 +10,7 @@ use mathlib.Core.Option.{Option, none, some}
 use lib.Dec.{ltb}
 use lib.ListN.{length}
 use borrow.Author.Tests.{lt-ltb, le-ltb}
-use Rattle.rules.specs.Numbers.{houseNumber, room-short, bad-value, ConnectionFault, of-connection, codeNumber, coded}
+use Rattle.rules.specs.Numbers.{ROOM-SHORT, BAD-VALUE, houseNumber, room-short, bad-value, ConnectionFault, of-connection, codeNumber, coded}
 use Rattle.rules.specs.Integers.{written, largest}
 use Rattle.rules.specs.Writer.{Write, refused, wrote, into, integer-frame, write-integer-frame, badGoaway, write-goaway}
 use Rattle.rules.specs.Calls.{done, either, pick, sizeIn, goawaySize, Pair, Result, goaway, gave, house, code, limited, same, with, alive, sending, call}
@@ -48,11 +48,11 @@ module _ (c : Connection) (rows : List Record) (id room : ℕ) where
     after : pairOf (withDoors c (sendingOf (doorsIn c) (stream-id id) w .doors)) rows ≡ y .after
     answer : record { number = sendingOf (doorsIn c) (stream-id id) w .number; count = sendingOf (doorsIn c) (stream-id id) w .count } ≡ writtenOf id (y .answer)
 
-  bad-so : Writes (refused 8) (same (house bad-value) p)
+  bad-so : Writes (refused BAD-VALUE) (same (house bad-value) p)
   unfolding sendingOf same writtenOf
   bad-so = record { after = refl; answer = refl }
 
-  short-so : Writes (refused 7) (same (house room-short) p)
+  short-so : Writes (refused ROOM-SHORT) (same (house room-short) p)
   unfolding sendingOf same writtenOf
   short-so = record { after = refl; answer = refl }
 
@@ -80,7 +80,7 @@ module _ (c : Connection) (rows : List Record) (id room : ℕ) where
   unfolding write-goaway write-integer-frame sending either
   live-so = by (badGoaway (connOf c .limit) id) refl
     where
-      by : (b : Bool) → badGoaway (connOf c .limit) id ≡ b → Writes (elim b [ true ↦ refused 8 | false ↦ write-integer-frame room 7 id ])
+      by : (b : Bool) → badGoaway (connOf c .limit) id ≡ b → Writes (elim b [ true ↦ refused BAD-VALUE | false ↦ write-integer-frame room 7 id ])
           (either b (same (house bad-value) p) (pick (decLe (goawaySize id) room) (with (gave done) (limited id (connOf c)) (rowOf (sideIn c) rows)) (same (house room-short) p)))
       by true e = bad-so
       by false e = room-so (may-send (connOf c .limit) id .0 e .low) (integer-frame 7 (written id)) refl (decLe (goawaySize id) room)

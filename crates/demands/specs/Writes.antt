@@ -11,7 +11,7 @@ use lib.Dec.{leb, ltb, ltb→lt, nltb→le, nleb→lt}
 use lib.ListN.{length, take, drop, length-append}
 use lib.Seq.{take-at}
 use borrow.Author.Tests.{lt-leb}
-use Rattle.rules.specs.Numbers.{Code, of-connection, closed-critical-stream}
+use Rattle.rules.specs.Numbers.{ROOM-SHORT, BAD-VALUE, Code, of-connection, closed-critical-stream}
 use Rattle.rules.specs.Text.{hex, hexFrom, nibble, between}
 use Rattle.rules.specs.Integers.{Row, integer, got, rows, low, inRow, inFirst, written, largest}
 use Rattle.rules.specs.Frames.{Header, Frames, Frames.none as no-more, in-header, in-payload, frame, framesUpTo, framesFrom}
@@ -57,7 +57,7 @@ unfolding into
 into-some room none e = let z : _≡_ {A = ℕ} 0 1 = cc in absurd (omega arith)
 into-some room (some x) {bytes} e = by (ltb room (length x)) e
   where
-    by : (b : Bool) → _≡_ {A = Write} (elim b [ true ↦ refused 7 | false ↦ wrote x ]) (wrote bytes) → some x ≡ some bytes
+    by : (b : Bool) → _≡_ {A = Write} (elim b [ true ↦ refused ROOM-SHORT | false ↦ wrote x ]) (wrote bytes) → some x ≡ some bytes
     by true e = let z : _≡_ {A = ℕ} 0 1 = cc in absurd (omega arith)
     by false e = let q : x ≡ bytes = cc in ap some q
 
@@ -238,8 +238,8 @@ module _ {before after : List ℕ} {n : ℕ} where
 -- HOW A WRITE ENDS that takes `size` bytes, and in which a value may be above 2^62-1: that comes first, whatever the room; then a room that is too
 -- short; and both leave the room as it was. (The three exclude one another, so each is answered exactly where its conditions hold.)
 pub data Ends (Above : Type 0) (size : ℕ) (before : List ℕ) : Wrote → List ℕ → Type 0 where
-  eight : Above → Ends Above size before (Refused 8) before
-  seven : ¬ Above → length before < size → Ends Above size before (Refused 7) before
+  eight : Above → Ends Above size before (Refused BAD-VALUE) before
+  seven : ¬ Above → length before < size → Ends Above size before (Refused ROOM-SHORT) before
   accepted : ¬ Above → size ≤ length before → {after : List ℕ} → Ends Above size before (Count size) after
 
 module _ {Above : Type 0} {size : ℕ} {before : List ℕ} where
@@ -251,7 +251,7 @@ module _ {Above : Type 0} {size : ℕ} {before : List ℕ} where
   ends none above fine = eight (above refl)
   ends (some bytes) above fine = by (fine bytes refl .0) (ltb (length before) (length bytes)) refl
     where
-      by : ¬ Above → (b : Bool) → ltb (length before) (length bytes) ≡ b → let w : Write = elim b [ true ↦ refused 7 | false ↦ wrote bytes ] in Ends Above size before (wroteOf w) (leftIn w before)
+      by : ¬ Above → (b : Bool) → ltb (length before) (length bytes) ≡ b → let w : Write = elim b [ true ↦ refused ROOM-SHORT | false ↦ wrote bytes ] in Ends Above size before (wroteOf w) (leftIn w before)
       by n true e = seven n (let l = fine bytes refl .1 in let x = ltb→lt (length before) (length bytes) (rw e tt) in omega arith)
       by n false e = let l = fine bytes refl .1 in let x = nltb→le (length before) (length bytes) (rw e tt) in rw l (accepted n (omega arith))
 
@@ -465,7 +465,7 @@ unfolding into
 refused-into room none n e z = let x = number-one e in omega arith
 refused-into room (some bytes) n e z = by (ltb room (length bytes)) e
   where
-    by : (b : Bool) → _≡_ {A = Write} (elim b [ true ↦ refused 7 | false ↦ wrote bytes ]) (refused n) → ⊥
+    by : (b : Bool) → _≡_ {A = Write} (elim b [ true ↦ refused ROOM-SHORT | false ↦ wrote bytes ]) (refused n) → ⊥
     by true e = let x = number-one e in omega arith
     by false e = no-wrote e
 
@@ -473,7 +473,7 @@ unrefused : (sent : Option ℕ) (room id n : ℕ) → write-goaway sent room id 
 unfolding write-goaway write-integer-frame
 unrefused sent room id n e z = by (badGoaway sent id) e
   where
-    by : (b : Bool) → _≡_ {A = Write} (elim b [ true ↦ refused 8 | false ↦ into room (integer-frame 7 (written id)) ]) (refused n) → ⊥
+    by : (b : Bool) → _≡_ {A = Write} (elim b [ true ↦ refused BAD-VALUE | false ↦ into room (integer-frame 7 (written id)) ]) (refused n) → ⊥
     by true e = let x = number-one e in omega arith
     by false e = refused-into room (integer-frame 7 (written id)) n e z
 
@@ -482,7 +482,7 @@ as-frame : (sent : Option ℕ) (room id : ℕ) {bytes : List ℕ} → write-goaw
 unfolding write-goaway
 as-frame sent room id {bytes} e = by (badGoaway sent id) e
   where
-    by : (b : Bool) → _≡_ {A = Write} (elim b [ true ↦ refused 8 | false ↦ write-integer-frame room 7 id ]) (wrote bytes) → write-integer-frame room 7 id ≡ wrote bytes
+    by : (b : Bool) → _≡_ {A = Write} (elim b [ true ↦ refused BAD-VALUE | false ↦ write-integer-frame room 7 id ]) (wrote bytes) → write-integer-frame room 7 id ≡ wrote bytes
     by true e = let z : _≡_ {A = ℕ} 0 1 = cc in absurd (omega arith)
     by false e = e
 

@@ -1,4 +1,4 @@
--- A value in decimal, held below 2^62: the code's numbers are of 64 bits, and a row of digits has any length. Assumes nothing.
+-- A number held below 2^62: the code's numbers are of 64 bits, and a row of digits has any length, and so have the lines of a section. Assumes nothing.
 use Prim.Native.Nat.{ℕ, _+_, _-_, _*_, _≤_, _<_, _^_}
 use mathlib.Core.Path.{_≡_, refl, sym, ap, _∙_}
 use mathlib.Core.Bool.{Bool, true, false, cond}
@@ -36,6 +36,16 @@ capped-le n = go (ltb n (2 ^ 62)) refl
     go : (t : Bool) → ltb n (2 ^ 62) ≡ t → capped n ≤ 2 ^ 62
     go true e = omega (arith, capped-below n (ltb-true n (2 ^ 62) e), ltb-true n (2 ^ 62) e)
     go false e = omega (arith, capped-above n (ltb-false n (2 ^ 62) e))
+
+-- and so in a sum
+pub capped-plus : (a b : ℕ) → capped (capped a + b) ≡ capped (a + b)
+capped-plus a b = go (ltb a (2 ^ 62)) refl
+  where
+    go : (t : Bool) → ltb a (2 ^ 62) ≡ t → capped (capped a + b) ≡ capped (a + b)
+    go true e = ap (λ (m : ℕ). capped (m + b)) (capped-below a (ltb-true a (2 ^ 62) e))
+    go false e =
+        let f = ltb-false a (2 ^ 62) e in
+        capped-above _ (omega (arith, capped-above a f)) ∙ sym (capped-above _ (omega arith))
 
 grows : (n : ℕ) (v : List ℕ) → n ≤ decimalFrom n v
 unfolding decimalFrom

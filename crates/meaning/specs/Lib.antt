@@ -23,3 +23,4 @@ pub mod RequestLaws
 pub mod Whole
 pub mod Longer
 pub mod Instances
+pub mod Blocks

@@ -1,4 +1,4 @@
--- Header sections and trailers (document 01, "Requests"; document 02, Q-1): checks in document 01's order, of which the first broken one is the reason.
+-- Header sections and trailers (document 01, "Requests"; document 02, Q-1 and Q-2): checks in document 01's order, of which the first broken one is the reason.
 -- Assumes nothing.
 use Prim.Native.Nat.{ℕ, _+_, _-_, _*_}
 use mathlib.Core.List.{List, [], _∷_}
@@ -89,10 +89,10 @@ connection-fields = ascii "connection" ∷ ascii "keep-alive" ∷ ascii "proxy-c
 unfoldable pub isPseudo : Line → Bool
 isPseudo l = begins (eqb 0x3a) (l .name)
 
--- ---- a section's size is its name and value bytes together
+-- ---- a section's size is its name and value bytes together, and 32 for each line (RFC 9114, 4.2.2; document 02, Q-2)
 
 unfoldable pub lineSize : Line → ℕ
-lineSize l = length (l .name) + length (l .value)
+lineSize l = length (l .name) + length (l .value) + 32
 
 unfoldable pub size : Section → ℕ
 size [] = 0

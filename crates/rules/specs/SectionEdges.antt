@@ -6,9 +6,10 @@ use mathlib.Core.List.{List, [], _∷_, _++_, map}
 use mathlib.Core.Bool.{Bool, true, false}
 use mathlib.Core.Option.{none, some}
 use Prim.Native.String.{String}
+use lib.ListN.{replicate}
 use Rattle.rules.specs.Text.{ascii, nibble, hexFrom, hex}
 use Rattle.rules.specs.Block.{Line, Section}
-use Rattle.rules.specs.Section.{too-large, bad-bytes, other-scheme, at-in-authority, length-past-limit, no-length, size-limit, length-limit, size}
+use Rattle.rules.specs.Section.{too-large, bad-bytes, other-scheme, at-in-authority, length-past-limit, no-length, size-limit, length-limit, size, lineSize}
 use Rattle.rules.specs.Request.{document, Header, Header.bad as bad-header, Header.good as good-header, Trailer, Trailer.bad as bad-trailer, Trailer.good as good-trailer}
 use Rattle.rules.specs.Numbers.{numberOf, rows, namedIn, named, codeIn, coded}
 use Rattle.rules.specs.Worked.{header-section, trailers, header-reason, trailer-reason, header-is, trailer-is, reason-is, Worked, answer, Holds, asks, long}
@@ -325,35 +326,46 @@ left s = size-limit - size s
 -- the size, to its last byte
 abbrev full : List Section
 full =
-    get-with (raw (ascii "x") (long (left get - 1)) ∷ [])
-    ∷ get-with (raw (long (left get)) [] ∷ [])
-    ∷ get-with (raw (ascii "x") (long 8_000) ∷ raw (ascii "x") (long (left get - 8_002)) ∷ [])
+    get-with (raw (ascii "x") (long (left get - 33)) ∷ [])
+    ∷ get-with (raw (long (left get - 32)) [] ∷ [])
+    ∷ get-with (raw (ascii "x") (long 8_000) ∷ raw (ascii "x") (long (left get - 8_066)) ∷ [])
     ∷ []
 
 -- one byte more; also before CONNECT, before a scheme not served and before the Content-Length limit
 abbrev overfull : List Section
 overfull =
-    get-with (raw (ascii "x") (long (left get)) ∷ [])
-    ∷ get-with (raw (long (left get + 1)) [] ∷ [])
-    ∷ get-with (raw (ascii "x") (long 8_000) ∷ raw (ascii "x") (long (left get - 8_001)) ∷ [])
-    ∷ (asking "CONNECT" "https" "a" "/" ++ (raw (ascii "x") (long (left (asking "CONNECT" "https" "a" "/"))) ∷ []))
-    ∷ (asking "GET" "ftp" "a" "/" ++ (raw (ascii "x") (long (left (asking "GET" "ftp" "a" "/"))) ∷ []))
-    ∷ (stating "1048577" ++ (raw (ascii "x") (long (left (stating "1048577"))) ∷ []))
+    get-with (raw (ascii "x") (long (left get - 32)) ∷ [])
+    ∷ get-with (raw (long (left get - 31)) [] ∷ [])
+    ∷ get-with (raw (ascii "x") (long 8_000) ∷ raw (ascii "x") (long (left get - 8_065)) ∷ [])
+    ∷ (asking "CONNECT" "https" "a" "/" ++ (raw (ascii "x") (long (left (asking "CONNECT" "https" "a" "/") - 32)) ∷ []))
+    ∷ (asking "GET" "ftp" "a" "/" ++ (raw (ascii "x") (long (left (asking "GET" "ftp" "a" "/") - 32)) ∷ []))
+    ∷ (stating "1048577" ++ (raw (ascii "x") (long (left (stating "1048577") - 32)) ∷ []))
     ∷ []
 
--- document 01's number
+-- document 01's number; what a section measures: nothing, one line without a byte, the four lines of 39 bytes, two of one name
 pub limit : size-limit ≡ 16_384
 unfolding size-limit
 limit = refl
 
+pub sizes : map size ([] ∷ (raw [] [] ∷ []) ∷ get ∷ ("x" ⇒ "yz" ∷ "x" ⇒ "" ∷ []) ∷ []) ≡ 0 ∷ 32 ∷ 167 ∷ 68 ∷ []
+unfolding size lineSize ascii
+sizes = refl
+
+-- lines without a byte count too
+abbrev blank-lines : (n : ℕ) → Section
+blank-lines n = replicate n (raw [] [])
+
 -- before these rules, of which it counts broken lines too
 pub size-first : Holds (
-    asks (header-reason (get-with (raw (ascii "X") (long (left get)) ∷ []))) (reason-is (some too-large))
-    ∷ asks (header-reason (get-with (raw (ascii "X") (long (left get - 1)) ∷ []))) (reason-is (some bad-bytes))
-    ∷ asks (header-reason (raw (ascii "x") (long size-limit) ∷ [])) (reason-is (some too-large))
-    ∷ asks (trailer-reason (raw (ascii "X") (long size-limit) ∷ [])) (reason-is (some too-large))
-    ∷ asks (trailer-reason (raw (ascii "X") (long (size-limit - 1)) ∷ [])) (reason-is (some bad-bytes))
-    ∷ asks (trailer-reason (raw (ascii ":path") (long (size-limit - 4)) ∷ [])) (reason-is (some too-large))
+    asks (header-reason (get-with (raw (ascii "X") (long (left get - 32)) ∷ []))) (reason-is (some too-large))
+    ∷ asks (header-reason (get-with (raw (ascii "X") (long (left get - 33)) ∷ []))) (reason-is (some bad-bytes))
+    ∷ asks (header-reason (raw (ascii "x") (long (size-limit - 32)) ∷ [])) (reason-is (some too-large))
+    ∷ asks (trailer-reason (raw (ascii "X") (long (size-limit - 32)) ∷ [])) (reason-is (some too-large))
+    ∷ asks (trailer-reason (raw (ascii "X") (long (size-limit - 33)) ∷ [])) (reason-is (some bad-bytes))
+    ∷ asks (trailer-reason (raw (ascii ":path") (long (size-limit - 36)) ∷ [])) (reason-is (some too-large))
+    -- 512 of them are 16,384
+    ∷ asks (trailer-reason (blank-lines 512)) (reason-is (some bad-bytes))
+    ∷ asks (trailer-reason (blank-lines 513)) (reason-is (some too-large))
     ∷ []
     )
 unfolding answer ascii size-limit size
@@ -488,8 +500,8 @@ sound-trailers =
     ∷ ("host" ⇒ "" ∷ [])
     ∷ ("host" ⇒ "u@a" ∷ [])
     ∷ ("method" ⇒ "" ∷ "path" ⇒ "x" ∷ "connections" ⇒ "close" ∷ "content-lengths" ⇒ "x" ∷ [])
-    ∷ (raw (ascii "x") (long (size-limit - 1)) ∷ [])
-    ∷ (raw (long size-limit) [] ∷ [])
+    ∷ (raw (ascii "x") (long (size-limit - 33)) ∷ [])
+    ∷ (raw (long (size-limit - 32)) [] ∷ [])
     ∷ []
 
 -- what is malformed in trailers alone, and their size
@@ -507,8 +519,8 @@ no-trailers =
     ∷ ("content-length" ⇒ "3" ∷ [])
     ∷ ("content-length" ⇒ "1048577" ∷ [])
     ∷ ("x" ⇒ "y" ∷ "content-length" ⇒ "1" ∷ [])
-    ∷ (raw (ascii "x") (long size-limit) ∷ [])
-    ∷ (raw (long (size-limit + 1)) [] ∷ [])
+    ∷ (raw (ascii "x") (long (size-limit - 32)) ∷ [])
+    ∷ (raw (long (size-limit - 31)) [] ∷ [])
     ∷ []
 
 pub trailers-judged : Holds (

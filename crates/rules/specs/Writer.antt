@@ -6,6 +6,7 @@ use mathlib.Core.Option.{Option, none, some}
 use lib.Dec.{ltb, eqb}
 use lib.ListN.{length}
 use Rattle.rules.specs.Text.{hex}
+use Rattle.rules.specs.Numbers.{ROOM-SHORT, BAD-VALUE}
 use Rattle.rules.specs.Integers.{written, largest}
 
 -- A write is refused with a number, or it is these bytes, at the start of the room.
@@ -15,8 +16,8 @@ pub data Write : Type 0 where
 
 -- bytes into a room: a value above 2^62-1 comes before a room that is too short
 unfoldable pub into : (room : ℕ) → Option (List ℕ) → Write
-into room none = refused 8
-into room (some bytes) = elim (ltb room (length bytes)) [ true ↦ refused 7 | false ↦ wrote bytes ]
+into room none = refused BAD-VALUE
+into room (some bytes) = elim (ltb room (length bytes)) [ true ↦ refused ROOM-SHORT | false ↦ wrote bytes ]
 
 -- one behind the other, if both can be written
 unfoldable pub both : Option (List ℕ) → Option (List ℕ) → Option (List ℕ)
@@ -57,4 +58,4 @@ unfoldable pub badGoaway : (sent : Option ℕ) (id : ℕ) → Bool
 badGoaway sent id = not (eqb (id % 4) 0) || ltb largest id || isHigher id sent
 
 unfoldable pub write-goaway : (sent : Option ℕ) (room id : ℕ) → Write
-write-goaway sent room id = elim (badGoaway sent id) [ true ↦ refused 8 | false ↦ write-integer-frame room 7 id ]
+write-goaway sent room id = elim (badGoaway sent id) [ true ↦ refused BAD-VALUE | false ↦ write-integer-frame room 7 id ]

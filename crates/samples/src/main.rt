@@ -176,8 +176,13 @@ fn no_room() {
 
 fn writes() {
     integer(37);
+    // RFC 9000's table, for a bench hand: the top value of each row and the one above it
+    integer(63);
+    integer(64);
     integer(16383);
     integer(16384);
+    integer(1073741823);
+    integer(1073741824);
     integer(4611686018427387903);
     integer(4611686018427387904);
     opening();

@@ -14,7 +14,7 @@ use Rattle.rules.specs.Classes.{isToken, isDigit}
 use Rattle.rules.specs.Block.{Line, Section, lines}
 use Rattle.rules.specs.Section.{isEmpty, begins, named, lineWith, has, repeated, valueOf, methodOf, decimal, decimalFrom, pseudo-fields, connection-fields, isPseudo, lineSize, size, badName, badValue, pseudoBehindPlain, bytes-check, unknown-check, repeated-check, late-check, connection-check, te-check, method-check, repeated-length-check, digits-check, length-above-check, repeated-host-check}
 use Rattle.fields.specs.Bytes.{badNameBytes, badValueBytes}
-use Rattle.fields.specs.Decimal.{capped, past}
+use Rattle.fields.specs.Decimal.{capped, past, capped-plus}
 use Rattle.fields.specs.Walk.{held, isReadable}
 use Rattle.section.specs.declared.Reason.the-variants.{BadBytes, UnknownPseudo, RepeatedPseudo, LatePseudo, ConnectionField, OtherTe, BadMethod, RepeatedLength, NoDigits, LengthAbove, RepeatedHost}
 use Rattle.section.specs.declared.Facts.{Facts}
@@ -64,7 +64,7 @@ facts z n p q d a b = record { size = z; first = n; pseudo = p; plain = q; state
 
 unfoldable pub factsOf : Section → Facts
 factsOf s =
-    facts (size s) (lowest (rowOf s)) (any isPseudo s) (any isPlain s) (capped (decimal (valueAt s content-length)))
+    facts (capped (size s)) (lowest (rowOf s)) (any isPseudo s) (any isPlain s) (capped (decimal (valueAt s content-length)))
     (map (fromIn s) kept-names)
     (map (toIn s) kept-names)
 
@@ -135,7 +135,7 @@ abbrev withBytes : Facts → (name value : List ℕ) → (size : ℕ) → Facts
 withBytes g n v z = facts z (lowerOf (g .first) (at BadBytes) (badNameBytes n || badValueBytes v)) (g .pseudo) (g .plain) (g .stated) (g .from) (g .to)
 
 unfoldable pub lineStep : Facts → (name value : List ℕ) (from to : ℕ) → Facts
-lineStep f n v a b = withBytes (noteBy (nameOf n) f v a b) n v (f .size + length n + length v)
+lineStep f n v a b = withBytes (noteBy (nameOf n) f v a b) n v (capped (f .size + (length n + length v + 32)))
 
 -- ---- what the rules say of one line more
 
@@ -188,7 +188,7 @@ module _ (l : Line) where
       go true false c = refl
       go false b c = refl
 
-  size-more : (s : Section) → size (more s) ≡ size s + length (l .name) + length (l .value)
+  size-more : (s : Section) → size (more s) ≡ size s + (length (l .name) + length (l .value) + 32)
   unfolding size lineSize
   size-more [] = omega arith
   size-more (m ∷ s) = omega (arith, size-more s)
@@ -349,7 +349,7 @@ module _ (s : Section) (l : Line) where
 
   abbrev after : Asked → Facts
   after q =
-      facts (size s + length (l .name) + length (l .value)) (lowest (rowBy q)) (q .pseudo || any isPseudo s) (not (q .pseudo) || any isPlain s)
+      facts (capped (size s + (length (l .name) + length (l .value) + 32))) (lowest (rowBy q)) (q .pseudo || any isPseudo s) (not (q .pseudo) || any isPlain s)
       (keptBy (q .length) (toIn s (nameAt content-length)) (capped (decimal (valueAt s content-length))) (capped (decimal (l .value))))
       (sixBy (λ t k. keptBy t (toIn s (nameAt k)) (fromIn s (nameAt k)) (valueFrom l)) q)
       (sixBy (λ t k. keptBy t (toIn s (nameAt k)) (toIn s (nameAt k)) (valueTo l)) q)
@@ -375,7 +375,7 @@ module _ (s : Section) (l : Line) where
 
   -- by each of the ten kinds
   abbrev Steps : ℕ → Type 0
-  Steps k = withBytes (noteBy k (factsOf s) (l .value) (valueFrom l) (valueTo l)) (l .name) (l .value) (size s + length (l .name) + length (l .value)) ≡ after (askedBy k)
+  Steps k = withBytes (noteBy k (factsOf s) (l .value) (valueFrom l) (valueTo l)) (l .name) (l .value) (capped (size s + (length (l .name) + length (l .value) + 32))) ≡ after (askedBy k)
 
   -- the checks that a kind may break, and bad bytes
   abbrev bad : Bool
@@ -443,7 +443,8 @@ module _ (s : Section) (l : Line) where
   pub step-is : lineStep (factsOf s) (l .name) (l .value) (valueFrom l) (valueTo l) ≡ factsOf (s ++ (l ∷ []))
   unfolding lineStep factsOf
   step-is =
-      by-kind Steps step-method step-scheme step-authority step-path step-host step-length step-te step-connection step-unknown step-plain (nameOf (l .name)) (ten (l .name))
+      ap (λ z. withBytes (noteBy (nameOf (l .name)) (factsOf s) (l .value) (valueFrom l) (valueTo l)) (l .name) (l .value) z) (capped-plus (size s) (length (l .name) + length (l .value) + 32))
+      ∙ by-kind Steps step-method step-scheme step-authority step-path step-host step-length step-te step-connection step-unknown step-plain (nameOf (l .name)) (ten (l .name))
       ∙ sym (more-is ∙ ap after (asked-is (l .name)))
 
 pub none-yet : noFacts ≡ factsOf []

@@ -12,7 +12,7 @@ use Rattle.rules.specs.Text.{ascii, any, same}
 use Rattle.rules.specs.Block.{Section, Lines, readable}
 use Rattle.rules.specs.Block as block
 use Rattle.rules.specs.Section as rules
-use Rattle.rules.specs.Section.{Check, refused, sound, isEmpty, begins, holds, isUpload, uploads, uploading, decimal, decimalFrom, named, has, valueOf, methodOf, statedIn, unless, firstBroken, goodPath, size-limit, length-limit, size-check, bytes-check, unknown-check, repeated-check, late-check, in-trailers-check, connection-check, te-check, method-check, no-method-check, repeated-length-check, length-in-trailers-check, digits-check, length-above-check, repeated-host-check, connect-check, present-check, scheme-check, path-check, authority-check, empty-check, differ-check, at-check, length-check, upload-check, header-checks, trailer-checks, header-section}
+use Rattle.rules.specs.Section.{Check, refused, sound, isEmpty, begins, holds, isUpload, uploads, uploading, decimal, decimalFrom, named, has, valueOf, methodOf, statedIn, unless, firstBroken, goodPath, size, size-limit, length-limit, size-check, bytes-check, unknown-check, repeated-check, late-check, in-trailers-check, connection-check, te-check, method-check, no-method-check, repeated-length-check, length-in-trailers-check, digits-check, length-above-check, repeated-host-check, connect-check, present-check, scheme-check, path-check, authority-check, empty-check, differ-check, at-check, length-check, upload-check, header-checks, trailer-checks, header-section}
 use Rattle.fields.specs.Laws.{empty-is}
 use Rattle.fields.specs.Walk.{isReadable, held}
 use Rattle.fields.specs.Decimal.{capped, capped-below, past}
@@ -147,8 +147,8 @@ module _ (s : Section) where
   there k = not (eqb (toIn s (nameAt k)) 0)
 
   large : ltb size-limit (factsOf s .size) ≡ size-check .broken s
-  unfolding factsOf size-check
-  large = refl
+  unfolding factsOf size-check size-limit
+  large = past size-limit (size s) (lit< tt)
 
   no-method : absent (factsOf s) method ≡ no-method-check .broken s
   unfolding factsOf no-method-check

@@ -1,5 +1,5 @@
 -- The one walk by places: what it holds at a place is what the rules say of the lines before it. Assumes nothing.
-use Prim.Native.Nat.{ℕ, suc, _+_, _-_, _≤_}
+use Prim.Native.Nat.{ℕ, suc, _+_, _-_, _≤_, _<_, _^_}
 use mathlib.Core.Path.{_≡_, refl, sym, ap, _∙_}
 use mathlib.Core.List.{List, [], _∷_, _++_, append-nil, append-assoc}
 use mathlib.Core.Bool.{Bool, true, false}
@@ -8,6 +8,7 @@ use lib.ListN.{length}
 use Rattle.rules.specs.Block.{Line, Section, lines}
 use Rattle.fields.specs.declared.Record.the-variants as variant
 use Rattle.fields.specs.Walk.{part, recordAt, lineOf, sectionFrom, held, isReadable, toldFrom}
+use Rattle.fields.specs.Decimal.{capped-le}
 use Rattle.fields.specs.Lines.{placed, walk-end, walk-flaw, walk-line, isTold, told-next, readable-is}
 use Rattle.section.specs.declared.Facts.{Facts}
 use Rattle.section.specs.Finding.{length-part, valueFrom}
@@ -20,7 +21,7 @@ pub record Walking (block : List ℕ) (at : ℕ) (f : Facts) : Type 0 where
   pub done : Section
   pub all : held block ≡ done ++ sectionFrom block number at
   pub facts : f ≡ factsOf done
-  pub small : f .size ≤ at
+  pub small : f .size ≤ 2 ^ 62
   pub within : at ≤ length block
 
 pub starts : (block : List ℕ) (f : Facts) → f ≡ noFacts → Walking block 0 f
@@ -50,9 +51,9 @@ module _ (block : List ℕ) (at : ℕ) (f : Facts) (w : Walking block at f) wher
   flawed e = last false (w .told ∙ ap isTold (walk-flaw _ _ _ block (w .number) at e)) (walk-flaw _ _ _ block (w .number) at e)
 
   module _ (name value next : ℕ) (e : recordAt block at ≡ variant.Line name value next) where
-    -- the size so far, with the line's, is no more than the bytes so far
-    pub fits : f .size + length (part name value block) + length (part value next block) ≤ next
-    fits =
+    -- the size so far, with the line's, has room
+    pub fits : length block < 2 ^ 63 → f .size + (length (part name value block) + length (part value next block) + 32) < 2 ^ 64
+    fits room =
         let p = placed block at name value next e in
         let n : length (part name value block) ≡ value - name = length-part block name value (omega arith) in
         let v : length (part value next block) ≡ next - value = length-part block value next (omega arith) in
@@ -79,6 +80,6 @@ module _ (block : List ℕ) (at : ℕ) (f : Facts) (w : Walking block at f) wher
           w .all ∙ ap (λ (s : Section). w .done ++ s) (walk-line _ _ _ block (w .number) at name value next e)
           ∙ sym (append-assoc (w .done) (here ∷ []) (sectionFrom block (suc (w .number)) next));
       facts = q ∙ goes-facts;
-      small = let z : g .size ≡ f .size + length (part name value block) + length (part value next block) = ap (λ (h : Facts). h .size) q in omega (arith, fits);
+      small = let z = ap (λ (h : Facts). h .size) q in omega (arith, z, capped-le (f .size + (length (part name value block) + length (part value next block) + 32)));
       within = placed block at name value next e .within;
     }

@@ -1,4 +1,4 @@
-// Header sections and trailers (document 01, "Requests"; document 02, Q-1): one walk of a section block's lines collects what the rules ask of them. Of the
+// Header sections and trailers (document 01, "Requests"; document 02, Q-1 and Q-2): one walk of a section block's lines collects what the rules ask of them. Of the
 // checks that are broken the lowest in document 01's order is the reason.
 use fields::Class;
 use fields::Record;
@@ -15,6 +15,7 @@ ghost use Rattle.rules.specs.Section.{isEmpty, codeOf};
 ghost use Rattle.fields.specs.Bytes.{isIn};
 ghost use Rattle.fields.specs.Table.{allRight};
 ghost use Rattle.fields.specs.Walk.{held};
+ghost use Rattle.fields.specs.Decimal.{capped};
 ghost use Rattle.section.specs.Checks.{unbroken, at, reasonOf, lowerOf, lowest};
 ghost use Rattle.section.specs.Names.{method, host, content-length, te, unknown, otherName, oneName, ofSeven, ofTen, longName, nameOf};
 ghost use Rattle.section.specs.Facts.{noFacts, keptOf, keepAt, knownBy, plainBy, noteBy, lineStep, factsOf, valueAt, Walks};
@@ -230,6 +231,8 @@ const LENGTH_LIMIT: u64 = 1_048_576;
 
 const SIZE_LIMIT: usize = 16_384;
 
+const ABOVE: usize = 4_611_686_018_427_387_904;
+
 // Of the lines so far: their size, the lowest check that they break by themselves, whether there was a pseudo-field or another; and of six
 // names where in the block the first line's value begins and ends, both 0 where there is none. `stated` is the first Content-Length's number.
 struct Facts {
@@ -417,6 +420,13 @@ fn noted<'a>(
     }
 }
 
+// A size past 2^62 is past the limit.
+fn held_below(size: usize) -> usize
+    ensures { λ r. ⌜ r ≡ capped size ⌝ }
+{
+    if size < ABOVE { size } else { ABOVE }
+}
+
 // A line more.
 fn with_line<'a>(
     f: Facts,
@@ -426,10 +436,10 @@ fn with_line<'a>(
     from: usize,
     to: usize,
 ) -> Facts
-    requires { ⌜ (f .size + length (now name) + length (now value) < 2 ^ 64) × T (allRight (now table)) ⌝ }
+    requires { ⌜ (f .size + (length (now name) + length (now value) + 32) < 2 ^ 64) × T (allRight (now table)) ⌝ }
     ensures { λ r. ⌜ r ≡ lineStep f (now (name .entry)) (now (value .entry)) from to ⌝ }
 {
-    let size = f.size + name.len() + value.len();
+    let size = held_below(f.size + (name.len() + value.len() + 32));
     let bad = fields::bad_line(table, name, value);
     let mut g = noted(f, table, name_of(name), value, from, to);
     let first = lower(g.first, Reason::BadBytes as usize, bad);

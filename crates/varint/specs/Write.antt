@@ -8,6 +8,7 @@ use lib.ListN.{length, drop}
 use lib.Seq.{sets, sets-eq}
 use borrow.Author.Tests.{lt-ltb, le-ltb}
 use Rattle.rules.specs.Integers.{written}
+use Rattle.rules.specs.Numbers.{ROOM-SHORT, BAD-VALUE}
 use Rattle.rules.specs.Writer.{Write, refused, wrote, into, write-integer}
 use Rattle.varint.specs.Shortest.{bytesOf, sizeOf, size-none, size-some}
 use Rattle.varint.specs.declared.Wrote.{Wrote}
@@ -34,12 +35,12 @@ meets-one m n = (m .answers ∙ sym (n .answers), m .leaves ∙ sym (n .leaves))
 -- ---- the three ways of a write
 
 module _ (l : List ℕ) (o : Option (List ℕ)) where
-  pub meets-above : o ≡ none → Meets (into (length l) o) l (Refused 8) l
+  pub meets-above : o ≡ none → Meets (into (length l) o) l (Refused BAD-VALUE) l
   unfolding into wroteOf leftIn
   meets-above e = rw e (record { answers = refl; leaves = refl })
 
   module _ (bytes : List ℕ) (e : o ≡ some bytes) where
-    pub meets-short : length l < length bytes → Meets (into (length l) o) l (Refused 7) l
+    pub meets-short : length l < length bytes → Meets (into (length l) o) l (Refused ROOM-SHORT) l
     unfolding into wroteOf leftIn
     meets-short h = let t = lt-ltb (length l) (length bytes) h in rw (e, into, t) (record { answers = refl; leaves = refl })
 
@@ -54,11 +55,11 @@ module _ (l : List ℕ) (o : Option (List ℕ)) where
 -- ---- one integer
 
 module _ (l : List ℕ) (v : ℕ) where
-  pub write-above : sizeOf v ≡ 0 → Meets (write-integer (length l) v) l (Refused 8) l
+  pub write-above : sizeOf v ≡ 0 → Meets (write-integer (length l) v) l (Refused BAD-VALUE) l
   unfolding write-integer
   write-above e = meets-above l (written v) (size-none v e)
 
-  pub write-short : 0 < sizeOf v → length l < sizeOf v → Meets (write-integer (length l) v) l (Refused 7) l
+  pub write-short : 0 < sizeOf v → length l < sizeOf v → Meets (write-integer (length l) v) l (Refused ROOM-SHORT) l
   unfolding write-integer
   write-short p h = meets-short l (written v) (bytesOf (written v)) (size-some v p) h
 

@@ -205,10 +205,10 @@ pub fn write(v: u64, room: &mut [u8]) -> Wrote
 {
     let n = size(v);
     if n == 0 {
-        return Wrote::Refused(8);
+        return Wrote::Refused(rules::BAD_VALUE);
     }
     if room.len() < n {
-        return Wrote::Refused(7);
+        return Wrote::Refused(rules::ROOM_SHORT);
     }
     put(v, room, 0);
     Wrote::Count(n)

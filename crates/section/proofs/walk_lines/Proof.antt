@@ -73,7 +73,7 @@ part-with-line-end-2 : tie.Need-part-with-line-end-2 Inv-loop μ-loop
 part-with-line-end-2 c = let p = where-it-lies (c .before .before) in omega arith
 
 with-line-requires : tie.Need-with-line-requires Inv-loop μ-loop
-with-line-requires c κs = let p = where-it-lies (c .before .before .before) in (omega (arith, fits _ _ _ (c .before .before .before .before .before .before .before .loop .inv) _ _ _ (line-is (c .before .before .before))), c .before .before .before .before .before .before .before .before .before .classes .ensures)
+with-line-requires c κs = (fits _ _ _ (c .before .before .before .before .before .before .before .loop .inv) _ _ _ (line-is (c .before .before .before)) (let g = c .before .before .before .before .before .before .before .before .before .before .before .good .0 .1 in omega arith), c .before .before .before .before .before .before .before .before .before .classes .ensures)
 
 loop-less : tie.Need-loop-less Inv-loop μ-loop
 loop-less c = let p = where-it-lies (c .before .before .before .before) in omega arith
