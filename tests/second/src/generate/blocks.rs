@@ -288,11 +288,14 @@ pub fn flaw_order(random: &mut Random, lines: &mut Lines) {
     }
 }
 
+pub fn size(lines: &Lines) -> usize {
+    lines.iter().map(|(name, value)| name.len() + value.len() + LINE_SIZE).sum()
+}
+
 /// Brings the size to 16,384 or a little beyond, in one long value, one long name, a few lines or many short ones.
 pub fn to_size_limit(random: &mut Random, lines: &mut Lines) {
-    let size: usize = lines.iter().map(|line| line.0.len() + line.1.len() + LINE_SIZE).sum();
     let target = random.pick(&[SECTION_LIMIT, SECTION_LIMIT, SECTION_LIMIT + 1, SECTION_LIMIT + 40]);
-    let mut missing = target.saturating_sub(size);
+    let mut missing = target.saturating_sub(size(lines));
     let manner = random.below(4);
     while missing > LINE_SIZE {
         let most = missing - LINE_SIZE;
