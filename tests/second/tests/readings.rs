@@ -546,7 +546,9 @@ fn q1_5_other_methods_go_on_without_a_length() {
 /// Lines that come to that size: so many, each with 32 beside its name `x` and its value, and the first one's is long.
 fn lines_of_size(size: usize, count: usize) -> String {
     let value = "v".repeat(size - 33 * count);
-    block(&[("x", &value)]) + &block(&vec![("x", ""); count - 1])
+    let mut lines = vec![("x", ""); count];
+    lines[0].1 = &value;
+    block(&lines)
 }
 
 #[test]
