@@ -369,14 +369,14 @@ static void stands(eistulko_record first) {
     alone.row[0] = first;
 }
 
-/* What a call on that record's stream uses. */
-static unsigned long stack_of(kind k, const void *bytes, size_t count) {
+/* What a call on that record's stream uses, which is answered with the number. */
+static unsigned long stack_of(kind k, const void *bytes, size_t count, uint64_t number) {
     static uint8_t piece[1u << 20];
     unsigned long before = deepest[k], used;
     memcpy(piece, bytes, count);
     deepest[k] = 0;
     answer a = measure(&(call){k, EISTULKO_RECORDS, alone.row[0].id, UINT64_MAX, piece, count, 0}, &alone, piece);
-    check(a.report.number == 0 && (k == GIVE || a.report.used == count), "a long call is accepted, and all of it consumed");
+    check(a.report.number == number && (k == GIVE || a.report.used == count), "the answer of a long call, and all of it consumed");
     used = deepest[k], deepest[k] = before;
     return used;
 }
@@ -386,17 +386,17 @@ static unsigned long stack_of_frames(uint8_t type, size_t bytes) {
     static uint8_t piece[1u << 20];
     for (size_t i = 0; i < bytes; i++) piece[i] = i % 2 ? 0 : type;
     stands((eistulko_record){.kind = 1, .phase = 1});
-    return stack_of(FEED, piece, bytes);
+    return stack_of(FEED, piece, bytes, 0);
 }
 
 /* A header section of so many lines beside those it needs. */
-static unsigned long stack_of_lines(size_t lines) {
+static unsigned long stack_of_lines(size_t lines, uint64_t number) {
     static text block;
     block.count = 0;
     add_sound(&block, "GET");
     for (size_t i = 0; i < lines; i++) add_line(&block, "n", "");
     stands((eistulko_record){.kind = 1, .mode = 6});
-    return stack_of(GIVE, block.bytes, block.count);
+    return stack_of(GIVE, block.bytes, block.count, number);
 }
 
 /* SETTINGS with so many identifiers, each another and none that is forbidden, in one piece or with its last byte alone. */
@@ -406,9 +406,9 @@ static unsigned long stack_of_settings(unsigned identifiers, int whole) {
     memcpy(stream, "\x00\x04\x40", 3);
     stream[3] = (uint8_t)(at - stream - 4);
     stands((eistulko_record){.id = 2, .kind = 2});
-    if (whole) return stack_of(FEED, stream, (size_t)(at - stream));
-    stack_of(FEED, stream, (size_t)(at - 1 - stream));
-    return stack_of(FEED, at - 1, 1);
+    if (whole) return stack_of(FEED, stream, (size_t)(at - stream), 0);
+    stack_of(FEED, stream, (size_t)(at - 1 - stream), 0);
+    return stack_of(FEED, at - 1, 1, 0);
 }
 
 static void no_more(const char *what, unsigned long many, unsigned long one) {
@@ -427,7 +427,8 @@ static void stack(uint64_t calls) {
     printf("stack bytes: ");
     no_more("2^19 empty unknown frames", stack_of_frames(0x21, 1u << 20), stack_of_frames(0x21, 2));
     no_more("2^19 empty DATA", stack_of_frames(0x00, 1u << 20), stack_of_frames(0x00, 2));
-    no_more("9,000 field lines", stack_of_lines(9000), stack_of_lines(1));
+    no_more("491 field lines", stack_of_lines(491, 0), stack_of_lines(1, 0));
+    no_more("9,000, which are refused", stack_of_lines(9000, EISTULKO_MESSAGE_ERROR), stack_of_lines(1, 0));
     most_settings();
     current.by = measure;
     play_random(9114, calls);
