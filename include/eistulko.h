@@ -212,8 +212,9 @@ eistulko_report eistulko_feed(eistulko_connection *connection, eistulko_record *
 /* The section that is due, decoded, as a section block: for each field line, in order, a two-byte count of what follows it, the two bytes
  * 01 00, a two-byte name length, the name, the value; numbers little-endian. `:method` `GET` is
  * 0e 00 01 00 07 00 3a 6d 65 74 68 6f 64 47 45 54. A section without a line is the empty block.
- * Names and values of more than 16,384 bytes together are 0x010e, and that is judged first: a host may stop at the line that goes beyond, and
- * give what it has. Two bytes are enough for each length, as the HEADERS payload has at most 16,384 bytes and QPACK's codes at least 5 bits.
+ * A section's size is its name and value bytes together and 32 for each line (RFC 9114, 4.2.2). Above 16,384 it is 0x010e, and that is judged
+ * first: a host may stop at the line that goes beyond, and give what it has. The block of a section that is not above it has at most 16,384
+ * bytes. Two bytes are enough for each length, as the HEADERS payload has at most 16,384 bytes and QPACK's codes at least 5 bits.
  * Refused with 9, the code kept, 1, 5 (also on a one-way stream), 6, 0x010b, 0x010e. After 6 the section is still due. */
 eistulko_report eistulko_give(eistulko_connection *connection, eistulko_record *row, size_t records, uint64_t id, const uint8_t *block,
                               size_t bytes);
@@ -241,7 +242,7 @@ eistulko_written eistulko_write_header(uint64_t type, uint64_t length, uint8_t *
 eistulko_written eistulko_write_integer_frame(uint64_t type, uint64_t value, uint8_t *room, size_t bytes);
 
 /* The opening of our control stream: 00 04 09 01 00 06 80 00 40 00 07 00, which is its type and SETTINGS with no QPACK table and a section
- * size of 16,384. 12 bytes of room. */
+ * size of 16,384, as `eistulko_give` measures it. 12 bytes of room. */
 eistulko_written eistulko_write_opening(uint8_t *room, size_t bytes);
 
 /* ---- sizes, as proved: compare once at start with sizeof, where the header and the library may be of different versions ---- */

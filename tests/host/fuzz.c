@@ -45,7 +45,7 @@ static ino_t settings; /* the file's; 0 while there is none */
 /* ---- a reader of its own */
 
 struct reading {
-    bool whole, put, upload, stated, unreadable; /* a PUT of the settings; any PUT, POST or PATCH; a section is none */
+    bool whole, put, upload, stated, large, unreadable; /* put: of the settings; upload: any PUT, POST or PATCH; the last two: a section is */
     uint64_t length;
     struct bytes content;
 };
@@ -85,6 +85,7 @@ static bool read_section(struct reading *r, const uint8_t *at, size_t count) {
     HOLDS(!nghttp3_qpack_decoder_new(&decoder, 0, 0, nghttp3_mem_default()));
     HOLDS(!nghttp3_qpack_stream_context_new(&context, 0, nghttp3_mem_default()));
     bool method = false, path = false, good = false;
+    size_t size = 0;
     for (;;) {
         nghttp3_qpack_nv line;
         uint8_t flags = 0;
@@ -94,6 +95,7 @@ static bool read_section(struct reading *r, const uint8_t *at, size_t count) {
         count -= (size_t)n;
         if (flags & NGHTTP3_QPACK_DECODE_FLAG_EMIT) {
             read_line(r, &line, &method, &path);
+            size += nghttp3_rcbuf_get_buf(line.name).len + nghttp3_rcbuf_get_buf(line.value).len + 32;
             nghttp3_rcbuf_decref(line.name);
             nghttp3_rcbuf_decref(line.value);
         }
@@ -103,6 +105,7 @@ static bool read_section(struct reading *r, const uint8_t *at, size_t count) {
     nghttp3_qpack_stream_context_del(context);
     nghttp3_qpack_decoder_del(decoder);
     r->put = method && path;
+    r->large = size > 16384;
     return good;
 }
 
@@ -125,6 +128,7 @@ static struct reading read_all(const struct bytes *b) {
             if (++sections > 2) return r;
             r.unreadable = !read_section(sections == 1 ? &r : &trailers, b->at + at, length);
             if (r.unreadable) return r;
+            r.large |= trailers.large;
         }
         if (type >= 2 && type <= 9) return r;
         if (type == 13) return r;
@@ -209,11 +213,11 @@ static void check_settings(struct run *r, struct seen *s) {
     bytes_free(&read.content);
 }
 
-/* An answered request was a whole one, and an answered upload stated its length. */
+/* An answered request was a whole one with no section too large, and an answered upload stated its length. */
 static void check_end(struct run *r, struct seen *s) {
     if (!s->answered) return;
     struct reading read = read_all(&s->bytes);
-    HOLDS(read.whole && !r->closed);
+    HOLDS(read.whole && !read.large && !r->closed);
     HOLDS(!read.stated || read.length == read.content.count);
     HOLDS(!read.upload || read.stated);
     bytes_free(&read.content);
@@ -279,11 +283,13 @@ static void add_section(struct bytes *b, uint8_t which, uint8_t number) {
     memset(long_name, 'n', sizeof long_name - 1);
     char length[24];
     snprintf(length, sizeof length, "%u", number == 255 ? 1048577 : number);
-    nghttp3_nv lines[8] = {LINE(":method", methods[which & 7]), LINE(":scheme", "https"), LINE(":authority", "a"), LINE(":path", paths[which >> 3 & 3])};
+    nghttp3_nv lines[5 + 2 * 255] = {LINE(":method", methods[which & 7]), LINE(":scheme", "https"), LINE(":authority", "a"), LINE(":path", paths[which >> 3 & 3])};
     size_t n = 4;
-    if (which & 0x20) lines[n++] = LINE("content-length", length);
-    if (which & 0x40) lines[n++] = LINE(number & 1 ? "x" : long_name, "y");
     if (which & 0x80) lines[0] = LINE("trailer", "t"), n = 1;
+    else if (which & 0x20) lines[n++] = LINE("content-length", length);
+    if (which & 0x40 && !(number & 1)) lines[n++] = LINE(long_name, "y");
+    else if (which & 0x40) /* from a few lines to more than a section may have */
+        for (unsigned i = 0; i < 2u * number; i++) lines[n++] = LINE("x", "y");
     nghttp3_qpack_encoder *encoder;
     nghttp3_buf prefix, section, table;
     nghttp3_buf_init(&prefix);

@@ -49,7 +49,7 @@ for i, text in enumerate(worked):
     seeds[f"worked{i}"] = b"\1" + whole(0, bytes.fromhex(text))
 for i, text in enumerate(control):
     seeds[f"control{i}"] = b"\1" + whole(2, bytes.fromhex(text), end=False)
-GET, PUT, PATCH, POST, LENGTH, LONG, TRAILERS = 0, 1, 3, 5, 0x20, 0x40, 0x80
+GET, PUT, PATCH, POST, LENGTH, MORE, TRAILERS = 0, 1, 3, 5, 0x20, 0x40, 0x80  # MORE: a long name, or twice an odd number of lines
 seeds["put"] = b"\1" + section(0, PUT | LENGTH, 9) + data(0, 9) + end(0)
 seeds["put-twice"] = b"\1" + section(0, PUT | LENGTH, 9) + section(4, PUT | LENGTH, 5) + data(0, 9) + data(4, 5) + end(4) + end(0)
 seeds["put-trailers"] = b"\1" + section(0, PUT | LENGTH, 9, 1) + data(0, 4) + data(0, 0) + data(0, 5) + section(0, TRAILERS, 0) + end(0)
@@ -58,7 +58,10 @@ for name, method in (("put", PUT), ("post", POST), ("patch", PATCH)):
     seeds[name + "-none"] = b"\1" + section(0, method, 0) + data(0, 4) + end(0)
 seeds["get"] = b"\1" + section(8, GET, 0) + end(8) + end(0) + bytes([RESET, stream(4), 0])
 seeds["log"] = b"\1" + section(0, GET | 8, 0) + end(0) + bytes([CLOSED, stream(0), 0])
-seeds["long-name"] = b"\1" + section(0, GET | LONG, 0) + section(4, GET, 0) + end(4)
+seeds["long-name"] = b"\1" + section(0, GET | MORE, 0) + section(4, GET, 0) + end(4)
+for name, number in (("full", 237), ("overfull", 239)):  # 474 lines that count 34 are within the limit beside the four of a GET, and 478 are not
+    seeds[name] = b"\1" + section(0, GET | MORE, number) + end(0)
+    seeds[name + "-trailers"] = b"\1" + section(0, GET, 0) + section(0, TRAILERS | MORE, number + 2) + end(0)
 seeds["drain"] = b"\1" + section(0, GET, 0) + bytes([DRAIN, 0, 255]) + section(8, GET, 0) + end(8) + section(4, GET, 0) + end(4) + end(0)
 seeds["drain-early"] = b"\0" + bytes([DRAIN, 0, 255]) + section(0, GET, 0) + end(0)
 for name, seed in seeds.items():

@@ -108,28 +108,73 @@ static void cut_request(size_t bytes, uint64_t number) {
     check(ended(0) == (connection.code ? number : EISTULKO_NOT_OPEN), "and it is not open behind it");
 }
 
-/* What a header section is answered with; a refusal frees the record alone, and the stream is not open behind it. */
-static uint64_t comes_to(text block) {
+static void await_section(void) { check(feed(0, put_request, 7).event == EISTULKO_SECTION_END, "a section is due"); }
+
+static void await_header(void) {
     begin();
-    check(opened(0) == 0 && feed(0, put_request, 7).event == EISTULKO_SECTION_END, "a section is due");
-    uint64_t number = given(0, &block);
+    check(opened(0) == 0, "opened");
+    await_section();
+}
+
+/* What the section that is due is answered with; a refusal frees the record alone, and the stream is not open behind it. */
+static uint64_t comes_to(const text *block) {
+    uint64_t number = given(0, block);
     check(connection.code == 0 && (number == 0) == !is_free(row), "what a section leaves");
     check(ended(0) == (number ? EISTULKO_NOT_OPEN : 0), "the end of what was refused, or of a whole request");
     return number;
+}
+
+static uint64_t header_comes_to(text block) {
+    await_header();
+    return comes_to(&block);
+}
+
+static uint64_t trailers_come_to(const text *block) {
+    static text header;
+    header = sound_block(0);
+    await_header();
+    check(given(0, &header) == 0, "a sound header section");
+    await_section();
+    return comes_to(block);
 }
 
 /* PUT, POST and PATCH, to the byte, must state a length; it is the last that is looked at. */
 static void uploads(void) {
     static const char *const all[] = {"PUT", "POST", "PATCH"}, *const others[] = {"put", "PUTX", "PATC", "POS", "DELETE", "GET"};
     for (size_t i = 0; i < COUNT(all); i++) {
-        check(comes_to(block_of(all[i], 0)) == EISTULKO_REQUEST_REJECTED, "an upload without a length");
-        check(comes_to(block_of(all[i], "0")) == 0, "a length of 0 is stated");
-        check(comes_to(block_of(all[i], "1048577")) == EISTULKO_REQUEST_REJECTED, "a length above the limit");
+        check(header_comes_to(block_of(all[i], 0)) == EISTULKO_REQUEST_REJECTED, "an upload without a length");
+        check(header_comes_to(block_of(all[i], "0")) == 0, "a length of 0 is stated");
+        check(header_comes_to(block_of(all[i], "1048577")) == EISTULKO_REQUEST_REJECTED, "a length above the limit");
         text bad = block_of(all[i], 0);
         add_line(&bad, "host", "a@h");
-        check(comes_to(bad) == EISTULKO_MESSAGE_ERROR, "what is malformed comes first");
+        check(header_comes_to(bad) == EISTULKO_MESSAGE_ERROR, "what is malformed comes first");
     }
-    for (size_t i = 0; i < COUNT(others); i++) check(comes_to(block_of(others[i], 0)) == 0, "another method needs no length");
+    for (size_t i = 0; i < COUNT(others); i++) check(header_comes_to(block_of(others[i], 0)) == 0, "another method needs no length");
+}
+
+/* A section's size is its name and value bytes and 32 for each line: 16,384 is accepted, more is malformed, whatever else it is. */
+static void section_sizes(void) {
+    static const size_t lines[] = {1, 2, 100, 491};
+    enum { SOUND_SIZE = 39 + 4 * LINE_SIZE }; /* of GET and PUT */
+    static text block;
+    for (size_t i = 0; i < COUNT(lines); i++) {
+        for (size_t more = 0; more < 2; more++) {
+            uint64_t number = more ? EISTULKO_MESSAGE_ERROR : 0;
+            block = block_of("GET", 0);
+            add_lines(&block, SECTION_LIMIT - SOUND_SIZE + more, lines[i]);
+            check(header_comes_to(block) == number, "the size of a header section");
+            block.count = 0;
+            add_lines(&block, SECTION_LIMIT + more, lines[i]);
+            check(trailers_come_to(&block) == number, "the size of trailers");
+            block = block_of("PUT", 0);
+            add_lines(&block, SECTION_LIMIT - SOUND_SIZE + more, lines[i]);
+            check(header_comes_to(block) == (more ? EISTULKO_MESSAGE_ERROR : EISTULKO_REQUEST_REJECTED), "the size comes first");
+        }
+    }
+    block.count = 0;
+    check(trailers_come_to(&block) == 0, "no line has no size");
+    for (size_t i = 0; i < 10000; i++) add_line(&block, "", "");
+    check(trailers_come_to(&block) == EISTULKO_MESSAGE_ERROR, "lines without a byte");
 }
 
 /* Each of 1 to 9, by a call that has to give it. */
@@ -229,13 +274,14 @@ static void worked(void) {
     cut_request(PUT_HALF, EISTULKO_MESSAGE_ERROR);
     cut_request(PUT_INSIDE, EISTULKO_FRAME_ERROR);
     uploads();
+    section_sizes();
     house_numbers();
     codes();
     our_goaway();
     writes();
     for (size_t i = 1; i < COUNT(worked_numbers); i++) distinct += worked_numbers[i] > 0;
     check(distinct == 21, "every number came");
-    if (!failures) printf("worked: sizes, a request cut at every byte, cut uploads and those without a length, all %u numbers, our GOAWAY, the writes\n", distinct);
+    if (!failures) printf("worked: sizes, a request cut at every byte, cut uploads and those without a length, sections as large as may be, all %u numbers, our GOAWAY, the writes\n", distinct);
 }
 
 /* ---- schedules */
@@ -323,14 +369,14 @@ static void stands(eistulko_record first) {
     alone.row[0] = first;
 }
 
-/* What a call on that record's stream uses. */
-static unsigned long stack_of(kind k, const void *bytes, size_t count) {
+/* What a call on that record's stream uses, which is answered with the number. */
+static unsigned long stack_of(kind k, const void *bytes, size_t count, uint64_t number) {
     static uint8_t piece[1u << 20];
     unsigned long before = deepest[k], used;
     memcpy(piece, bytes, count);
     deepest[k] = 0;
     answer a = measure(&(call){k, EISTULKO_RECORDS, alone.row[0].id, UINT64_MAX, piece, count, 0}, &alone, piece);
-    check(a.report.number == 0 && (k == GIVE || a.report.used == count), "a long call is accepted, and all of it consumed");
+    check(a.report.number == number && (k == GIVE || a.report.used == count), "the answer of a long call, and all of it consumed");
     used = deepest[k], deepest[k] = before;
     return used;
 }
@@ -340,17 +386,17 @@ static unsigned long stack_of_frames(uint8_t type, size_t bytes) {
     static uint8_t piece[1u << 20];
     for (size_t i = 0; i < bytes; i++) piece[i] = i % 2 ? 0 : type;
     stands((eistulko_record){.kind = 1, .phase = 1});
-    return stack_of(FEED, piece, bytes);
+    return stack_of(FEED, piece, bytes, 0);
 }
 
 /* A header section of so many lines beside those it needs. */
-static unsigned long stack_of_lines(size_t lines) {
+static unsigned long stack_of_lines(size_t lines, uint64_t number) {
     static text block;
     block.count = 0;
     add_sound(&block, "GET");
     for (size_t i = 0; i < lines; i++) add_line(&block, "n", "");
     stands((eistulko_record){.kind = 1, .mode = 6});
-    return stack_of(GIVE, block.bytes, block.count);
+    return stack_of(GIVE, block.bytes, block.count, number);
 }
 
 /* SETTINGS with so many identifiers, each another and none that is forbidden, in one piece or with its last byte alone. */
@@ -360,9 +406,9 @@ static unsigned long stack_of_settings(unsigned identifiers, int whole) {
     memcpy(stream, "\x00\x04\x40", 3);
     stream[3] = (uint8_t)(at - stream - 4);
     stands((eistulko_record){.id = 2, .kind = 2});
-    if (whole) return stack_of(FEED, stream, (size_t)(at - stream));
-    stack_of(FEED, stream, (size_t)(at - 1 - stream));
-    return stack_of(FEED, at - 1, 1);
+    if (whole) return stack_of(FEED, stream, (size_t)(at - stream), 0);
+    stack_of(FEED, stream, (size_t)(at - 1 - stream), 0);
+    return stack_of(FEED, at - 1, 1, 0);
 }
 
 static void no_more(const char *what, unsigned long many, unsigned long one) {
@@ -381,7 +427,8 @@ static void stack(uint64_t calls) {
     printf("stack bytes: ");
     no_more("2^19 empty unknown frames", stack_of_frames(0x21, 1u << 20), stack_of_frames(0x21, 2));
     no_more("2^19 empty DATA", stack_of_frames(0x00, 1u << 20), stack_of_frames(0x00, 2));
-    no_more("9,000 field lines", stack_of_lines(9000), stack_of_lines(1));
+    no_more("491 field lines", stack_of_lines(491, 0), stack_of_lines(1, 0));
+    no_more("9,000, which are refused", stack_of_lines(9000, EISTULKO_MESSAGE_ERROR), stack_of_lines(1, 0));
     most_settings();
     current.by = measure;
     play_random(9114, calls);

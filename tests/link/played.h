@@ -168,11 +168,16 @@ static void add_sound(text *t, const char *method) {
     for (unsigned i = 1; i < 4; i++) add_line(t, asked[i][0], asked[i][1]);
 }
 
-/* As many bytes of name and value as a section may have, and more with any other line. */
-static void add_long_line(text *t) {
-    static char value[16384];
-    memset(value, 'v', sizeof value - 1);
-    add_line(t, "n", value);
+#define SECTION_LIMIT 16384u
+#define LINE_SIZE 32u /* what each line adds to its name and value bytes */
+
+/* So many lines, which come to that size; the first has a value, and each name is one byte. */
+static void add_lines(text *t, size_t size, size_t lines) {
+    static char value[SECTION_LIMIT + 1];
+    size_t length = size - lines * (LINE_SIZE + 1);
+    memset(value, 'v', length);
+    value[length] = 0;
+    for (size_t i = 0; i < lines; i++) add_line(t, "n", i ? "" : value);
 }
 
 /* One of so many, and mostly of the first half. */
@@ -221,7 +226,8 @@ static void take_block(source *s, text *t) {
         size_t which = take_choice(s, COUNT(fields));
         add_line(t, fields[which][0], fields[which][1]);
     }
-    if (take(s, 1) > 250) add_long_line(t);
+    unsigned full = (unsigned)take(s, 1); /* as large as a section may be, and too large with any other line */
+    if (full > 250) add_lines(t, SECTION_LIMIT, full > 253 ? SECTION_LIMIT / (LINE_SIZE + 1) : 1);
     take_cut(s, t);
 }
 

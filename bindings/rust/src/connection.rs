@@ -167,7 +167,8 @@ impl Connection {
     }
 
     /// The section that is due, decoded, as a section block: a [`Block`](crate::Block), or bytes in its form.
-    /// More than 16,384 bytes of names and values are a `MessageError`, before all else.
+    /// Its size is its name and value bytes together and 32 for each line (RFC 9114, 4.2.2); above 16,384 it
+    /// is a `MessageError`, before all else.
     ///
     /// Refused as `NotOpen`, `NoSection`, `Unreadable`, `RequestRejected`, `MessageError`.
     pub fn give(&mut self, id: StreamId, block: &[u8]) -> Result<(), Refused> {

@@ -24,7 +24,7 @@ pub fn write_integer_frame(kind: u64, value: u64, room: &mut [u8]) -> Result<usi
 }
 
 /// Writes the opening of our control stream: its type, and SETTINGS with no QPACK table and a section size of
-/// 16,384. Refused as `RoomShort`.
+/// 16,384, as [`Connection::give`](crate::Connection::give) measures it. Refused as `RoomShort`.
 pub fn write_opening(room: &mut [u8]) -> Result<usize, Refused> {
     raw::write_opening(room).count()
 }

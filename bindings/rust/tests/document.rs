@@ -202,12 +202,39 @@ fn section_blocks() {
     assert_eq!(block.len(), 7 + 2 + 65_535);
 }
 
+/// So many lines more, which bring a block of `before` lines to a section of that size: each counts 32.
+fn filled(mut block: Block, before: usize, size: usize, lines: usize) -> Block {
+    let names_and_values = block.len() - 6 * before;
+    let rest = size - names_and_values - 32 * before - 33 * lines;
+    block.line("x", vec![b'y'; rest]).unwrap();
+    for _ in 1..lines {
+        block.line("x", "").unwrap();
+    }
+    block
+}
+
 #[test]
-fn a_section_of_16_384_bytes_is_the_largest() {
-    let size = get().iter().len() - 4 * 6;
-    for (more, verdict) in [(0, Ok(Ended::Whole)), (1, Err(Refused::MessageError))] {
-        let mut block = get();
-        block.line("x", vec![b'y'; 16_384 - size - 1 + more]).unwrap();
-        assert_eq!(request([&hex("01 01 00")[..]], &[block], unbound).1, verdict);
+fn a_section_of_16_384_is_the_largest() {
+    for lines in [1, 2, 100, 490] {
+        for (size, verdict) in [(16_384, Ok(Ended::Whole)), (16_385, Err(Refused::MessageError))] {
+            let header = filled(get(), 4, size, lines);
+            assert!(header.len() < size);
+            assert_eq!(request([&hex("01 01 00")[..]], &[header], unbound).1, verdict);
+            let sections = [get(), filled(Block::new(), 0, size, lines)];
+            assert_eq!(request([&hex("01 01 00 01 01 00")[..]], &sections, unbound).1, verdict);
+        }
+    }
+}
+
+/// 512 lines without a byte are as large as may be, and malformed by their names.
+#[test]
+fn lines_without_a_byte() {
+    for lines in [0, 1, 512, 513] {
+        let mut block = Block::new();
+        for _ in 0..lines {
+            block.line("", "").unwrap();
+        }
+        let verdict = if lines == 0 { Ok(Ended::Whole) } else { Err(Refused::MessageError) };
+        assert_eq!(request([&hex("01 01 00 01 01 00")[..]], &[get(), block], unbound).1, verdict);
     }
 }

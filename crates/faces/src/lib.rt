@@ -4,9 +4,9 @@ use connection::Report;
 use connection::Written;
 use record::Record;
 ghost use Prim.Native.Nat.{_≤_};
-ghost use lib.ListN.{take, drop};
-ghost use mathlib.Core.Path.{_≡_};
+ghost use lib.ListN.{take};
 ghost use Rattle.calls.specs.Lent.{Stepped, Started, SaidGoaway};
+ghost use Rattle.faces.specs.Behind.{Behind};
 
 // What a call leaves of the connection's record and of the records, and what it answers.
 pub struct Driven {
@@ -25,7 +25,7 @@ pub fn drive(
     piece: &[u8],
 ) -> Driven
     requires { ⌜ n ≤ 32 ⌝ }
-    ensures { λ r. ⌜ Stepped c (take n rs) call id allow (now (piece .entry)) (r .conn) (take n (r .rows)) (r .report) × (drop n (r .rows) ≡ drop n rs) ⌝ }
+    ensures { λ r. ⌜ Stepped c (take n rs) call id allow (now (piece .entry)) (r .conn) (take n (r .rows)) (r .report) × Behind n rs (r .rows) ⌝ }
 {
     let mut conn = c;
     let mut rows = rs;
@@ -41,7 +41,7 @@ pub struct Began {
 
 pub fn drive_start(c: Connection, rs: [Record; 32], n: usize) -> Began
     requires { ⌜ n ≤ 32 ⌝ }
-    ensures { λ r. ⌜ Started c (take n rs) (r .conn) (take n (r .rows)) (r .number) × (drop n (r .rows) ≡ drop n rs) ⌝ }
+    ensures { λ r. ⌜ Started c (take n rs) (r .conn) (take n (r .rows)) (r .number) × Behind n rs (r .rows) ⌝ }
 {
     let mut conn = c;
     let mut rows = rs;

@@ -2,6 +2,7 @@
 use mathlib.Core.Path.{_≡_, refl}
 use Prim.Native.Nat.{ℕ, _+_, _≤_}
 use mathlib.Core.List.{List, [], _∷_, _++_}
+use mathlib.Core.Bool.{true, false}
 use mathlib.Core.Option.{none, some}
 use lib.Dec.{lit<}
 use lib.ListN.{length}
@@ -9,17 +10,17 @@ use Rattle.rules.specs.Numbers.{of-stream, message-error}
 use Rattle.rules.specs.Block.{Section}
 use Rattle.rules.specs.Integers.{got, integer}
 use Rattle.rules.specs.Frames.{frame, framesFrom}
-use Rattle.rules.specs.Reading.{whole, fault, read, contents}
+use Rattle.rules.specs.Reading.{header-section, section, whole, fault, read, contents}
 use Rattle.rules.specs.Message.{Message}
 use Rattle.rules.specs.Request.{Rules, all-sound, request}
-use Rattle.rules.specs.OneWay.{oneWay}
+use Rattle.rules.specs.OneWay.{encoder, oneWay}
 use Rattle.rules.specs.Legal.{Legal}
 use Rattle.rules.specs.Worked.{answer}
 use Rattle.meaning.specs.IntegerLaws.{no-byte, byte, written-reads, shortest}
 use Rattle.meaning.specs.FrameLaws.{head, frame-back}
-use Rattle.meaning.specs.Machine.{lives, between, given, answered, typed, keep, over, with-left, after, fed, supplied, settled, finished, finish, joined, pieces, fresh-run}
+use Rattle.meaning.specs.Machine.{fresh, in-payload, lives, between, given, answered, typed, keep, over, with-left, after, fed, supplied, settled, finished, finish, joined, pieces, fresh-run}
 use Rattle.meaning.specs.Cut.{any-cutting}
-use Rattle.meaning.specs.Feed.{feed, halt, also, onward, over-event, left-event, behind-header, named, taking, shows}
+use Rattle.meaning.specs.Feed.{section-bytes, feed, halt, also, onward, over-event, left-event, behind-header, named, taking, shows}
 use Rattle.meaning.specs.Feeds.{Call, feed-call, give-call, takes, calls, verdict-of, calls-read}
 use Rattle.meaning.specs.First.{FirstFault, first-fault, early-inside}
 use Rattle.meaning.specs.Whole.{whole-iff-legal}
@@ -106,9 +107,20 @@ pub they-come : let d = calls (request three) (lives (between Message.opening)) 
 unfolding some-calls calls verdict-of feed halt also onward over-event left-event behind-header named taking shows takes given answered typed keep over with-left after fed supplied settled finished finish upload answer
 they-come = (refl, refl, refl, refl)
 
+-- a section in two pieces: its first part is not marked, its last is
+pub marked-last : let half = in-payload (section header-section) [] 0 Message.opening in let f = feed (request three) 1 (between Message.opening) (0x01 ∷ 0x02 ∷ 0x00 ∷ []) in
+    (f .event ≡ section-bytes 1 false) × (f .after ≡ lives half) × (feed (request three) 0 half (0x01 ∷ []) .event ≡ section-bytes 1 true)
+unfolding feed also onward left-event behind-header named taking typed with-left after fed answer
+marked-last = (refl, refl, refl)
+
 -- a one-way stream: its type in two bytes, SETTINGS {6: 5} in pieces, a GOAWAY 4
 unfoldable pub its-calls : List O.Call
 its-calls = O.feed-call 0 (0x40 ∷ []) ∷ O.feed-call 1 (0x00 ∷ 0x04 ∷ 0x02 ∷ 0x06 ∷ []) ∷ O.feed-call 0 (0x05 ∷ 0x07 ∷ []) ∷ O.feed-call 5 (0x07 ∷ 0x01 ∷ 0x04 ∷ []) ∷ []
 
 pub it-comes : let d = O.calls [] O.nothing-done its-calls in W.Came [] d (oneWay [] (d .bytes))
 it-comes = W.calls-read [] its-calls
+
+-- a QPACK stream's part begins behind its type
+pub qpack-behind : let f = O.feed [] 0 (O.in-stream-type fresh) (0x02 ∷ 0x20 ∷ 0x21 ∷ []) in (f .used ≡ 3) × (f .event ≡ O.qpack-bytes encoder 2)
+unfolding O.feed O.type-feed O.also O.typed-feed O.kind-feed O.qpack-feed after fed answer
+qpack-behind = (refl, refl)

@@ -21,16 +21,22 @@ closing seen code streams = map (λ s. asks (closes seen (hex s)) (closed-with c
 abbrev ended-control : (place : ℕ) → OneWay
 ended-control place = of-control (record { said = []; verdict = fault (coded 0x0104) place })
 
+-- a push stream, its type in each size
+pub push-streams : Holds (
+    one-way [] (one-way-refused (coded 0x0103) 1) ("01" ∷ "01 00" ∷ [])
+    ++ one-way [] (one-way-refused (coded 0x0103) 2) ("40 01" ∷ "40 01 04 00" ∷ [])
+    ++ one-way [] (one-way-refused (coded 0x0103) 4) ("80 00 00 01" ∷ [])
+    ++ one-way [] (one-way-refused (coded 0x0103) 8) ("C0 00 00 00 00 00 00 01" ∷ [])
+    )
+unfolding answer hex hexFrom nibble numberOf rows namedIn named codeIn coded
+push-streams = refl
+
 pub one-way-streams : Holds (
     -- the type, in each size
     one-way [] (ended-control 1) ("00" ∷ [])
     ++ one-way [] (ended-control 2) ("40 00" ∷ [])
     ++ one-way [] (ended-control 4) ("80 00 00 00" ∷ [])
     ++ one-way [] (ended-control 8) ("C0 00 00 00 00 00 00 00" ∷ [])
-    ++ one-way [] (one-way-refused (coded 0x0103) 1) ("01" ∷ "01 00" ∷ [])
-    ++ one-way [] (one-way-refused (coded 0x0103) 2) ("40 01" ∷ "40 01 04 00" ∷ [])
-    ++ one-way [] (one-way-refused (coded 0x0103) 4) ("80 00 00 01" ∷ [])
-    ++ one-way [] (one-way-refused (coded 0x0103) 8) ("C0 00 00 00 00 00 00 01" ∷ [])
     ++ one-way [] (of-qpack encoder []) ("02" ∷ "40 02" ∷ "80 00 00 02" ∷ "C0 00 00 00 00 00 00 02" ∷ [])
     ++ one-way [] (of-qpack decoder []) ("03" ∷ "40 03" ∷ "80 00 00 03" ∷ "C0 00 00 00 00 00 00 03" ∷ [])
     ++ one-way [] passed-over ("04" ∷ "40 04" ∷ "80 00 00 04" ∷ "C0 00 00 00 00 00 00 04" ∷ [])

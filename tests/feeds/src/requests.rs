@@ -158,6 +158,9 @@ pub fn any_block(random: &mut Random, taken: usize, sum: u64) -> Vec<u8> {
     }
     let stated = any_length(random, sum);
     let mut lines = sound_lines(random, taken, stated);
+    if random.one_in(400) {
+        blocks::to_size_limit(random, &mut lines);
+    }
     if random.one_in(20) {
         blocks::flaw_lines(random, &mut lines);
     }

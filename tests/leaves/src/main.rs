@@ -8,7 +8,7 @@ use std::process::ExitCode;
 use driver::{Answer, Asked, Call, Driver, MARK};
 use second::generate::random::Random;
 use second::generate::{blocks, drafts};
-use second::sections::{judge_block, Part};
+use second::sections::{judge_block, Part, LINE_SIZE, SECTION_LIMIT};
 use second::{block, calls, integers, settings, writer};
 
 const SEED: u64 = 9114;
@@ -42,7 +42,7 @@ struct Group {
     ask: fn(&mut Leaves) -> Asked,
 }
 
-const GROUPS: [Group; 9] = [
+const GROUPS: [Group; 10] = [
     Group { name: "SETTINGS of up to 3 bytes", due: &[0, 0x0106, 0x0109], ask: short_settings },
     Group { name: "SETTINGS of 4 to 6 chosen bytes", due: &[0, 0x0106, 0x0109], ask: chosen_settings },
     Group { name: "random SETTINGS", due: &[0, 0x0106, 0x0109], ask: random_settings },
@@ -51,6 +51,7 @@ const GROUPS: [Group; 9] = [
     Group { name: "generated blocks", due: &[0, 6, 0x010b, 0x010e], ask: generated_blocks },
     Group { name: "damaged blocks", due: &[0, 6, 0x010b, 0x010e], ask: damaged_blocks },
     Group { name: "blocks by one byte", due: &[0, 0x010b, 0x010e], ask: blocks_by_byte },
+    Group { name: "blocks by their size", due: &[0, 0x010b, 0x010e], ask: blocks_by_size },
     Group { name: "random writes", due: &[0, 7, 8], ask: random_writes },
 ];
 
@@ -277,6 +278,15 @@ fn damaged_blocks(leaves: &mut Leaves) -> Asked {
     Ok(())
 }
 
+fn lines(all: &[(&str, &str)]) -> blocks::Lines {
+    all.iter().map(|(name, value)| (name.as_bytes().to_vec(), value.as_bytes().to_vec())).collect()
+}
+
+/// The lines of a request without a length.
+fn asking(method: &str) -> [(&str, &str); 4] {
+    [(":method", method), (":scheme", "https"), (":authority", "ab"), (":path", "/")]
+}
+
 /// Every byte in each place of a name and of each value that is judged, alone and among others.
 fn blocks_by_byte(leaves: &mut Leaves) -> Asked {
     let sound = [
@@ -293,11 +303,7 @@ fn blocks_by_byte(leaves: &mut Leaves) -> Asked {
     }
     // Without a length, the method alone decides.
     for method in ["PUT", "POST", "PATCH"] {
-        by_byte(
-            leaves,
-            &[(":method", method), (":scheme", "https"), (":authority", "ab"), (":path", "/")],
-            0,
-        )?;
+        by_byte(leaves, &asking(method), 0)?;
     }
     Ok(())
 }
@@ -308,10 +314,7 @@ fn by_byte(leaves: &mut Leaves, all: &[(&str, &str)], line: usize) -> Asked {
     for byte in 0..=u8::MAX {
         for place in 0..=name.len() + value.len() + 1 {
             for inserted in [false, true] {
-                let mut lines: blocks::Lines = all
-                    .iter()
-                    .map(|(name, value)| (name.as_bytes().to_vec(), value.as_bytes().to_vec()))
-                    .collect();
+                let mut lines = lines(all);
                 let (bytes, at) = match place.checked_sub(name.len() + 1) {
                     None => (&mut lines[line].0, place),
                     Some(at) => (&mut lines[line].1, at),
@@ -324,6 +327,25 @@ fn by_byte(leaves: &mut Leaves, all: &[(&str, &str)], line: usize) -> Asked {
                 leaves.block(&blocks::bytes(&lines[line..=line].to_vec()))?;
             }
         }
+    }
+    Ok(())
+}
+
+/// Beside the limit, in any number of lines that has room for it: alone, behind a GET, and behind a PUT without a length.
+fn blocks_by_size(leaves: &mut Leaves) -> Asked {
+    for front in [lines(&[]), lines(&asking("GET")), lines(&asking("PUT"))] {
+        for target in SECTION_LIMIT - 2..=SECTION_LIMIT + 2 {
+            let left = target - blocks::size(&front);
+            for count in 1..=left / (LINE_SIZE + 1) {
+                let mut lines = front.clone();
+                lines.resize(front.len() + count, (b"x".to_vec(), Vec::new()));
+                lines[front.len()].1 = vec![b'v'; left - count * (LINE_SIZE + 1)];
+                leaves.block(&blocks::bytes(&lines))?;
+            }
+        }
+    }
+    for count in [511, 512, 513, 5_000] {
+        leaves.block(&blocks::bytes(&vec![(Vec::new(), Vec::new()); count]))?;
     }
     Ok(())
 }

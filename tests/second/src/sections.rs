@@ -6,6 +6,8 @@ use crate::integers::HIGHEST;
 use crate::numbers::{MESSAGE_ERROR, REQUEST_REJECTED, UNREADABLE};
 
 pub const SECTION_LIMIT: usize = 16_384;
+/// Document 02, Q-2 (RFC 9114, section 4.2.2): what each field line adds to its name and value bytes.
+pub const LINE_SIZE: usize = 32;
 pub const CONTENT_LIMIT: u64 = 1_048_576;
 
 const PSEUDO: [&[u8]; 4] = [b":method", b":scheme", b":authority", b":path"];
@@ -69,7 +71,7 @@ pub fn judge_trailers(lines: &[Line]) -> Result<(), u16> {
 }
 
 fn size(lines: &[Line]) -> usize {
-    lines.iter().map(|line| line.name.len() + line.value.len()).sum()
+    lines.iter().map(|line| line.name.len() + line.value.len() + LINE_SIZE).sum()
 }
 
 /// The malformed list, as far as header sections and trailers share it.

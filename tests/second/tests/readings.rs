@@ -2,7 +2,7 @@
 
 mod common;
 
-use common::{block, header_section, Session, GET};
+use common::{block, header_section, Session, GET, UNREADABLE};
 
 #[test]
 fn a7_the_lowest_free_record_is_taken() {
@@ -541,4 +541,54 @@ fn q1_5_other_methods_go_on_without_a_length() {
         session.accepts(&format!("H 4 {}", section_of(method, None)));
         session.says("F 4 1 0080100001", "268 5 1 -");
     }
+}
+
+/// Lines that come to that size: so many, each with 32 beside its name `x` and its value, and the first one's is long.
+fn lines_of_size(size: usize, count: usize) -> String {
+    let value = "v".repeat(size - 33 * count);
+    let mut lines = vec![("x", ""); count];
+    lines[0].1 = &value;
+    block(&lines)
+}
+
+#[test]
+fn q2_2_to_the_byte_in_both_sections() {
+    for count in [1, 2, 491] {
+        for (more, answer, end) in [(0, "0 0 0 -", "0 0 0 whole"), (1, "270 0 0 -", "1 0 0 -")] {
+            let mut session = Session::new();
+            session.accepts("O 0");
+            session.says("F 0 1 010100", "0 3 1 section 2 1 1");
+            // The four lines before have 39 bytes.
+            let left = 16_384 - 39 - 4 * 32 + more;
+            let block = section_of("GET", None) + &lines_of_size(left, count);
+            session.says(&format!("H 0 {block}"), answer);
+            session.says("E 0", end);
+            let mut session = Session::new();
+            session.request(None);
+            session.says("F 0 1 0100", "0 2 1 section 2 0 1");
+            session.says(&format!("H 0 {}", lines_of_size(16_384 + more, count)), answer);
+            session.says("E 0", end);
+        }
+    }
+}
+
+#[test]
+fn q2_3_behind_6_and_before_the_rules() {
+    let mut session = Session::new();
+    session.accepts("O 0");
+    session.says("F 0 1 010100", "0 3 1 section 2 1 1");
+    session.says(&format!("H 0 {}{UNREADABLE}", lines_of_size(16_385, 9)), "6 0 0 -");
+    session.says(&format!("H 0 {}", section_of("CONNECT", None) + &lines_of_size(16_384, 9)), "270 0 0 -");
+}
+
+#[test]
+fn q2_4_the_other_limits_stay() {
+    let mut session = Session::new();
+    session.accepts("O 0");
+    session.says("F 0 9 0180004000", "0 5 1 -");
+    session.accepts("O 4");
+    session.says("C 12", "0 0 0 written 12 000409010006800040000700");
+    session.accepts("O 2");
+    session.says("F 2 9 0004020600", "0 5 1 settings 0 0 0");
+    session.says("F 4 9 0180004001", "263 5 1 -");
 }

@@ -129,17 +129,61 @@ fn every_byte_of_a_name_and_a_value() {
     }
 }
 
+/// Lines named `x`, the first with a value that brings them to the size.
+fn lines_of_size(size: usize, count: usize) -> Lines {
+    let mut lines = vec![(b"x".to_vec(), Vec::new()); count];
+    lines[0].1 = vec![b'v'; size - count * 33];
+    lines
+}
+
 #[test]
-fn size_limit() {
-    let size: usize = get().iter().map(|line| line.0.len() + line.1.len()).sum();
-    let fill = vec![b'v'; 16_384 - size - 1];
-    assert_eq!(header(&with(&get(), b"x", &fill)), SOUND);
-    assert_eq!(header(&with(&get(), b"xy", &fill)), MALFORMED);
-    assert_eq!(trailers(&vec![(b"x".to_vec(), vec![b'v'; 16_383])]), SOUND);
-    assert_eq!(trailers(&vec![(b"x".to_vec(), vec![b'v'; 16_384])]), MALFORMED);
-    // No 32 bytes a line are counted.
-    assert_eq!(trailers(&vec![(b"x".to_vec(), vec![b'v'; 3]); 4096]), SOUND);
-    assert_eq!(trailers(&vec![(b"x".to_vec(), vec![b'v'; 3]); 4097]), MALFORMED);
+fn each_line_counts_32() {
+    for count in [1, 2, 3, 100, 496] {
+        assert_eq!(trailers(&lines_of_size(16_384, count)), SOUND, "{count}");
+        assert_eq!(trailers(&lines_of_size(16_385, count)), MALFORMED, "{count}");
+    }
+    // Four lines of GET, 39 bytes and 128.
+    for count in [1, 2, 3, 100, 491] {
+        for (size, answer) in [(16_217, SOUND), (16_218, MALFORMED)] {
+            let mut lines = get();
+            lines.extend(lines_of_size(size, count));
+            assert_eq!(header(&lines), answer, "{count} lines of {size}");
+        }
+    }
+    // Lines of one byte: 496 are 16,368, and 497 are above.
+    assert_eq!(trailers(&vec![(b"x".to_vec(), Vec::new()); 496]), SOUND);
+    assert_eq!(trailers(&vec![(b"x".to_vec(), Vec::new()); 497]), MALFORMED);
+    // The empty section has no size.
+    assert_eq!(trailers(&Vec::new()), SOUND);
+    // 512 lines without a byte are within the limit, and malformed by their names.
+    for count in [0, 1, 511, 512, 513] {
+        let lines = vec![(Vec::new(), Vec::new()); count];
+        assert_eq!(header(&lines), MALFORMED, "{count}");
+        assert_eq!(trailers(&lines), if count == 0 { SOUND } else { MALFORMED }, "{count}");
+    }
+}
+
+#[test]
+fn size_is_counted_in_names_and_values() {
+    assert_eq!(trailers(&vec![(vec![b'n'; 16_352], Vec::new())]), SOUND);
+    assert_eq!(trailers(&vec![(vec![b'n'; 16_353], Vec::new())]), MALFORMED);
+    assert_eq!(trailers(&vec![(b"x".to_vec(), vec![b'v'; 16_351])]), SOUND);
+    assert_eq!(trailers(&vec![(b"x".to_vec(), vec![b'v'; 16_352])]), MALFORMED);
+    assert_eq!(trailers(&vec![(b"x".to_vec(), vec![b'v'; 3]); 455]), SOUND);
+    assert_eq!(trailers(&vec![(b"x".to_vec(), vec![b'v'; 3]); 456]), MALFORMED);
+}
+
+/// A section above the limit is malformed, whatever 0x010b it would have got.
+#[test]
+fn size_before_what_is_rejected() {
+    for (name, value) in [(":method", "CONNECT"), (":method", "PUT"), (":scheme", "ftp")] {
+        for (size, answer) in [(16_384, REJECTED), (16_385, MALFORMED)] {
+            let mut lines = set(name.as_bytes(), value.as_bytes());
+            let so_far: usize = lines.iter().map(|line| line.0.len() + line.1.len() + 32).sum();
+            lines.push((b"x".to_vec(), vec![b'v'; size - so_far - 33]));
+            assert_eq!(header(&lines), answer, "{value} in {size}");
+        }
+    }
 }
 
 #[test]

@@ -17,13 +17,13 @@ end-line-requires : tie.Need-end-line-requires
 end-line-requires c κs = search needs
 
 returns-3 : tie.Need-returns-3
-returns-3 c = let a = c .before .before .before .before .before .before .args in c .end-line .ensures ∙ line-end (now (a .s)) (a .p) (omega (arith, c .before .before .before .before .if1 .left)) (omega (arith, c .before .before .if2 .left)) (c .before .if3 .taken)
+returns-3 c = let a = c .before .before .before .before .before .before .args in c .end-line .ensures ∙ line-end (now (a .s)) (a .p) (omega (arith, c .before .before .before .before .if1 .left)) (omega (arith, c .before .before .if2 .left)) (omega (arith, c .before .if3 .taken))
 
 ends-requires : tie.Need-ends-requires
 ends-requires c κs = search needs
 
 returns-4 : tie.Need-returns-4
-returns-4 c = let a = c .before .before .before .before .before .before .before .args in line-cut-type (now (a .s)) (a .p) (omega (arith, c .before .before .before .before .before .if1 .left)) (omega (arith, c .before .before .before .if2 .left)) (c .before .before .if3 .left) (c .before .ends .ensures) (c .if4 .taken)
+returns-4 c = let a = c .before .before .before .before .before .before .before .args in line-cut-type (now (a .s)) (a .p) (omega (arith, c .before .before .before .before .before .if1 .left)) (omega (arith, c .before .before .before .if2 .left)) (λ e. omega (arith, c .before .before .if3 .left)) (c .before .ends .ensures) (c .if4 .taken)
 
 value-requires : tie.Need-value-requires
 value-requires c κs = omega (arith, c .before .ends .ensures .is, c .if4 .left)

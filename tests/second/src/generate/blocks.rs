@@ -2,7 +2,7 @@
 
 use super::random::Random;
 use crate::block;
-use crate::sections::{Part, SECTION_LIMIT};
+use crate::sections::{Part, LINE_SIZE, SECTION_LIMIT};
 
 /// Field lines, name and value.
 pub type Lines = Vec<(Vec<u8>, Vec<u8>)>;
@@ -288,21 +288,29 @@ pub fn flaw_order(random: &mut Random, lines: &mut Lines) {
     }
 }
 
-/// Brings the size to 16,384 or one more, in one long value, one long name or many lines.
+pub fn size(lines: &Lines) -> usize {
+    lines.iter().map(|(name, value)| name.len() + value.len() + LINE_SIZE).sum()
+}
+
+/// Brings the size to 16,384 or a little beyond, in one long value, one long name, a few lines or many short ones.
 pub fn to_size_limit(random: &mut Random, lines: &mut Lines) {
-    let size: usize = lines.iter().map(|line| line.0.len() + line.1.len()).sum();
     let target = random.pick(&[SECTION_LIMIT, SECTION_LIMIT, SECTION_LIMIT + 1, SECTION_LIMIT + 40]);
-    let missing = target.saturating_sub(size).max(2);
-    match random.below(3) {
-        0 => lines.push((b"y".to_vec(), vec![b'v'; missing - 1])),
-        1 => lines.push((vec![b'n'; missing], Vec::new())),
-        _ => {
-            let part = missing / 4;
-            for _ in 0..3 {
-                lines.push((b"z".to_vec(), vec![b'w'; part - 1]));
-            }
-            lines.push((b"z".to_vec(), vec![0x80; missing - 3 * part - 1]));
-        }
+    let mut missing = target.saturating_sub(size(lines));
+    let manner = random.below(4);
+    while missing > LINE_SIZE {
+        let most = missing - LINE_SIZE;
+        let wanted = match manner {
+            0 | 1 => most,
+            2 => 4096,
+            _ => random.between(1, 8) as usize,
+        };
+        // A rest that is too short for a line more goes into this one.
+        let length = if wanted + LINE_SIZE < most { wanted } else { most };
+        lines.push(match manner {
+            1 => (vec![b'n'; length], Vec::new()),
+            _ => (b"z".to_vec(), vec![random.pick(b"w\x80"); length - 1]),
+        });
+        missing = most - length;
     }
 }
 

@@ -1,4 +1,5 @@
 use denote.Ref.{now}
+use native.Mathlib.Omega.{arith}
 use Rattle.requests.specs.Taken.{trailer-unread, trailer-refused, trailer-taken, trailer-late}
 use borrow.Author.Needs.{needs}
 use Rattle.requests.proofs.given.give_trailers.Statement.{statement}
@@ -43,11 +44,11 @@ returns-2 c = let a = c .before .before .before .before .before .before .args in
 
 -- src/lib.rt:74:1
 returns-3 : tie.Need-returns-3
-returns-3 c = let a = c .before .before .before .before .before .before .before .args in trailer-taken (a .c) (now (a .block)) _ (c .before .before .before .before .before .trailers .ensures) (c .before .before .before .enum-told2 .given .1) (c .before .if1 .taken) (c .cells-at .ensures)
+returns-3 c = let a = c .before .before .before .before .before .before .before .args in trailer-taken (a .c) (now (a .block)) _ (c .before .before .before .before .before .trailers .ensures) (c .before .before .before .enum-told2 .given .1) (omega (arith, c .before .if1 .taken)) (c .cells-at .ensures)
 
 -- src/lib.rt:74:1
 returns-4 : tie.Need-returns-4
-returns-4 c = let a = c .before .before .before .before .before .before .args in trailer-late (a .c) (now (a .block)) _ (c .before .before .before .before .trailers .ensures) (c .before .before .enum-told2 .given .1) (c .if1 .left)
+returns-4 c = let a = c .before .before .before .before .before .before .args in trailer-late (a .c) (now (a .block)) _ (c .before .before .before .before .trailers .ensures) (c .before .before .enum-told2 .given .1) (λ e. omega (arith, c .if1 .left))
 
 pub give-trailers-spec : {M : Type 1} → statement M
 give-trailers-spec =
