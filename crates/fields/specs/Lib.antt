@@ -6,3 +6,4 @@ pub mod Lines
 pub mod Decimal
 pub mod Refuted
 pub mod Outside
+pub mod Spots

@@ -5,10 +5,11 @@ ghost use Prim.Native.Nat.{_+_, _*_, _-_, _<_, _≤_, _^_};
 ghost use lib.Dec.{T, eqb};
 ghost use lib.ListN.{length, getD};
 ghost use Rattle.rules.specs.Text.{any, same};
-ghost use Rattle.rules.specs.Classes.{isBlank};
+ghost use Rattle.rules.specs.Classes.{isBlank, isCapital};
 ghost use Rattle.rules.specs.Block.{little};
-ghost use Rattle.rules.specs.Section.{begins, ends, decimal};
-ghost use Rattle.fields.specs.Bytes.{outside, maskOf, badNameBytes, badValueBytes};
+ghost use Rattle.rules.specs.Section.{begins, decimal};
+ghost use Rattle.fields.specs.Bytes.{isIn, outside, maskOf, badNameBytes, badValueBytes};
+ghost use Rattle.fields.specs.Spots.{spotOf, isSome, run, nameSpotAt, valueSpotAt, lineSpotAt};
 ghost use Rattle.fields.specs.Table.{marked, allRight};
 ghost use Rattle.fields.specs.Walk.{recordAt};
 ghost use Rattle.fields.specs.Decimal.{capped};
@@ -344,20 +345,28 @@ pub fn same_bytes(a: &[u8], b: &[u8]) -> bool
     true
 }
 
-// Some byte is outside a class. The table is the caller's, who reads it once for many names and values.
-pub fn any_outside<'a>(table: &'a [u8; 256], v: &'a [u8], class: Class) -> bool
+// How many bytes at the start are of a class.
+fn inside<'a>(table: &'a [u8; 256], v: &'a [u8], class: Class) -> usize
     requires { ⌜ T (allRight (now table)) ⌝ }
-    ensures { λ r. ⌜ r ≡ any (outside class) (now (v .entry)) ⌝ }
+    ensures { λ r. ⌜ r ≡ run (isIn class) (now (v .entry)) ⌝ }
 {
     let mut i = 0;
     while i < v.len() {
         let b = v[i];
         if !has_class(table[b as usize], class) {
-            return true;
+            return i;
         }
         i += 1;
     }
-    false
+    i
+}
+
+// Some byte is outside a class. The table is the caller's, who reads it once for many names and values.
+pub fn any_outside<'a>(table: &'a [u8; 256], v: &'a [u8], class: Class) -> bool
+    requires { ⌜ T (allRight (now table)) ⌝ }
+    ensures { λ r. ⌜ r ≡ any (outside class) (now (v .entry)) ⌝ }
+{
+    inside(table, v, class) < v.len()
 }
 
 fn blank(b: u8) -> bool
@@ -369,43 +378,98 @@ fn blank(b: u8) -> bool
     b == b'\t'
 }
 
-fn blank_ends(v: &[u8]) -> bool
-    ensures { λ r. ⌜ r ≡ (begins isBlank (now (v .entry)) || ends isBlank (now (v .entry))) ⌝ }
+// Which of the rules of names and values a line's bytes break, and the place in the block of the byte that does (document 02, Q-3).
+pub enum Spot {
+    Nowhere,
+    EmptyName(usize),
+    Capital(usize),
+    BadInName(usize),
+    BadInValue(usize),
+    BlankAtEnd(usize),
+}
+
+fn is_somewhere(s: Spot) -> bool
+    ensures { λ r. ⌜ r ≡ isSome (spotOf s) ⌝ }
 {
-    if v.len() == 0 {
+    match s {
+        Spot::Nowhere => false,
+        Spot::EmptyName(_) => true,
+        Spot::Capital(_) => true,
+        Spot::BadInName(_) => true,
+        Spot::BadInValue(_) => true,
+        Spot::BlankAtEnd(_) => true,
+    }
+}
+
+fn is_capital(b: u8) -> bool
+    ensures { λ r. ⌜ r ≡ isCapital b ⌝ }
+{
+    if b < b'A' {
         return false;
     }
-    if blank(v[0]) {
-        return true;
-    }
-    blank(v[v.len() - 1])
+    b <= b'Z'
 }
 
-// A field line's bytes. A name that begins with a colon is left to the rules of pseudo-fields.
+// A name whose record begins at a place of the block: empty, it is told there; with a colon first it is left to the section's rules.
+fn name_spot<'a>(table: &'a [u8; 256], name: &'a [u8], at: usize) -> Spot
+    requires { ⌜ T (allRight (now table)) × (at + 6 + length (now name) < 2 ^ 64) ⌝ }
+    ensures { λ r. ⌜ spotOf r ≡ nameSpotAt at (now (name .entry)) ⌝ }
+{
+    if begins_with(name, b':') {
+        return Spot::Nowhere;
+    }
+    if name.len() == 0 {
+        return Spot::EmptyName(at);
+    }
+    let i = inside(table, name, Class::Name);
+    if i < name.len() {
+        if is_capital(name[i]) {
+            return Spot::Capital(at + 6 + i);
+        }
+        return Spot::BadInName(at + 6 + i);
+    }
+    Spot::Nowhere
+}
+
+// A value from a place of the block on: the lowest of a blank first byte, a byte that no value holds, a blank last byte.
+fn value_spot<'a>(table: &'a [u8; 256], value: &'a [u8], from: usize) -> Spot
+    requires { ⌜ T (allRight (now table)) × (from + length (now value) < 2 ^ 64) ⌝ }
+    ensures { λ r. ⌜ spotOf r ≡ valueSpotAt from (now (value .entry)) ⌝ }
+{
+    if value.len() == 0 {
+        return Spot::Nowhere;
+    }
+    if blank(value[0]) {
+        return Spot::BlankAtEnd(from);
+    }
+    let i = inside(table, value, Class::Value);
+    if i < value.len() {
+        return Spot::BadInValue(from + i);
+    }
+    if blank(value[value.len() - 1]) {
+        return Spot::BlankAtEnd(from + value.len() - 1);
+    }
+    Spot::Nowhere
+}
+
+// The name and value check of a line whose record begins at a place of the block.
+pub fn line_spot<'a>(table: &'a [u8; 256], name: &'a [u8], value: &'a [u8], at: usize) -> Spot
+    requires { ⌜ T (allRight (now table)) × (at + 6 + (length (now name) + length (now value)) < 2 ^ 64) ⌝ }
+    ensures { λ r. ⌜ spotOf r ≡ lineSpotAt at (now (name .entry)) (now (value .entry)) ⌝ }
+{
+    let found = name_spot(table, name, at);
+    if is_somewhere(found) {
+        return found;
+    }
+    value_spot(table, value, at + 6 + name.len())
+}
+
+// Whether a line's bytes break one of them.
 pub fn bad_line<'a>(table: &'a [u8; 256], name: &'a [u8], value: &'a [u8]) -> bool
-    requires { ⌜ T (allRight (now table)) ⌝ }
+    requires { ⌜ T (allRight (now table)) × (6 + (length (now name) + length (now value)) < 2 ^ 64) ⌝ }
     ensures { λ r. ⌜ r ≡ (badNameBytes (now (name .entry)) || badValueBytes (now (value .entry))) ⌝ }
 {
-    if !begins_with(name, b':') {
-        if name.len() == 0 {
-            return true;
-        }
-        if any_outside(table, name, Class::Name) {
-            return true;
-        }
-        return bad_value_by(table, value);
-    }
-    bad_value_by(table, value)
-}
-
-fn bad_value_by<'a>(table: &'a [u8; 256], value: &'a [u8]) -> bool
-    requires { ⌜ T (allRight (now table)) ⌝ }
-    ensures { λ r. ⌜ r ≡ badValueBytes (now (value .entry)) ⌝ }
-{
-    if any_outside(table, value, Class::Value) {
-        return true;
-    }
-    blank_ends(value)
+    is_somewhere(line_spot(table, name, value, 0))
 }
 
 // Stands for every number above 2^62-1, so that a long row of digits never overflows.

@@ -28,3 +28,5 @@ pub mod ControlEdges
 pub mod OneWayEdges
 pub mod NumberEdges
 pub mod WriterEdges
+pub mod Bytes
+pub mod BytesEdges
