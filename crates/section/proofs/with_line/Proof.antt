@@ -3,6 +3,7 @@ use Rattle.section.specs.Facts.{lineStep}
 use Rattle.section.specs.Names.{ten}
 use mathlib.Core.Path.{subst, sym}
 use Prim.Native.Nat.{ℕ, _<_}
+use native.Mathlib.Omega.{arith}
 use borrow.Author.Needs.{needs}
 use Rattle.section.proofs.with_line.Statement.{statement}
 use Rattle.section.proofs.with_line.Tie as tie
@@ -20,7 +21,7 @@ held-below-requires : tie.Need-held-below-requires
 held-below-requires c κs = search needs
 
 bad-line-requires : tie.Need-bad-line-requires
-bad-line-requires c κs = search needs
+bad-line-requires c κs = let p = c .before .before .before .before .pre in (p .1, (let l = p .0 in omega arith))
 
 name-of-requires : tie.Need-name-of-requires
 name-of-requires c κs = search needs
