@@ -43,7 +43,7 @@ use Rattle.connection.specs.Turned.{byOwn, requestAs, oneWayAs}
 
 -- what holds of each call's answer holds of any call's
 module _ {A : Type 0} (P : A → Type 0) {f g e r : A} where
-  by-any : (own : Own) → (own ≡ Own.Feed → P f) → P g → P e → P r → P (byOwn own f g e r)
+  pub by-any : (own : Own) → (own ≡ Own.Feed → P f) → P g → P e → P r → P (byOwn own f g e r)
   unfolding byOwn
   by-any Own.Feed x y z w = x refl
   by-any Own.Give x y z w = y

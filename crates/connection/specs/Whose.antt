@@ -32,6 +32,9 @@ Wanted (Call.On own) id r = Belongs id r
 pub open-not-on : {call : Call} {own : Own} → call ≡ Call.Open → call ≡ Call.On own → ⊥
 open-not-on e on = let z : _≡_ {A = ℕ} 0 1 = cc in omega arith
 
+pub one-own : {call : Call} {own also : Own} → call ≡ Call.On own → call ≡ Call.On also → own ≡ also
+one-own e f = cc
+
 -- WHAT A SEARCH FINDS: the first record that is wanted
 pub record FoundIn (call : Call) (id : ℕ) (rows : List Record) (f : Found) : Type 0 where
   pub long : f .len ≡ length rows
