@@ -73,7 +73,7 @@ tagged t fields = vstruct (vcons (vint w8 t) fields)
 abbrev none-ty : Ty
 none-ty = tyArray (tyInt w8) 0
 
--- the call is made in `made`, and its place is n
+-- `made` are the locals that the call is made in, the last of them at n
 abbrev bare : (made : List Local) → ((rest : Body) → Body) → (n : ℕ) → Fn
 bare made makes n = record {
   lifetimes = 2;
