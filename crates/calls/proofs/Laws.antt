@@ -1,5 +1,6 @@
 -- What each walk over the row says of a record: its laws under short names, and the numbers of an element's place.
 --     R, vals, val     a record's type, and its machine value.        size             how many bytes a record takes
+--     K, call-vals, call-val     a call's type, and its machine value.        is-call          every call has one
 --     typed            a record's machine value has the record's MIR type.        offset-fits      an element's offset is a usize
 --     next-fits, falls a loop's index goes on within a usize, and comes nearer to the length
 --     then-of b        the first arm of the branch b, likewise
@@ -20,9 +21,16 @@ use denote.RattleType.{RattleType}
 use denote.Laws.{Is, Tells, Shows, Makes, Copy, shows}
 use denote.Steps.{only}
 use denote.Struct.Laws as LL
+use denote.Enum.Laws as EL
 use Rattle.record.specs.declared.Record.{Record}
 use Rattle.record.proofs.Record as T
 use Rattle.record.proofs.Record.Laws as T′
+use Rattle.connection.specs.declared.Call.{Call}
+use Rattle.connection.specs.declared.Own.{Own}
+use Rattle.connection.proofs.Own as O
+use Rattle.connection.proofs.Own.Laws as O′
+use Rattle.connection.proofs.Call as C
+use Rattle.connection.proofs.Call.Laws as C′
 
 abbrev pub R : RattleType
 R = T.the-row
@@ -45,6 +53,34 @@ spelt-rec r u is = ap only (tells r (u ∷ []) is)
 
 pub at-val : (r : Record) (u : Val) → Is R r (u ∷ []) → Is R r (vals r)
 at-val r u is = subst (Is R r) (tells r (u ∷ []) is) is
+
+-- a call
+abbrev pub K : RattleType
+K = C.the-row
+
+unfoldable pub call-val : Call → Val
+call-val k = EL.val C.the-type C′.the-laws k
+
+abbrev pub call-vals : Call → List Val
+call-vals k = call-val k ∷ []
+
+pub call-tells : Tells K (Is K) call-vals
+unfolding call-val
+call-tells = EL.tells C.the-type C′.the-laws
+
+abbrev pub own-val : Own → Val
+own-val = EL.val O.the-type O′.the-laws
+
+is-own : (own : Own) → Is O.the-row own (own-val own ∷ [])
+is-own Own.Feed = EL.owes O.the-type O′.the-laws Own.Feed tt
+is-own Own.Give = EL.owes O.the-type O′.the-laws Own.Give tt
+is-own Own.End = EL.owes O.the-type O′.the-laws Own.End tt
+is-own Own.Reset = EL.owes O.the-type O′.the-laws Own.Reset tt
+
+pub is-call : (k : Call) → Is K k (call-vals k)
+unfolding call-val
+is-call Call.Open = EL.owes C.the-type C′.the-laws Call.Open tt
+is-call (Call.On own) = EL.owes C.the-type C′.the-laws (Call.On own) (is-own own, tt)
 
 -- an element's offset is a usize
 pub offset-fits : (n i : ℕ) → i < n → n * size < 2 ^ 63 → i * size < 2 ^ 64
@@ -91,7 +127,16 @@ module _ {M : Type 1} (𝓤 : URA M) (H : Heap 𝓤) (A : Atoms 𝓤) where
   pub rec-makes : Makes 𝓤 H A R (Is R)
   rec-makes = LL.makes T.the-type T′.the-plain 𝓤 H A
 
+  pub call-makes : Makes 𝓤 H A K (Is K)
+  call-makes = EL.makes C.the-type C′.the-plain 𝓤 H A
+
   module _ (W : Given 𝓤 H A) where
+    pub own-typed : (own : Own) → Holds (hasTy O′.mir (own-val own)) × WT (own-val own)
+    own-typed own = EL.lawful O.the-type O′.the-laws 𝓤 H A W tt .typed own _ (is-own own) .0
+
+    pub call-typed : (k : Call) {w : Val} → w ≡ call-val k → Holds (hasTy C′.mir w) × WT w
+    call-typed k e = rw e (EL.lawful C.the-type C′.the-laws 𝓤 H A W tt .typed k _ (is-call k) .0)
+
     pub rec-copy : Copy 𝓤 H A R
     rec-copy = LL.copy T.the-type T′.the-copy 𝓤 H A W
 

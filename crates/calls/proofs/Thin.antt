@@ -31,12 +31,13 @@ use denote.Triple.Statement.{Contract, Triple}
 use denote.Triple.Call.{calls-at}
 use denote.Triple.Clauses.{ensured, lasts}
 use Rattle.record.specs.declared.Record.{Record}
+use Rattle.connection.specs.declared.Call.{Call}
 use Rattle.connection.specs.declared.Connection.{Connection}
 use Rattle.connection.specs.declared.Report.{Report}
 use Rattle.connection.proofs.Connection as C
 use Rattle.connection.proofs.Report as N
 use Rattle.calls.specs.Lent.{Stepped}
-use Rattle.calls.proofs.Laws.{R}
+use Rattle.calls.proofs.Laws.{R, K, call-val, is-call, call-makes}
 use Rattle.calls.proofs.step as step
 use Rattle.calls.proofs.step.Symbol.{name as #calls·step}
 
@@ -62,15 +63,15 @@ OwnRow κ x = MutSlice (named 1) κ R .own x (rows-val x ∷ [])
 abbrev pub OwnPiece : Lft → RefT (List ℕ) → Fml
 OwnPiece κ s = ShrSlice (named 2) κ u8 .own s (bytes-val s ∷ [])
 
-module _ {M : Type 1} {𝓤 : URA M} {H : Heap 𝓤} {A : Atoms 𝓤} (W : Given 𝓤 H A) (mem : Memory → SProp 𝓤) (run : Routine → Fun 𝓤) (κ₀ κ₁ κ₂ : Lft) (q₀ q₁ q₂ : Share) (cr : RefT Connection) (x : RefT (List Record)) (k id allow : ℕ) (piece : RefT (List ℕ)) (k-fits : k < 2 ^ 64) (id-fits : id < 2 ^ 64) (allow-fits : allow < 2 ^ 64) where
+module _ {M : Type 1} {𝓤 : URA M} {H : Heap 𝓤} {A : Atoms 𝓤} (W : Given 𝓤 H A) (mem : Memory → SProp 𝓤) (run : Routine → Fun 𝓤) (κ₀ κ₁ κ₂ : Lft) (q₀ q₁ q₂ : Share) (cr : RefT Connection) (x : RefT (List Record)) (k : Call) (id allow : ℕ) (piece : RefT (List ℕ)) (id-fits : id < 2 ^ 64) (allow-fits : allow < 2 ^ 64) where
   abbrev κs : Lfts 3
   κs = (κ₀, (κ₁, (κ₂, tt)))
 
-  abbrev a : RefT Connection × (RefT (List Record) × (ℕ × (ℕ × (ℕ × (RefT (List ℕ) × Unit {0})))))
+  abbrev a : RefT Connection × (RefT (List Record) × (Call × (ℕ × (ℕ × (RefT (List ℕ) × Unit {0})))))
   a = (cr, (x, (k, (id, (allow, (piece, tt))))))
 
   abbrev pub to-step : StepC 𝓤 H A mem run .Ghost
-  to-step = ((κs, (q₀, (q₁, (q₂, tt))), tt, a, (conn-val cr ∷ [], (rows-val x ∷ [], (vint w64 k ∷ [], (vint w64 id ∷ [], (vint w64 allow ∷ [], (bytes-val piece ∷ [], tt))))))), tt)
+  to-step = ((κs, (q₀, (q₁, (q₂, tt))), tt, a, (conn-val cr ∷ [], (rows-val x ∷ [], (call-val k ∷ [], (vint w64 id ∷ [], (vint w64 allow ∷ [], (bytes-val piece ∷ [], tt))))))), tt)
 
   abbrev pub Tokens : Item 𝓤
   Tokens = ‵ (flft κ₀ q₀) ⊛ ‵ (flft κ₁ q₁) ⊛ ‵ (flft κ₂ q₂) ⊛ ‵ ftrue
@@ -81,7 +82,7 @@ module _ {M : Type 1} {𝓤 : URA M} {H : Heap 𝓤} {A : Atoms 𝓤} (W : Given
   pub goes-step : ent 𝓤 (⋆ 𝓤 H A (Tokens ∷ Lent ∷ [])) (StepC 𝓤 H A mem run .pre to-step)
   goes-step = qed W (Tokens ∷ Lent ∷ []) ∵
       move ! (1 ∷ []) $ split ! $ move ! (1 ∷ []) $ split ! $ move ! (1 ∷ []) $ nothing ! $ move ! (1 ∷ 0 ∷ []) $ fjoin ! $
-      owned ! u64 (Is u64) (uint-makes 𝓤 H A W w64) allow _ (refl, allow-fits) $ fjoin ! $ owned ! u64 (Is u64) (uint-makes 𝓤 H A W w64) id _ (refl, id-fits) $ fjoin ! $ owned ! u64 (Is u64) (uint-makes 𝓤 H A W w64) k _ (refl, k-fits) $ fjoin ! $
+      owned ! u64 (Is u64) (uint-makes 𝓤 H A W w64) allow _ (refl, allow-fits) $ fjoin ! $ owned ! u64 (Is u64) (uint-makes 𝓤 H A W w64) id _ (refl, id-fits) $ fjoin ! $ owned ! K (Is K) (call-makes 𝓤 H A) k _ (is-call k) $ fjoin ! $
       move ! (1 ∷ 0 ∷ []) $ fjoin ! $ move ! (1 ∷ 0 ∷ []) $ fjoin ! $ move ! (1 ∷ 0 ∷ []) $ join ! $ frame ! $ done !
 
   abbrev Ws : Type 0

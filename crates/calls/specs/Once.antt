@@ -8,6 +8,7 @@ use lib.ListN.{length, getD, set, length-set, length-map}
 use Rattle.rules.specs.Writer.{Write}
 use Rattle.record.specs.declared.Record.{Record}
 use Rattle.record.specs.Row.{free-record}
+use Rattle.connection.specs.declared.Call.{Call}
 use Rattle.connection.specs.declared.Connection.{Connection}
 use Rattle.connection.specs.declared.Report.{Report}
 use Rattle.connection.specs.declared.Found.{Found}
@@ -24,7 +25,7 @@ use Rattle.calls.specs.Rows.{set-past, set-other}
 
 -- ---- a call on one stream
 
-nine : {c : Connection} {f : Found} {call id allow : ℕ} {piece : List ℕ} {t : Turn} → Turned c f call id allow piece t → (f .len ≡ 24 → ⊥) → t ≡ unaltered 9 c f
+nine : {c : Connection} {f : Found} {call : Call} {id allow : ℕ} {piece : List ℕ} {t : Turn} → Turned c f call id allow piece t → (f .len ≡ 24 → ⊥) → t ≡ unaltered 9 c f
 nine (other-row n q) x = q
 nine (dead l n q) x = absurd (x l)
 nine (opens v e q) x = absurd (x (v .long))
@@ -44,7 +45,7 @@ all-free (r ∷ rows) [] e n m a b = absurd (omega arith)
 all-free (r ∷ rows) (q ∷ others) e n m a b =
     ap (λ x. x ∷ map (sweptOf n) rows) (sym (swept-free n r a refl) ∙ swept-free m q b refl) ∙ ap (λ x. sweptOf m q ∷ x) (all-free rows others (omega arith) n m a b)
 
-module _ {c : Connection} {rows : List Record} {call id allow : ℕ} {piece : List ℕ} where
+module _ {c : Connection} {rows : List Record} {call : Call} {id allow : ℕ} {piece : List ℕ} where
   -- two results that meet the contract are equal, and so is what they leave
   pub one-step : {c₁ c₂ : Connection} {rows₁ rows₂ : List Record} {r₁ r₂ : Report}
       → Stepped c rows call id allow piece c₁ rows₁ r₁ → Stepped c rows call id allow piece c₂ rows₂ r₂ → (c₁ ≡ c₂) × (rows₁ ≡ rows₂) × (r₁ ≡ r₂)

@@ -9,6 +9,8 @@ use Rattle.varint.specs.Write.{wroteOf, leftIn}
 use Rattle.varint.specs.declared.Wrote.{Wrote}
 use Rattle.varint.specs.declared.Wrote.the-variants.{Refused, Count}
 use Rattle.record.specs.declared.Record.{Record}
+use Rattle.connection.specs.declared.Call.{Call}
+use Rattle.connection.specs.declared.Own.{Own}
 use Rattle.connection.specs.declared.Connection.{Connection}
 use Rattle.connection.specs.declared.Report.{Report}
 use Rattle.connection.specs.declared.Found.{Found}
@@ -28,7 +30,7 @@ pub record Started (c : Connection) (rows : List Record) (c′ : Connection) (ro
 
 -- ---- a call on one stream: one record is found, the core turns it, and it is stored back at its place
 
-pub record Stepped (c : Connection) (rows : List Record) (call id allow : ℕ) (piece : List ℕ) (c′ : Connection) (rows′ : List Record) (r : Report) : Type 0 where
+pub record Stepped (c : Connection) (rows : List Record) (call : Call) (id allow : ℕ) (piece : List ℕ) (c′ : Connection) (rows′ : List Record) (r : Report) : Type 0 where
   pub found : Found
   pub turn : Turn
   pub is-found : FoundIn call id rows found
@@ -37,27 +39,27 @@ pub record Stepped (c : Connection) (rows : List Record) (call id allow : ℕ) (
   pub rows-left : rows′ ≡ set rows (found .at) (turn .row)
   pub answered : r ≡ turn .report
 
--- the number of each call is here and in no other promise
+-- which call it is stands here and in no other promise
 
 -- `eistulko_open`
 abbrev pub Opened : (c : Connection) (rows : List Record) (id : ℕ) (c′ : Connection) (rows′ : List Record) (r : Report) → Type 0
-Opened c rows id c′ rows′ r = Stepped c rows 0 id 0 [] c′ rows′ r
+Opened c rows id c′ rows′ r = Stepped c rows Call.Open id 0 [] c′ rows′ r
 
 -- `eistulko_feed`: a piece of the stream's bytes, and how many frame headers may be read
 abbrev pub Fed : (c : Connection) (rows : List Record) (id : ℕ) (piece : List ℕ) (allow : ℕ) (c′ : Connection) (rows′ : List Record) (r : Report) → Type 0
-Fed c rows id piece allow c′ rows′ r = Stepped c rows 1 id allow piece c′ rows′ r
+Fed c rows id piece allow c′ rows′ r = Stepped c rows (Call.On Own.Feed) id allow piece c′ rows′ r
 
 -- `eistulko_give`: the section that the decoder made, as a block
 abbrev pub Given : (c : Connection) (rows : List Record) (id : ℕ) (block : List ℕ) (c′ : Connection) (rows′ : List Record) (r : Report) → Type 0
-Given c rows id block c′ rows′ r = Stepped c rows 2 id 0 block c′ rows′ r
+Given c rows id block c′ rows′ r = Stepped c rows (Call.On Own.Give) id 0 block c′ rows′ r
 
 -- `eistulko_end`
 abbrev pub Ended : (c : Connection) (rows : List Record) (id : ℕ) (c′ : Connection) (rows′ : List Record) (r : Report) → Type 0
-Ended c rows id c′ rows′ r = Stepped c rows 3 id 0 [] c′ rows′ r
+Ended c rows id c′ rows′ r = Stepped c rows (Call.On Own.End) id 0 [] c′ rows′ r
 
 -- `eistulko_reset`
 abbrev pub Reset : (c : Connection) (rows : List Record) (id : ℕ) (c′ : Connection) (rows′ : List Record) (r : Report) → Type 0
-Reset c rows id c′ rows′ r = Stepped c rows 4 id 0 [] c′ rows′ r
+Reset c rows id c′ rows′ r = Stepped c rows (Call.On Own.Reset) id 0 [] c′ rows′ r
 
 -- ---- `eistulko_goaway`: our GOAWAY, sent into the room
 

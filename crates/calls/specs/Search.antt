@@ -11,6 +11,7 @@ use lib.ListN.{length, getD}
 use Rattle.record.specs.declared.Record.{Record}
 use Rattle.record.specs.Row.{free-record}
 use Rattle.record.specs.Sound.{Decides}
+use Rattle.connection.specs.declared.Call.{Call}
 use Rattle.connection.specs.Whose.{Wanted, FoundIn}
 use Rattle.calls.specs.Lent.{FirstIn}
 
@@ -22,7 +23,7 @@ pub held-no : {A : Type 0} {b : Bool} → Decides A b → Holds (not b) → A �
 held-no {b = true} d h = absurd h
 held-no {b = false} d h = d .no refl
 
-module _ (call id : ℕ) (rows : List Record) where
+module _ (call : Call) (id : ℕ) (rows : List Record) where
   abbrev At : ℕ → Type 0
   At j = Wanted call id (getD rows j free-record)
 

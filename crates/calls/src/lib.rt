@@ -1,8 +1,10 @@
 // Every call, lent the connection's record and the host's row of stream records (document 01, "Calls and the host's memory").
 // One record is found, stepped by value and stored back; the others are not touched.
 use connection::Brief;
+use connection::Call;
 use connection::Connection;
 use connection::Found;
+use connection::Own;
 use connection::Report;
 use connection::Written;
 use record::Record;
@@ -22,7 +24,7 @@ ghost use Rattle.calls.specs.Promises.{Started, Stepped, Opened, Fed, Gi
 // ---- the row
 
 // Where the first record is that a call is about, and the length if there is none.
-fn find(row: &[Record], call: u64, id: u64) -> usize
+fn find(row: &[Record], call: Call, id: u64) -> usize
     ensures { λ r. ⌜ FirstIn call id (now (row .entry)) r ⌝ }
 {
     let mut i = 0;
@@ -62,7 +64,7 @@ fn store_content(row: &mut [Record], i: usize, r: Record)
     }
 }
 
-fn seek(row: &[Record], call: u64, id: u64) -> Found
+fn seek(row: &[Record], call: Call, id: u64) -> Found
     ensures { λ r. ⌜ FoundIn call id (now (row .entry)) r ⌝ }
 {
     let at = find(row, call, id);
@@ -88,7 +90,7 @@ fn empty(row: &mut [Record])
 // ---- a call on one stream
 
 // A call on the record that was found: what it leaves of the connection and of the record. The side is read and stored for a one-way stream alone.
-fn settle(conn: &mut Connection, f: Found, call: u64, id: u64, allow: u64, piece: &[u8]) -> Brief
+fn settle(conn: &mut Connection, f: Found, call: Call, id: u64, allow: u64, piece: &[u8]) -> Brief
     ensures { λ r. ⌜ Turned (now (conn .entry)) f call id allow (now (piece .entry)) (turn (now (conn .exit)) (r .row) (r .report)) ⌝ }
 {
     let n = connection::answer(conn.doors, f, call, id, allow, piece);
@@ -110,7 +112,7 @@ fn settle(conn: &mut Connection, f: Found, call: u64, id: u64, allow: u64, piece
 pub fn step(
     conn: &mut Connection,
     row: &mut [Record],
-    call: u64,
+    call: Call,
     id: u64,
     allow: u64,
     piece: &[u8],
@@ -139,7 +141,7 @@ pub extern "C" fn eistulko_start(conn: &mut Connection, row: &mut [Record]) -> u
 pub extern "C" fn eistulko_open(conn: &mut Connection, row: &mut [Record], id: u64) -> Report
     ensures { λ r. ⌜ Opened (now (conn .entry)) (now (row .entry)) id (now (conn .exit)) (now (row .exit)) r ⌝ }
 {
-    step(conn, row, rules::OPEN, id, 0, b"")
+    step(conn, row, Call::Open, id, 0, b"")
 }
 
 #[no_mangle]
@@ -153,14 +155,14 @@ pub extern "C" fn eistulko_feed(
     ensures { λ r. ⌜ Fed (now (conn .entry)) (now (row .entry)) id (now (piece .entry)) allow (now (conn .exit)) (now (row .exit)) r ⌝ }
 {
     if row.len() == 24 {
-        let f = seek(&*row, rules::FEED, id);
+        let f = seek(&*row, Call::On(Own::Feed), id);
         let b = connection::brisk(conn.doors.code, f, allow, piece);
         if b.report.number == 0 {
             store_content(row, f.at, b.row);
             return b.report;
         }
     }
-    let t = step(conn, row, rules::FEED, id, allow, piece);
+    let t = step(conn, row, Call::On(Own::Feed), id, allow, piece);
     t
 }
 
@@ -173,21 +175,21 @@ pub extern "C" fn eistulko_give(
 ) -> Report
     ensures { λ r. ⌜ Given (now (conn .entry)) (now (row .entry)) id (now (block .entry)) (now (conn .exit)) (now (row .exit)) r ⌝ }
 {
-    step(conn, row, rules::GIVE, id, 0, block)
+    step(conn, row, Call::On(Own::Give), id, 0, block)
 }
 
 #[no_mangle]
 pub extern "C" fn eistulko_end(conn: &mut Connection, row: &mut [Record], id: u64) -> Report
     ensures { λ r. ⌜ Ended (now (conn .entry)) (now (row .entry)) id (now (conn .exit)) (now (row .exit)) r ⌝ }
 {
-    step(conn, row, rules::END, id, 0, b"")
+    step(conn, row, Call::On(Own::End), id, 0, b"")
 }
 
 #[no_mangle]
 pub extern "C" fn eistulko_reset(conn: &mut Connection, row: &mut [Record], id: u64) -> Report
     ensures { λ r. ⌜ Reset (now (conn .entry)) (now (row .entry)) id (now (conn .exit)) (now (row .exit)) r ⌝ }
 {
-    step(conn, row, rules::RESET, id, 0, b"")
+    step(conn, row, Call::On(Own::Reset), id, 0, b"")
 }
 
 #[no_mangle]

@@ -7,6 +7,8 @@ use Rattle.record.specs.Sound.{cellsIn}
 use Rattle.record.specs.Body.{contentIn}
 use Rattle.requests.specs.declared.Reply.{Reply}
 use Rattle.requests.specs.Reply.{fedAs, Keeps}
+use Rattle.connection.specs.declared.Call.{Call}
+use Rattle.connection.specs.declared.Own.{Own}
 use Rattle.connection.specs.declared.Connection.{Connection}
 use Rattle.connection.specs.declared.Found.{Found}
 use Rattle.connection.specs.declared.Report.{Report}
@@ -21,7 +23,7 @@ contentLeaves c b = c
 
 -- with number 0 it is what the call answers; any other number says nothing
 pub record Briefly (code : ℕ) (f : Found) (allow : ℕ) (piece : List ℕ) (b : Brief) : Type 0 where
-  pub turns : b .report .number ≡ 0 → (c : Connection) (id : ℕ) → c .doors .code ≡ code → Turned c f 1 id allow piece (turn (contentLeaves c b) (b .row) (b .report))
+  pub turns : b .report .number ≡ 0 → (c : Connection) (id : ℕ) → c .doors .code ≡ code → Turned c f (Call.On Own.Feed) id allow piece (turn (contentLeaves c b) (b .row) (b .report))
   pub alters : b .report .number ≡ 0 → b .row ≡ contentIn (f .row) (cellsIn (b .row))  -- three numbers of the record
 
 module _ {code : ℕ} {f : Found} {allow : ℕ} {piece : List ℕ} where
@@ -32,7 +34,7 @@ module _ {code : ℕ} {f : Found} {allow : ℕ} {piece : List ℕ} where
       → Briefly code f allow piece (record { row = a .row; report = told (a .number) (a .event) (a .start) (a .len) (a .used) (a .heads) 0 })
   briefly-so l z w k {a} keeps = record {
     turns = λ y c id e.
-        on-request id allow (record { long = l; alive = e ∙ z }) (λ x. omega arith) w {a = a} k (asks-feed (f .row) 1 allow piece refl (keeps y .0))
+        on-request id allow (record { long = l; alive = e ∙ z }) refl w {a = a} k (asks-feed (f .row) allow piece refl (keeps y .0))
         (ap (λ x. turn x (a .row) (told (a .number) (a .event) (a .start) (a .len) (a .used) (a .heads) 0)) (kept-small c (a .number) (omega arith)));
     alters = λ y. keeps y .1;
   }

@@ -37,18 +37,18 @@ use Rattle.oneway.specs.declared.calls.Heard.{Heard}
 use Rattle.oneway.specs.Mirror.{sideAfter}
 use Rattle.oneway.specs.Heard as heard
 use Rattle.oneway.specs.Heard.{Heeds, feeding, closedBy}
+use Rattle.connection.specs.declared.Own.{Own}
 use Rattle.connection.specs.Whose.{Vacant}
-use Rattle.connection.specs.Turned.{byCall, requestAs, oneWayAs}
+use Rattle.connection.specs.Turned.{byOwn, requestAs, oneWayAs}
 
 -- what holds of each call's answer holds of any call's
 module _ {A : Type 0} (P : A → Type 0) {f g e r : A} where
-  by-any : (call : ℕ) → (call ≡ 1 → P f) → P g → P e → P r → P (byCall call f g e r)
-  unfolding byCall
-  by-any zero x y z w = w
-  by-any (suc zero) x y z w = x refl
-  by-any (suc (suc zero)) x y z w = y
-  by-any (suc (suc (suc zero))) x y z w = z
-  by-any (suc (suc (suc (suc n)))) x y z w = w
+  pub by-any : (own : Own) → (own ≡ Own.Feed → P f) → P g → P e → P r → P (byOwn own f g e r)
+  unfolding byOwn
+  by-any Own.Feed x y z w = x refl
+  by-any Own.Give x y z w = y
+  by-any Own.End x y z w = z
+  by-any Own.Reset x y z w = w
 
 -- ---- of a request's
 
@@ -99,10 +99,10 @@ module _ (r : Record) where
   end-left (fault code place) = by-number _ refl
   end-left (waits place) = same refl
 
-  pub request-left : (call allow : ℕ) (piece : List ℕ) (s : State Message) → Left r (requestAs call allow piece r s)
-  request-left call allow piece s =
+  pub request-left : (own : Own) (allow : ℕ) (piece : List ℕ) (s : State Message) → Left r (requestAs own allow piece r s)
+  request-left own allow piece s =
       let f = F.feed (request document) allow s piece in
-      by-any (Left r) call
+      by-any (Left r) own
       (λ z. due-left (same refl) (said-left (f .used) (f .heads) (f .event) (f .after)) s)
       (due-left (read-left s (lines piece)) (same refl) s)
       (end-left (finish (request document) 0 s))
@@ -110,28 +110,28 @@ module _ (r : Record) where
 
 -- ---- of a one-way stream's: a stream that goes on is where the definition's feed leaves it
 
-pub data Heeded (r : Record) (d : Side) (call allow : ℕ) (piece : List ℕ) (s : OneState) (a : Heard) : Type 0 where
-  goes-on : call ≡ 1 → (after : OneState) → feeding d allow piece s .after ≡ one.lives after → a .row ≡ oneWayRecord (r .id) after → a .side ≡ sideAfter d after → Heeded r d call allow piece s a
-  same : a .row ≡ r → a .side ≡ d → Heeded r d call allow piece s a
-  freed : Vacant (a .row) → a .side ≡ d → Heeded r d call allow piece s a
+pub data Heeded (r : Record) (d : Side) (own : Own) (allow : ℕ) (piece : List ℕ) (s : OneState) (a : Heard) : Type 0 where
+  goes-on : own ≡ Own.Feed → (after : OneState) → feeding d allow piece s .after ≡ one.lives after → a .row ≡ oneWayRecord (r .id) after → a .side ≡ sideAfter d after → Heeded r d own allow piece s a
+  same : a .row ≡ r → a .side ≡ d → Heeded r d own allow piece s a
+  freed : Vacant (a .row) → a .side ≡ d → Heeded r d own allow piece s a
 
-module _ (r : Record) (d : Side) (call allow : ℕ) (piece : List ℕ) (s : OneState) where
-  said-heeded : call ≡ 1 → (u h : ℕ) (e : OneEvent) (o : OneOutcome) → feeding d allow piece s .after ≡ o → Heeded r d call allow piece s (heard.saidBy r d u h e o)
+module _ (r : Record) (d : Side) (own : Own) (allow : ℕ) (piece : List ℕ) (s : OneState) where
+  said-heeded : own ≡ Own.Feed → (u h : ℕ) (e : OneEvent) (o : OneOutcome) → feeding d allow piece s .after ≡ o → Heeded r d own allow piece s (heard.saidBy r d u h e o)
   unfolding heard.saidBy
   said-heeded z u h (of-frames e) (one.dies code) q = same refl refl
   said-heeded z u h (qpack-bytes k len) (one.dies code) q = same refl refl
   said-heeded z u h (of-frames e) (one.lives x) q = goes-on z x q refl refl
   said-heeded z u h (qpack-bytes k len) (one.lives x) q = goes-on z x q refl refl
 
-  close-heeded : (n : ℕ) → Heeded r d call allow piece s (closedBy r d n)
+  close-heeded : (n : ℕ) → Heeded r d own allow piece s (closedBy r d n)
   unfolding closedBy
   close-heeded zero = freed refl refl
   close-heeded (suc n) = same refl refl
 
-  pub one-way-left : Heeded r d call allow piece s (oneWayAs call allow piece r d s)
+  pub one-way-left : Heeded r d own allow piece s (oneWayAs own allow piece r d s)
   one-way-left =
       let f = feeding d allow piece s in
-      by-any (Heeded r d call allow piece s) call
+      by-any (Heeded r d own allow piece s) own
       (λ z. said-heeded z (f .used) (f .heads) (f .event) (f .after) refl)
       (same refl refl)
       (close-heeded (closes s))

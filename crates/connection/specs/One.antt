@@ -8,6 +8,8 @@ use Rattle.requests.specs.Reply.{Open, stateIn}
 use Rattle.connection.specs.declared.doors.Doors.{Doors}
 use Rattle.connection.specs.Goaway.{sends-one}
 use Rattle.oneway.specs.Heard.{Heeds, stateHere}
+use Rattle.connection.specs.declared.Call.{Call}
+use Rattle.connection.specs.declared.Own.{Own}
 use Rattle.connection.specs.declared.Connection.{Connection}
 use Rattle.connection.specs.declared.Found.{Found}
 use Rattle.connection.specs.declared.Turn.{Turn}
@@ -22,23 +24,21 @@ fork-one n a c (inl x) (inr y) = absurd (n (x .0) (y .0))
 fork-one n a c (inr x) (inl y) = absurd (n (y .0) (x .0))
 fork-one n a c (inr x) (inr y) = c (x .1) (y .1)
 
-module _ (c : Connection) (f : Found) (call id allow : ℕ) (piece : List ℕ) where
+module _ (c : Connection) (f : Found) (call : Call) (id allow : ℕ) (piece : List ℕ) where
   -- document 01's order, test by test
   abbrev Taken : Type 0
   Taken = (f .at < 24) × (Open (f .row) ⊎ Heeds (f .row))
 
-  abbrev OnStream : Turn → Type 0
-  OnStream t = ((f .row .kind ≡ 1) × (t ≡ replied c (requestAs call allow piece (f .row) (stateIn (f .row)))))
-      ⊎ ((2 ≤ f .row .kind) × (t ≡ overheard c (oneWayAs call allow piece (f .row) (sideIn c) (stateHere (f .row) (sideIn c)))))
+  abbrev OnStream : Own → Turn → Type 0
+  OnStream own t = ((f .row .kind ≡ 1) × (t ≡ replied c (requestAs own allow piece (f .row) (stateIn (f .row)))))
+      ⊎ ((2 ≤ f .row .kind) × (t ≡ overheard c (oneWayAs own allow piece (f .row) (sideIn c) (stateHere (f .row) (sideIn c)))))
 
-  abbrev OnOpen : Turn → Type 0
-  OnOpen t = ((Taken → ⊥) × (t ≡ unaltered 1 c f)) ⊎ (Taken × OnStream t)
-
-  abbrev Living : Turn → Type 0
-  Living t = ((call ≡ 0) × (t ≡ openedAt c f id)) ⊎ ((call ≡ 0 → ⊥) × OnOpen t)
+  abbrev Living : Call → Turn → Type 0
+  Living Call.Open t = t ≡ openedAt c f id
+  Living (Call.On own) t = ((Taken → ⊥) × (t ≡ unaltered 1 c f)) ⊎ (Taken × OnStream own t)
 
   abbrev On24 : Turn → Type 0
-  On24 t = ((c .doors .code ≡ 0 → ⊥) × (t ≡ unaltered (c .doors .code) c f)) ⊎ ((c .doors .code ≡ 0) × Living t)
+  On24 t = ((c .doors .code ≡ 0 → ⊥) × (t ≡ unaltered (c .doors .code) c f)) ⊎ ((c .doors .code ≡ 0) × Living call t)
 
   abbrev Tested : Turn → Type 0
   Tested t = ((f .len ≡ 24 → ⊥) × (t ≡ unaltered 9 c f)) ⊎ ((f .len ≡ 24) × On24 t)
@@ -46,10 +46,10 @@ module _ (c : Connection) (f : Found) (call id allow : ℕ) (piece : List ℕ) w
   tested : {t : Turn} → Turned c f call id allow piece t → Tested t
   tested (other-row n q) = inl (n, q)
   tested (dead l n q) = inr (l, inl (n, q))
-  tested (opens v e q) = inr (v .long, inr (v .alive, inl (e, q)))
-  tested (not-open v n s q) = inr (v .long, inr (v .alive, inr (n, inl ((λ x. s (x .0) (x .1)), q))))
-  tested (request v n l o q s) = inr (v .long, inr (v .alive, inr (n, inr ((l, inl o), inl (o .kind, q)))))
-  tested (one-way v n l h q s) = inr (v .long, inr (v .alive, inr (n, inr ((l, inr h), inr (h .kind, q)))))
+  tested (opens v e q) = inr (v .long, inr (v .alive, rw e q))
+  tested (not-open v n s q) = inr (v .long, inr (v .alive, rw n (inl ((λ x. s (x .0) (x .1)), q))))
+  tested (request v n l o q s) = inr (v .long, inr (v .alive, rw n (inr ((l, inl o), inl (o .kind, q)))))
+  tested (one-way v n l h q s) = inr (v .long, inr (v .alive, rw n (inr ((l, inr h), inr (h .kind, q)))))
 
   -- A CALL HAS ONE ANSWER, and leaves one connection and one record
   pub one-turn : {t u : Turn} → Turned c f call id allow piece t → Turned c f call id allow piece u → t ≡ u
@@ -58,17 +58,15 @@ module _ (c : Connection) (f : Found) (call id allow : ℕ) (piece : List ℕ) w
       same : {v : Turn} → t ≡ v → u ≡ v → t ≡ u
       same p q = p ∙ sym q
 
-      on-stream : OnStream t → OnStream u → t ≡ u
-      on-stream = fork-one (λ k l. omega arith) same same
+      on-stream : (own : Own) → OnStream own t → OnStream own u → t ≡ u
+      on-stream own = fork-one (λ k l. omega arith) same same
 
-      on-open : OnOpen t → OnOpen u → t ≡ u
-      on-open = fork-one (λ n l. n l) same on-stream
-
-      living : Living t → Living u → t ≡ u
-      living = fork-one (λ e n. n e) same on-open
+      living : (k : Call) → Living k t → Living k u → t ≡ u
+      living Call.Open = same
+      living (Call.On own) = fork-one (λ n l. n l) same (on-stream own)
 
       on24 : On24 t → On24 u → t ≡ u
-      on24 = fork-one (λ n e. n e) same living
+      on24 = fork-one (λ n e. n e) same (living call)
 
 -- OUR GOAWAY HAS ONE ANSWER, and leaves the doors and the room in one way
 pub one-goaway : {d : Doors} {id : ℕ} {l a b : List ℕ} {r q : Gone} → GoesAway d id l r a → GoesAway d id l q b → (r ≡ q) × (a ≡ b)

@@ -31,6 +31,8 @@ use Rattle.oneway.specs.declared.calls.Side.{Side}
 use Rattle.oneway.specs.declared.calls.Heard.{Heard}
 use Rattle.oneway.specs.Mirror.{sideAfter}
 use Rattle.oneway.specs.Heard.{Heeds, placeHere, sofarHere, stateHere, feeding}
+use Rattle.connection.specs.declared.Call.{Call}
+use Rattle.connection.specs.declared.Own.{Own}
 use Rattle.connection.specs.declared.Connection.{Connection}
 use Rattle.connection.specs.declared.Found.{Found}
 use Rattle.connection.specs.declared.Turn.{Turn}
@@ -286,7 +288,7 @@ side-later d in-skipped e = e
 later-side : {c : Connection} (d : Side) → (d .control ≡ 0 → c .side .control ≡ 0) → Later c (withSide c d)
 later-side d h = record { requests = omega arith; oneways = omega arith; control = h }
 
-module _ {c : Connection} {rows : List Record} (p : Paired c rows) (k : ℕ) {r : Record} (was : r ≡ at rows k) (two : UNTYPED ≤ r .kind) (call allow : ℕ) (piece : List ℕ) (a : Heard) where
+module _ {c : Connection} {rows : List Record} (p : Paired c rows) (k : ℕ) {r : Record} (was : r ≡ at rows k) (two : UNTYPED ≤ r .kind) (own : Own) (allow : ℕ) (piece : List ℕ) (a : Heard) where
   abbrev after : Connection
   after = codeKept (withSide c (a .side)) (a .number)
 
@@ -309,14 +311,14 @@ module _ {c : Connection} {rows : List Record} (p : Paired c rows) (k : ℕ) {r 
       was-one (inl e) = inl e
       was-one (inr y) = inr (sym (ap (λ x. x .kind) was) ∙ control-kind (cellsIn r) (placeHere r (sideIn c)) (sofarHere r (sideIn c)) (r .kind) (y .1))
 
-  after-one-way : Heeded r (sideIn c) call allow piece (stateHere r (sideIn c)) a → StaysOn call allow piece r (sideIn c) a → Paired after (set rows k (a .row))
+  after-one-way : Heeded r (sideIn c) own allow piece (stateHere r (sideIn c)) a → StaysOn own allow piece r (sideIn c) a → Paired after (set rows k (a .row))
   after-one-way (left.same e s) t = same-record p k (later-heard (λ z. rw s at z)) _ (e ∙ was)
   after-one-way (left.freed e s) t = free-one p k (later-heard (λ z. rw s at z)) _ e
   after-one-way (left.goes-on o x f e s) t = next-standing x f s (t o x f .0) (rw e (standing (r .id) x))
 
 -- ---- EVERY CALL KEEPS IT
 
-module _ {c : Connection} {rows : List Record} {f : Found} {call id : ℕ} (found : FoundIn call id rows f) (p : Paired c rows) where
+module _ {c : Connection} {rows : List Record} {f : Found} {call : Call} {id : ℕ} (found : FoundIn call id rows f) (p : Paired c rows) where
   unaltered-pair : {t : Turn} (n : ℕ) → t ≡ unaltered n c f → Paired (t .conn) (set rows (f .at) (t .row))
   unaltered-pair n q = rw q (same-record p (f .at) later-same (f .row) (found .row))
 
@@ -325,17 +327,17 @@ module _ {c : Connection} {rows : List Record} {f : Found} {call id : ℕ} (foun
   kept-pair (dead l n q) = unaltered-pair (c .doors .code) q
   kept-pair (opens v e q) = rw q (after-opening p id (f .at) (found .row) (freeAt (f .at)) (went (doorsIn c) id (freeAt (f .at))))
   kept-pair (not-open v n s q) = unaltered-pair 1 q
-  kept-pair {allow} {piece} (request v n l o q s) = let r = f .row in
-      rw q (after-request p (f .at) (found .row) o (requestAs call allow piece r (stateIn r)) (request-left r call allow piece (stateIn r)) (rw q at s))
-  kept-pair {allow} {piece} (one-way v n l h q s) = let r = f .row in let d = sideIn c in
-      rw q (after-one-way p (f .at) (found .row) (h .kind) call allow piece (oneWayAs call allow piece r d (stateHere r d)) (one-way-left r d call allow piece (stateHere r d)) s)
+  kept-pair {allow} {piece} (request {own} v n l o q s) = let r = f .row in
+      rw q (after-request p (f .at) (found .row) o (requestAs own allow piece r (stateIn r)) (request-left r own allow piece (stateIn r)) (rw q at s))
+  kept-pair {allow} {piece} (one-way {own} v n l h q s) = let r = f .row in let d = sideIn c in
+      rw q (after-one-way p (f .at) (found .row) (h .kind) own allow piece (oneWayAs own allow piece r d (stateHere r d)) (one-way-left r d own allow piece (stateHere r d)) s)
 
   -- A STREAM THAT IS FOUND IS OPEN: 1 is for those that are not
-  pub found-open : (call ≡ 0 → ⊥) → f .at < 24 → Open (f .row) ⊎ Heeds (f .row)
+  pub found-open : {own : Own} → call ≡ Call.On own → f .at < 24 → Open (f .row) ⊎ Heeds (f .row)
   found-open n l = by (p .known (f .at))
     where
       taken : Belongs id (at rows (f .at))
-      taken = wanted-belongs id (at rows (f .at)) call n (found .there (let e = p .long in omega arith))
+      taken = wanted-belongs id (at rows (f .at)) n (found .there (let e = p .long in omega arith))
 
       by : Known (at rows (f .at)) → Open (f .row) ⊎ Heeds (f .row)
       by (inl v) = absurd (taken .taken (ap (λ x. x .kind) v))

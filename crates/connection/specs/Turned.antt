@@ -22,6 +22,8 @@ use Rattle.oneway.specs.declared.calls.Side.{Side}
 use Rattle.oneway.specs.declared.calls.Heard.{Heard}
 use Rattle.oneway.specs.Mirror.{fresh-side}
 use Rattle.oneway.specs.Heard.{Heeds, stateHere, feeding, fedHere, Stays, givenHere, closedHere, HeardAs}
+use Rattle.connection.specs.declared.Call.{Call}
+use Rattle.connection.specs.declared.Own.{Own}
 use Rattle.connection.specs.declared.Connection.{Connection}
 use Rattle.connection.specs.declared.Report.{Report}
 use Rattle.connection.specs.declared.Found.{Found}
@@ -92,22 +94,21 @@ opensAt d f id = lets-in f id (openedOf d id (freeAt (f .at)))
 abbrev pub openedAt : Connection → Found → (id : ℕ) → Turn
 openedAt c f id = beside (c .side) (opensAt (c .doors) f id)
 
--- ---- a call on an open stream: 1 a feed, 2 a section, 3 the end, any other a reset
+-- ---- a call on an open stream
 
-unfoldable pub byCall : {A : Type 0} → (call : ℕ) → (fed given ended reset : A) → A
-byCall zero f g e r = r
-byCall (suc zero) f g e r = f
-byCall (suc (suc zero)) f g e r = g
-byCall (suc (suc (suc zero))) f g e r = e
-byCall (suc (suc (suc (suc n)))) f g e r = r
+unfoldable pub byOwn : {A : Type 0} → Own → (fed given ended reset : A) → A
+byOwn Own.Feed f g e r = f
+byOwn Own.Give f g e r = g
+byOwn Own.End f g e r = e
+byOwn Own.Reset f g e r = r
 
 -- a request's answer; of the connection it alters the code alone
-abbrev pub requestAs : (call allow : ℕ) → (piece : List ℕ) → Record → State Message → Reply
-requestAs call allow piece r s = byCall call (fedAs r allow piece s) (givenAs r piece s) (endedAs r s) (resetAs r s)
+abbrev pub requestAs : Own → (allow : ℕ) → (piece : List ℕ) → Record → State Message → Reply
+requestAs own allow piece r s = byOwn own (fedAs r allow piece s) (givenAs r piece s) (endedAs r s) (resetAs r s)
 
 -- and what it leaves, if it is accepted, is an open request or a free record
-pub record Asks (r : Record) (call allow : ℕ) (piece : List ℕ) (a : Reply) : Type 0 where
-  pub answers : Answered r (requestAs call allow piece r) a
+pub record Asks (r : Record) (own : Own) (allow : ℕ) (piece : List ℕ) (a : Reply) : Type 0 where
+  pub answers : Answered r (requestAs own allow piece r) a
   pub stays : a .number ≡ 0 → Open (a .row) ⊎ Vacant (a .row)
 
 abbrev pub replies : Doors → Reply → Near
@@ -117,16 +118,16 @@ abbrev pub replied : Connection → Reply → Turn
 replied c a = beside (c .side) (replies (c .doors) a)
 
 -- a one-way stream's answer; it alters its side of the connection, and the code
-abbrev pub oneWayAs : (call allow : ℕ) → (piece : List ℕ) → Record → Side → OneState → Heard
-oneWayAs call allow piece r d s = byCall call (fedHere r d allow piece s) (givenHere r d s) (closedHere r d s) (closedHere r d s)
+abbrev pub oneWayAs : Own → (allow : ℕ) → (piece : List ℕ) → Record → Side → OneState → Heard
+oneWayAs own allow piece r d s = byOwn own (fedHere r d allow piece s) (givenHere r d s) (closedHere r d s) (closedHere r d s)
 
 -- and what a feed leaves, if it is accepted, is an open stream in the state after
-abbrev pub StaysOn : (call allow : ℕ) → (piece : List ℕ) → Record → Side → Heard → Type 0
-StaysOn call allow piece r d a = call ≡ 1 → Stays (a .row) (a .side) (feeding d allow piece (stateHere r d))
+abbrev pub StaysOn : Own → (allow : ℕ) → (piece : List ℕ) → Record → Side → Heard → Type 0
+StaysOn own allow piece r d a = own ≡ Own.Feed → Stays (a .row) (a .side) (feeding d allow piece (stateHere r d))
 
-pub record Hears (r : Record) (d : Side) (call allow : ℕ) (piece : List ℕ) (a : Heard) : Type 0 where
-  pub answers : HeardAs r d (oneWayAs call allow piece r d) a
-  pub stays : Heeds r → StaysOn call allow piece r d a
+pub record Hears (r : Record) (d : Side) (own : Own) (allow : ℕ) (piece : List ℕ) (a : Heard) : Type 0 where
+  pub answers : HeardAs r d (oneWayAs own allow piece r d) a
+  pub stays : Heeds r → StaysOn own allow piece r d a
 
 abbrev pub overhears : Doors → Heard → Turn
 overhears d a = turn (both (codeIn d (a .number)) (a .side)) (a .row) (told (a .number) (a .event) (a .start) (a .len) (a .used) (a .heads) (a .value))
@@ -141,21 +142,21 @@ pub record Alive (d : Doors) (f : Found) : Type 0 where
   pub long : f .len ≡ 24
   pub alive : d .code ≡ 0
 
-pub data Turned (c : Connection) (f : Found) (call id allow : ℕ) (piece : List ℕ) (t : Turn) : Type 0 where
+pub data Turned (c : Connection) (f : Found) (call : Call) (id allow : ℕ) (piece : List ℕ) (t : Turn) : Type 0 where
   -- 9
   other-row : (f .len ≡ 24 → ⊥) → t ≡ unaltered 9 c f → Turned c f call id allow piece t
   -- the code of a dead connection
   dead : f .len ≡ 24 → (c .doors .code ≡ 0 → ⊥) → t ≡ unaltered (c .doors .code) c f → Turned c f call id allow piece t
   -- an opening: 2; 0x010b; 3; accepted
-  opens : Alive (c .doors) f → call ≡ 0 → t ≡ openedAt c f id → Turned c f call id allow piece t
+  opens : Alive (c .doors) f → call ≡ Call.Open → t ≡ openedAt c f id → Turned c f call id allow piece t
   -- 1
-  not-open : Alive (c .doors) f → (call ≡ 0 → ⊥) → (f .at < 24 → Open (f .row) ⊎ Heeds (f .row) → ⊥) → t ≡ unaltered 1 c f → Turned c f call id allow piece t
+  not-open : {own : Own} → Alive (c .doors) f → call ≡ Call.On own → (f .at < 24 → Open (f .row) ⊎ Heeds (f .row) → ⊥) → t ≡ unaltered 1 c f → Turned c f call id allow piece t
   -- 4 or 5; 6; protocol
-  request : Alive (c .doors) f → (call ≡ 0 → ⊥) → f .at < 24 → Open (f .row) → t ≡ replied c (requestAs call allow piece (f .row) (stateIn (f .row)))
+  request : {own : Own} → Alive (c .doors) f → call ≡ Call.On own → f .at < 24 → Open (f .row) → t ≡ replied c (requestAs own allow piece (f .row) (stateIn (f .row)))
       → (t .report .number ≡ 0 → Open (t .row) ⊎ Vacant (t .row)) → Turned c f call id allow piece t
   -- 5; protocol
-  one-way : Alive (c .doors) f → (call ≡ 0 → ⊥) → f .at < 24 → Heeds (f .row) → t ≡ overheard c (oneWayAs call allow piece (f .row) (sideIn c) (stateHere (f .row) (sideIn c)))
-      → StaysOn call allow piece (f .row) (sideIn c) (oneWayAs call allow piece (f .row) (sideIn c) (stateHere (f .row) (sideIn c))) → Turned c f call id allow piece t
+  one-way : {own : Own} → Alive (c .doors) f → call ≡ Call.On own → f .at < 24 → Heeds (f .row) → t ≡ overheard c (oneWayAs own allow piece (f .row) (sideIn c) (stateHere (f .row) (sideIn c)))
+      → StaysOn own allow piece (f .row) (sideIn c) (oneWayAs own allow piece (f .row) (sideIn c) (stateHere (f .row) (sideIn c))) → Turned c f call id allow piece t
 
 -- ---- start
 

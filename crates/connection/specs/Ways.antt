@@ -29,7 +29,9 @@ use Rattle.connection.specs.Goaway.{Sends}
 use Rattle.oneway.specs.declared.calls.Side.{Side}
 use Rattle.oneway.specs.declared.calls.Heard.{Heard}
 use Rattle.oneway.specs.Heard as side
-use Rattle.oneway.specs.Heard.{Heeds, HeardAs, FedAs, stateHere, givenHere, closedHere}
+use Rattle.oneway.specs.Heard.{Heeds, HeardAs, FedAs, givenHere, closedHere}
+use Rattle.connection.specs.declared.Call.{Call}
+use Rattle.connection.specs.declared.Own.{Own}
 use Rattle.connection.specs.declared.Connection.{Connection}
 use Rattle.connection.specs.declared.Report.{Report}
 use Rattle.connection.specs.declared.Found.{Found}
@@ -37,7 +39,7 @@ use Rattle.connection.specs.declared.Turn.{Turn}
 use Rattle.connection.specs.Whose.{Vacant}
 use Rattle.connection.specs.Halves.{stream-id, doorsIn, sideIn}
 use Rattle.connection.specs.Faults.{kept-small}
-use Rattle.connection.specs.Turned.{fresh-connection, numbered, turn, near, unaltered, firstAs, firstRecord, takenBy, freeAt, lets-in, let-in, opensAt, openedAt, byCall, requestAs, Asks, replied, oneWayAs, Hears, overheard, Alive, Turned, not-open, request, one-way, begunOf, sweptOf, goneBy, GoesAway}
+use Rattle.connection.specs.Turned.{fresh-connection, numbered, turn, near, unaltered, firstAs, firstRecord, takenBy, freeAt, lets-in, let-in, opensAt, openedAt, byOwn, requestAs, Asks, replied, oneWayAs, Hears, overheard, Alive, Turned, not-open, request, one-way, begunOf, sweptOf, goneBy, GoesAway}
 
 -- ---- start
 
@@ -110,55 +112,22 @@ module _ (c : Connection) (f : Found) (id : ℕ) where
 
 -- ---- a call on an open stream
 
-module _ {A : Type 0} (f g e r : A) where
-  pub by-feed : (call : ℕ) → call ≡ 1 → f ≡ byCall call f g e r
-  unfolding byCall
-  by-feed call q = rw q refl
-
-  pub by-give : (call : ℕ) → call ≡ 2 → g ≡ byCall call f g e r
-  unfolding byCall
-  by-give call q = rw q refl
-
-  pub by-end : (call : ℕ) → call ≡ 3 → e ≡ byCall call f g e r
-  unfolding byCall
-  by-end call q = rw q refl
-
-  pub by-reset : (call : ℕ) → (call ≡ 1 → ⊥) → (call ≡ 2 → ⊥) → (call ≡ 3 → ⊥) → r ≡ byCall call f g e r
-  unfolding byCall
-  by-reset zero x y z = refl
-  by-reset (suc zero) x y z = absurd (x refl)
-  by-reset (suc (suc zero)) x y z = absurd (y refl)
-  by-reset (suc (suc (suc zero))) x y z = absurd (z refl)
-  by-reset (suc (suc (suc (suc n)))) x y z = refl
-
--- where the end and a reset are alike
-module _ {A : Type 0} (f g r : A) where
-  pub by-close : (call : ℕ) → (call ≡ 1 → ⊥) → (call ≡ 2 → ⊥) → r ≡ byCall call f g r r
-  unfolding byCall
-  by-close zero x y = refl
-  by-close (suc zero) x y = absurd (x refl)
-  by-close (suc (suc zero)) x y = absurd (y refl)
-  by-close (suc (suc (suc zero))) x y = refl
-  by-close (suc (suc (suc (suc n)))) x y = refl
-
-module _ (r : Record) (call allow : ℕ) (piece : List ℕ) {a : Reply} where
-  answered-as : {want : State Message → Reply} → want (stateIn r) ≡ requestAs call allow piece r (stateIn r) → Answered r want a → Answered r (requestAs call allow piece r) a
-  answered-as e (shut n q) = shut n q
-  answered-as e (opened o q) = opened o (q ∙ e)
-
+module _ (r : Record) (allow : ℕ) (piece : List ℕ) {own : Own} {a : Reply} where
   -- accepted, it is still open
-  keeps-on : {want : State Message → Reply} → want (stateIn r) ≡ requestAs call allow piece r (stateIn r) → Keeps r want a → Asks r call allow piece a
-  keeps-on e k = record { answers = answered-as e (k .answers); stays = λ z. inl (k .stays z) }
+  keeps-on : {want : State Message → Reply} → requestAs own allow piece r ≡ want → Keeps r want a → Asks r own allow piece a
+  keeps-on e k = record { answers = rw e (k .answers); stays = λ z. inl (k .stays z) }
 
-  pub asks-feed : call ≡ 1 → Keeps r (fedAs r allow piece) a → Asks r call allow piece a
-  asks-feed e = keeps-on (by-feed _ _ _ _ call e)
+  pub asks-feed : own ≡ Own.Feed → Keeps r (fedAs r allow piece) a → Asks r own allow piece a
+  unfolding byOwn
+  asks-feed e = keeps-on (rw e refl)
 
-  pub asks-give : call ≡ 2 → Keeps r (givenAs r piece) a → Asks r call allow piece a
-  asks-give e = keeps-on (by-give _ _ _ _ call e)
+  pub asks-give : own ≡ Own.Give → Keeps r (givenAs r piece) a → Asks r own allow piece a
+  unfolding byOwn
+  asks-give e = keeps-on (rw e refl)
 
-  pub asks-end : call ≡ 3 → Answered r (endedAs r) a → Asks r call allow piece a
-  unfolding endedBy frees freedIf numberOf answers namedIn answer-named houseLeaves leaves
-  asks-end e x = record { answers = answered-as (by-end _ _ _ _ call e) x; stays = left x }
+  pub asks-end : own ≡ Own.End → Answered r (endedAs r) a → Asks r own allow piece a
+  unfolding byOwn endedBy frees freedIf numberOf answers namedIn answer-named houseLeaves leaves
+  asks-end e x = rw e (record { answers = x; stays = left x })
     where
       whole-free : Open r → (v : Verdict) → endedBy r v .number ≡ 0 → Open (endedBy r v .row) ⊎ Vacant (endedBy r v .row)
       whole-free o whole z = inr refl
@@ -169,54 +138,63 @@ module _ (r : Record) (call allow : ℕ) (piece : List ℕ) {a : Reply} where
       left (shut n q) z = let y : a .number ≡ 1 = ap (λ x. x .number) q in absurd (omega arith)
       left (opened o q) z = rw q (whole-free o (finish (rules.request document) 0 (stateIn r)) (rw q at z))
 
-  pub asks-reset : (call ≡ 1 → ⊥) → (call ≡ 2 → ⊥) → (call ≡ 3 → ⊥) → Answered r (resetAs r) a → Asks r call allow piece a
-  asks-reset x y z w = record { answers = answered-as (by-reset _ _ _ _ call x y z) w; stays = left w }
+  pub asks-reset : own ≡ Own.Reset → Answered r (resetAs r) a → Asks r own allow piece a
+  unfolding byOwn
+  asks-reset e x = rw e (record { answers = x; stays = left x })
     where
       left : Answered r (resetAs r) a → a .number ≡ 0 → Open (a .row) ⊎ Vacant (a .row)
       left (shut n q) z = let y : a .number ≡ 1 = ap (λ x. x .number) q in absurd (omega arith)
       left (opened o q) z = inr (ap (λ x. x .row) q)
 
-module _ (r : Record) (d : Side) (call allow : ℕ) (piece : List ℕ) {a : Heard} where
-  heard-as : {want : OneState → Heard} → want (stateHere r d) ≡ oneWayAs call allow piece r d (stateHere r d) → HeardAs r d want a → HeardAs r d (oneWayAs call allow piece r d) a
-  heard-as e (side.shut n q) = side.shut n q
-  heard-as e (side.opened o q) = side.opened o (q ∙ e)
+module _ (r : Record) (d : Side) (allow : ℕ) (piece : List ℕ) {own : Own} {a : Heard} where
+  pub hears-feed : own ≡ Own.Feed → FedAs r d allow piece a → Hears r d own allow piece a
+  unfolding byOwn
+  hears-feed e x = rw e (record { answers = x .answers; stays = λ h z. x .stays h })
 
-  pub hears-feed : call ≡ 1 → FedAs r d allow piece a → Hears r d call allow piece a
-  hears-feed e x = record { answers = heard-as (by-feed _ _ _ _ call e) (x .answers); stays = λ h z. x .stays h }
+  -- no feed
+  hears-other : {want : OneState → Heard} → oneWayAs own allow piece r d ≡ want → byOwn {A = ℕ} own 1 0 0 0 ≡ 0 → HeardAs r d want a → Hears r d own allow piece a
+  unfolding byOwn
+  hears-other e n x = record { answers = rw e x; stays = λ h z. (let y : _≡_ {A = ℕ} 1 0 = rw z at n in absurd (omega arith)) }
 
-  pub hears-give : call ≡ 2 → HeardAs r d (givenHere r d) a → Hears r d call allow piece a
-  hears-give e x = record { answers = heard-as (by-give _ _ _ _ call e) x; stays = λ h z. absurd (omega arith) }
+  pub hears-give : own ≡ Own.Give → HeardAs r d (givenHere r d) a → Hears r d own allow piece a
+  unfolding byOwn
+  hears-give e = hears-other (rw e refl) (rw e refl)
 
-  pub hears-close : (call ≡ 1 → ⊥) → (call ≡ 2 → ⊥) → HeardAs r d (closedHere r d) a → Hears r d call allow piece a
-  hears-close n m x = record { answers = heard-as (by-close _ _ _ call n m) x; stays = λ h z. absurd (n z) }
+  pub hears-end : own ≡ Own.End → HeardAs r d (closedHere r d) a → Hears r d own allow piece a
+  unfolding byOwn
+  hears-end e = hears-other (rw e refl) (rw e refl)
 
-module _ {c : Connection} {f : Found} {call : ℕ} (id allow : ℕ) {piece : List ℕ} {t : Turn} (live : Alive (c .doors) f) (n : call ≡ 0 → ⊥) where
+  pub hears-reset : own ≡ Own.Reset → HeardAs r d (closedHere r d) a → Hears r d own allow piece a
+  unfolding byOwn
+  hears-reset e = hears-other (rw e refl) (rw e refl)
+
+module _ {c : Connection} {f : Found} {call : Call} {own : Own} (id allow : ℕ) {piece : List ℕ} {t : Turn} (live : Alive (c .doors) f) (n : call ≡ Call.On own) where
   pub past-row : 24 ≤ f .at → t ≡ unaltered 1 c f → Turned c f call id allow piece t
   past-row l q = not-open live n (λ w x. absurd (omega arith)) q
 
   module _ (w : f .at < 24) where
-    pub on-request : {a : Reply} → f .row .kind ≡ REQUEST → Asks (f .row) call allow piece a → t ≡ replied c a → Turned c f call id allow piece t
+    pub on-request : {a : Reply} → f .row .kind ≡ REQUEST → Asks (f .row) own allow piece a → t ≡ replied c a → Turned c f call id allow piece t
     on-request {a} k m q = by (m .answers)
       where
         none : (Open (f .row) → ⊥) → f .at < 24 → Open (f .row) ⊎ Heeds (f .row) → ⊥
         none s x (inl o) = s o
         none s x (inr h) = let z = h .kind in omega arith
 
-        by : Answered (f .row) (requestAs call allow piece (f .row)) a → Turned c f call id allow piece t
+        by : Answered (f .row) (requestAs own allow piece (f .row)) a → Turned c f call id allow piece t
         by (shut s e) = not-open live n (none s) (q ∙ ap (replied c) e ∙ ap (λ x. turn x (f .row) (numbered 1)) (sym (kept-small c 1 (omega arith))))
         by (opened o e) = request live n w o (q ∙ ap (replied c) e) (rw q (m .stays))
 
-    pub on-one-way : {d : Side} {a : Heard} → (f .row .kind ≡ REQUEST → ⊥) → d ≡ sideIn c → Hears (f .row) d call allow piece a → t ≡ overheard c a → Turned c f call id allow piece t
+    pub on-one-way : {d : Side} {a : Heard} → (f .row .kind ≡ REQUEST → ⊥) → d ≡ sideIn c → Hears (f .row) d own allow piece a → t ≡ overheard c a → Turned c f call id allow piece t
     on-one-way {d} {a} k e h q = by (rw e at h)
       where
         none : (Heeds (f .row) → ⊥) → f .at < 24 → Open (f .row) ⊎ Heeds (f .row) → ⊥
         none s x (inl o) = k (o .kind)
         none s x (inr h) = s h
 
-        by : Hears (f .row) (sideIn c) call allow piece a → Turned c f call id allow piece t
+        by : Hears (f .row) (sideIn c) own allow piece a → Turned c f call id allow piece t
         by m = go (m .answers)
           where
-            go : HeardAs (f .row) (sideIn c) (oneWayAs call allow piece (f .row) (sideIn c)) a → Turned c f call id allow piece t
+            go : HeardAs (f .row) (sideIn c) (oneWayAs own allow piece (f .row) (sideIn c)) a → Turned c f call id allow piece t
             go (side.shut s x) = not-open live n (none s) (q ∙ ap (overheard c) x ∙ ap (λ x. turn x (f .row) (numbered 1)) (sym (kept-small c 1 (omega arith))))
             go (side.opened o x) = one-way live n w o (q ∙ ap (overheard c) x) (rw x at (m .stays o))
 

@@ -1,6 +1,6 @@
 -- Which record of the row a call is about, and what a search of the row finds. Assumes nothing.
-use mathlib.Core.Path.{_≡_, refl, sym, ap, _∙_}
-use Prim.Native.Nat.{ℕ, zero, suc, _≤_, _<_}
+use mathlib.Core.Path.{_≡_, sym, ap, _∙_}
+use Prim.Native.Nat.{ℕ, _≤_, _<_}
 use native.Mathlib.Decide.{decLt}
 use native.Mathlib.Omega.{arith}
 use mathlib.Core.List.{List}
@@ -11,6 +11,8 @@ use Rattle.record.specs.declared.Record.{Record}
 use Rattle.record.specs.Row.{free-record}
 use Rattle.record.specs.Sound.{Decides}
 use Rattle.record.specs.Tests.{accepts, refuses}
+use Rattle.connection.specs.declared.Call.{Call}
+use Rattle.connection.specs.declared.Own.{Own}
 use Rattle.connection.specs.declared.Found.{Found}
 
 -- A RECORD THAT MAY BE TAKEN: free
@@ -22,13 +24,19 @@ pub record Belongs (id : ℕ) (r : Record) : Type 0 where
   pub taken : r .kind ≡ FREE → ⊥
   pub own : r .id ≡ id
 
--- THE RECORD THAT IS WANTED: of an opening (call 0) one that may be taken, of any other call the stream's own
-unfoldable pub Wanted : (call id : ℕ) → Record → Type 0
-Wanted zero id r = Vacant r
-Wanted (suc call) id r = Belongs id r
+-- THE RECORD THAT IS WANTED: of an opening one that may be taken, of a call on a stream the stream's own
+unfoldable pub Wanted : Call → (id : ℕ) → Record → Type 0
+Wanted Call.Open id r = Vacant r
+Wanted (Call.On own) id r = Belongs id r
+
+pub open-not-on : {call : Call} {own : Own} → call ≡ Call.Open → call ≡ Call.On own → ⊥
+open-not-on e on = let z : _≡_ {A = ℕ} 0 1 = cc in omega arith
+
+pub one-own : {call : Call} {own also : Own} → call ≡ Call.On own → call ≡ Call.On also → own ≡ also
+one-own e f = cc
 
 -- WHAT A SEARCH FINDS: the first record that is wanted
-pub record FoundIn (call id : ℕ) (rows : List Record) (f : Found) : Type 0 where
+pub record FoundIn (call : Call) (id : ℕ) (rows : List Record) (f : Found) : Type 0 where
   pub long : f .len ≡ length rows
   pub within : f .at ≤ length rows
   pub before : (j : ℕ) → j < f .at → Wanted call id (getD rows j free-record) → ⊥
@@ -40,7 +48,7 @@ pub record FoundIn (call id : ℕ) (rows : List Record) (f : Found) : Type 0 whe
 abbrev found : (len at : ℕ) → Record → Found
 found len at r = record { len = len; at = at; row = r }
 
-module _ {call id : ℕ} {rows : List Record} where
+module _ {call : Call} {id : ℕ} {rows : List Record} where
   no-earlier : {f g : Found} → FoundIn call id rows f → FoundIn call id rows g → f .at < g .at → ⊥
   no-earlier {f} {g} x y l = let w = y .within in y .before (f .at) l (x .there (omega arith))
 
@@ -56,28 +64,25 @@ module _ {call id : ℕ} {rows : List Record} where
 
 -- ---- laws of the test: a law for each way out
 
-module _ (id : ℕ) (r : Record) where
-  pub wanted-vacant : {b : Bool} (call : ℕ) → call ≡ 0 → Decides (r ≡ free-record) b → Decides (Wanted call id r) b
+module _ (id : ℕ) (r : Record) {call : Call} where
+  pub wanted-vacant : {b : Bool} → call ≡ Call.Open → Decides (r ≡ free-record) b → Decides (Wanted call id r) b
   unfolding Wanted
-  wanted-vacant zero e d = d
-  wanted-vacant (suc call) e d = absurd (omega arith)
+  wanted-vacant e d = rw e d
 
-  pub belongs-wanted : (call : ℕ) → (call ≡ 0 → ⊥) → Belongs id r → Wanted call id r
-  unfolding Wanted
-  belongs-wanted zero n w = absurd (n refl)
-  belongs-wanted (suc call) n w = w
+  module _ {own : Own} (on : call ≡ Call.On own) where
+    pub belongs-wanted : Belongs id r → Wanted call id r
+    unfolding Wanted
+    belongs-wanted w = rw on w
 
-  pub wanted-belongs : (call : ℕ) → (call ≡ 0 → ⊥) → Wanted call id r → Belongs id r
-  unfolding Wanted
-  wanted-belongs zero n w = absurd (n refl)
-  wanted-belongs (suc call) n w = w
+    pub wanted-belongs : Wanted call id r → Belongs id r
+    unfolding Wanted
+    wanted-belongs w = rw on at w
 
-  module _ (call : ℕ) (n : call ≡ 0 → ⊥) where
     pub wanted-own : (r .kind ≡ FREE → ⊥) → r .id ≡ id → Decides (Wanted call id r) Bool.true
-    wanted-own k e = accepts (belongs-wanted call n (record { taken = k; own = e }))
+    wanted-own k e = accepts (belongs-wanted (record { taken = k; own = e }))
 
     pub wanted-free : r .kind ≡ FREE → Decides (Wanted call id r) Bool.false
-    wanted-free k = refuses (λ w. wanted-belongs call n w .taken k)
+    wanted-free k = refuses (λ w. wanted-belongs w .taken k)
 
     pub wanted-other : (r .id ≡ id → ⊥) → Decides (Wanted call id r) Bool.false
-    wanted-other k = refuses (λ w. k (wanted-belongs call n w .own))
+    wanted-other k = refuses (λ w. k (wanted-belongs w .own))

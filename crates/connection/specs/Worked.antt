@@ -26,12 +26,15 @@ use Rattle.oneway.specs.Types.{came, typesOf}
 use Rattle.oneway.specs.Closed.{closes}
 use Rattle.oneway.specs.Mirror.{sofarIn, keptNumbers, sideAfter}
 use Rattle.oneway.specs.Heard as heard
+use Rattle.connection.specs.declared.Call.{Call}
+use Rattle.connection.specs.declared.Own.{Own}
+use Rattle.connection.specs.declared.Own.the-variants.{Feed, Give, End, Reset}
 use Rattle.connection.specs.declared.Connection.{Connection}
 use Rattle.connection.specs.declared.Found.{Found}
 use Rattle.connection.specs.declared.Turn.{Turn}
 use Rattle.connection.specs.Halves.{stream-id, doorsIn, withDoors, sideIn, withSide}
 use Rattle.connection.specs.Faults.{keeps, keptIf, withCode}
-use Rattle.connection.specs.Turned.{fresh-connection, told, numbered, turn, firstAs, takenBy, freeAt, openedAt, byCall, requestAs, replied, oneWayAs, overheard, Turned, other-row, dead, begunOf, sweptOf, goneBy}
+use Rattle.connection.specs.Turned.{fresh-connection, told, numbered, turn, firstAs, takenBy, freeAt, openedAt, byOwn, requestAs, replied, oneWayAs, overheard, Turned, other-row, dead, begunOf, sweptOf, goneBy}
 
 pub record Row : Type 0 where
   pub asked : Turn
@@ -58,11 +61,11 @@ none-free = record { len = 24; at = 24; row = free-record }
 
 -- ---- calls
 
-abbrev asks : State Message → (call allow : ℕ) → List ℕ → Turn
-asks s call allow piece = replied fresh-connection (requestAs call allow piece (requestRecord 0 s) s)
+abbrev asks : State Message → Own → (allow : ℕ) → List ℕ → Turn
+asks s own allow piece = replied fresh-connection (requestAs own allow piece (requestRecord 0 s) s)
 
-abbrev hears : Connection → OneState → (call allow : ℕ) → List ℕ → Turn
-hears c s call allow piece = overheard c (oneWayAs call allow piece (oneWayRecord 2 s) (sideIn c) s)
+abbrev hears : Connection → OneState → Own → (allow : ℕ) → List ℕ → Turn
+hears c s own allow piece = overheard c (oneWayAs own allow piece (oneWayRecord 2 s) (sideIn c) s)
 
 abbrev at : State Message → Record
 at s = requestRecord 0 s
@@ -89,17 +92,17 @@ rows =
     ∷ row (openedAt fresh-connection none-free 0) (turn fresh-connection free-record (numbered 3))  -- spends an ID that has no record
     ∷ row (openedAt (gone 0 0) none-free 0) (turn (gone 4 0) free-record (numbered REQUEST-REJECTED))  -- gives 3 before barred, or leaves a barred ID unspent
     ∷ row (openedAt (gone 0 0) first 2) (turn (withDoors (gone 0 0) (record { code = 0; requests = 0; oneways = 6; goaways = 1; goaway = stream-id 0 })) (of (in-stream-type fresh)) (numbered 0))  -- bars one-way streams
-    ∷ row (asks (between opening) 1 1 (0x00 ∷ 0x00 ∷ [])) (turn (withCode FRAME-UNEXPECTED fresh-connection) (at (between opening)) (told FRAME-UNEXPECTED 0 0 0 2 1 0))  -- loses the code of a fault, or frees the record
-    ∷ row (asks (between opening) 3 0 []) (turn fresh-connection free-record (numbered REQUEST-INCOMPLETE))  -- keeps the code of a stream fault
-    ∷ row (asks (between opening) 2 0 []) (turn fresh-connection (at (between opening)) (numbered 5))  -- swaps 4 and 5
-    ∷ row (asks (due header-section opening) 1 1 (0x00 ∷ [])) (turn fresh-connection (at (due header-section opening)) (numbered 4))  -- reads on while a section is due
-    ∷ row (asks (due header-section opening) 4 0 []) (turn fresh-connection free-record (told 0 12 0 0 0 0 0))  -- gives 4 to a reset
-    ∷ row (hears fresh-connection (in-stream-type fresh) 1 0 (0x00 ∷ [])) (turn (seen 1 0 0) (of (in-control (between unset))) (told 0 0 0 0 1 0 0))  -- forgets that a control stream came
-    ∷ row (hears (seen 1 0 0) (in-stream-type fresh) 1 0 (0x00 ∷ [])) (turn (withCode STREAM-CREATION-ERROR (seen 1 0 0)) (of (in-stream-type fresh)) (told STREAM-CREATION-ERROR 0 0 0 1 0 0))  -- lets a second one in
-    ∷ row (hears fresh-connection (in-stream-type fresh) 1 0 (0x02 ∷ 0x61 ∷ [])) (turn (seen 0 1 0) (of (in-qpack encoder)) (told 0 7 1 1 2 0 2))  -- tells a part without its type
-    ∷ row (hears fresh-connection (in-stream-type fresh) 2 0 []) (turn fresh-connection (of (in-stream-type fresh)) (numbered 5))  -- gives 4 on a one-way stream
-    ∷ row (hears (seen 1 0 0) (in-control (between unset)) 3 0 []) (turn (withCode CLOSED-CRITICAL-STREAM (seen 1 0 0)) (of (in-control (between unset))) (numbered CLOSED-CRITICAL-STREAM))  -- lets a control stream end
-    ∷ row (hears fresh-connection (in-stream-type fresh) 4 0 []) (turn fresh-connection free-record (told 0 12 0 0 0 0 0))  -- finds fault with a stream before its type
+    ∷ row (asks (between opening) Feed 1 (0x00 ∷ 0x00 ∷ [])) (turn (withCode FRAME-UNEXPECTED fresh-connection) (at (between opening)) (told FRAME-UNEXPECTED 0 0 0 2 1 0))  -- loses the code of a fault, or frees the record
+    ∷ row (asks (between opening) End 0 []) (turn fresh-connection free-record (numbered REQUEST-INCOMPLETE))  -- keeps the code of a stream fault
+    ∷ row (asks (between opening) Give 0 []) (turn fresh-connection (at (between opening)) (numbered 5))  -- swaps 4 and 5
+    ∷ row (asks (due header-section opening) Feed 1 (0x00 ∷ [])) (turn fresh-connection (at (due header-section opening)) (numbered 4))  -- reads on while a section is due
+    ∷ row (asks (due header-section opening) Reset 0 []) (turn fresh-connection free-record (told 0 12 0 0 0 0 0))  -- gives 4 to a reset
+    ∷ row (hears fresh-connection (in-stream-type fresh) Feed 0 (0x00 ∷ [])) (turn (seen 1 0 0) (of (in-control (between unset))) (told 0 0 0 0 1 0 0))  -- forgets that a control stream came
+    ∷ row (hears (seen 1 0 0) (in-stream-type fresh) Feed 0 (0x00 ∷ [])) (turn (withCode STREAM-CREATION-ERROR (seen 1 0 0)) (of (in-stream-type fresh)) (told STREAM-CREATION-ERROR 0 0 0 1 0 0))  -- lets a second one in
+    ∷ row (hears fresh-connection (in-stream-type fresh) Feed 0 (0x02 ∷ 0x61 ∷ [])) (turn (seen 0 1 0) (of (in-qpack encoder)) (told 0 7 1 1 2 0 2))  -- tells a part without its type
+    ∷ row (hears fresh-connection (in-stream-type fresh) Give 0 []) (turn fresh-connection (of (in-stream-type fresh)) (numbered 5))  -- gives 4 on a one-way stream
+    ∷ row (hears (seen 1 0 0) (in-control (between unset)) End 0 []) (turn (withCode CLOSED-CRITICAL-STREAM (seen 1 0 0)) (of (in-control (between unset))) (numbered CLOSED-CRITICAL-STREAM))  -- lets a control stream end
+    ∷ row (hears fresh-connection (in-stream-type fresh) Reset 0 []) (turn fresh-connection free-record (told 0 12 0 0 0 0 0))  -- finds fault with a stream before its type
     ∷ row (starts (withCode FRAME-UNEXPECTED (next 8 6)) 24 (at (between opening))) (turn fresh-connection free-record (numbered 0))  -- leaves a dead connection dead
     ∷ row (starts (withCode FRAME-UNEXPECTED (next 8 6)) 23 (at (between opening))) (turn (withCode FRAME-UNEXPECTED (next 8 6)) (at (between opening)) (numbered 9))  -- starts on another row
     ∷ row (goes (gone 0 8) 4 3) (turn (gone 0 4) free-record (told 0 0 0 0 3 0 0))  -- does not lower its bar
@@ -108,15 +111,15 @@ rows =
     ∷ []
 
 pub worked : map (λ (r : Row). r .asked) rows ≡ map (λ (r : Row). r .says) rows
-unfolding rows oneWayRecord isOneOf lookup extra ended carries tally ends column kindOf codeOf data-rule ruleFor rule end-of once typeRule numberOf answers namedIn answer-named houseLeaves leaves after fed typed finish halt also onward over-event behind-header feed one.controlled one.of-control one.halt one.also one.qpack-feed one.kind-feed one.typed-feed one.type-feed one.feed placeIn frees freedIf saidBy unlessDue endedBy doors.barredAt doors.admittedAs doors.requestOf doors.oneWayOf doors.kindOf doors.aliveOf sentAs sendingOf writeOf writer.into writer.both writer.header-bytes writer.integer-frame writer.isHigher writer.badGoaway writer.write-integer-frame writer.write-goaway integers.rows integers.low integers.inRow integers.inFirst integers.written integers.largest came typesOf closes sofarIn keptNumbers sideAfter heard.saidBy heard.frameEvent heard.frameValue heard.typeNumber heard.closedBy keeps keptIf firstAs takenBy freeAt byCall begunOf sweptOf
+unfolding rows oneWayRecord isOneOf lookup extra ended carries tally ends column kindOf codeOf data-rule ruleFor rule end-of once typeRule numberOf answers namedIn answer-named houseLeaves leaves after fed typed finish halt also onward over-event behind-header feed one.controlled one.of-control one.halt one.also one.qpack-feed one.kind-feed one.typed-feed one.type-feed one.feed placeIn frees freedIf saidBy unlessDue endedBy doors.barredAt doors.admittedAs doors.requestOf doors.oneWayOf doors.kindOf doors.aliveOf sentAs sendingOf writeOf writer.into writer.both writer.header-bytes writer.integer-frame writer.isHigher writer.badGoaway writer.write-integer-frame writer.write-goaway integers.rows integers.low integers.inRow integers.inFirst integers.written integers.largest came typesOf closes sofarIn keptNumbers sideAfter heard.saidBy heard.frameEvent heard.frameValue heard.typeNumber heard.closedBy keeps keptIf firstAs takenBy freeAt byOwn begunOf sweptOf
 worked = refl
 
 -- 9 before the code of a dead connection; that code before all else
 abbrev fallen : Connection
 fallen = withCode FRAME-UNEXPECTED fresh-connection
 
-pub nine-first : (call : ℕ) → Turned fallen (record { len = 23; at = 0; row = free-record }) call 0 0 [] (turn fallen free-record (numbered 9))
+pub nine-first : (call : Call) → Turned fallen (record { len = 23; at = 0; row = free-record }) call 0 0 [] (turn fallen free-record (numbered 9))
 nine-first call = other-row (λ e. omega arith) refl
 
-pub dead-next : (call : ℕ) → Turned fallen first call 0 0 [] (turn fallen free-record (numbered FRAME-UNEXPECTED))
+pub dead-next : (call : Call) → Turned fallen first call 0 0 [] (turn fallen free-record (numbered FRAME-UNEXPECTED))
 dead-next call = dead refl (λ e. omega arith) refl

@@ -14,9 +14,23 @@ ghost use Rattle.connection.specs.Whose.{Wanted};
 ghost use Rattle.record.specs.Row.{recordAt, no-cells};
 ghost use Rattle.rules.specs.Numbers.{leaves, named};
 ghost use Rattle.connection.specs.Faults.{keeps, codeIn};
-ghost use Rattle.connection.specs.Turned.{fresh-connection, numbered, stays, firstRecord, takenBy, freeAt, opensAt, Asks, replies, Hears, overhears, Turned, begunOf, sweptOf, GoesAway};
+ghost use Rattle.connection.specs.Turned.{fresh-connection, numbered, stays, firstRecord, takenBy, freeAt, opensAt, Asks, replies, beside, Hears, overhears, Turned, begunOf, sweptOf, GoesAway};
 ghost use Rattle.connection.specs.Nearly.{Nearly};
 ghost use Rattle.connection.specs.Briefly.{Briefly};
+
+// A call on one stream: an opening, or a call on a stream that was opened.
+pub enum Call {
+    Open,
+    On(Own),
+}
+
+// Give: a section is given to it.
+pub enum Own {
+    Feed,
+    Give,
+    End,
+    Reset,
+}
 
 // What a host lends for a connection: integers alone, and each value means something. doors: what every call looks at. side: what only a one-way
 // stream's call does. A code, a flag or a count that no start of ours left has a meaning too (docs/DECISIONS.md, N14).
@@ -147,20 +161,22 @@ fn code_kept(d: Doors, number: u64) -> Doors
 
 // ---- the row
 
-// The record that a call is about: of an opening (call 0) a free one, of any other call the stream's own.
-pub fn wanted(call: u64, id: u64, r: Record) -> bool
+// The record that a call is about: of an opening a free one, of a call on a stream the stream's own.
+pub fn wanted(call: Call, id: u64, r: Record) -> bool
     ensures { λ b. ⌜ Decides (Wanted call id r) b ⌝ }
 {
-    if call == rules::OPEN {
-        return record::is_free(r);
-    }
-    if r.id != id {
-        return false;
-    }
-    if r.kind == record::FREE_KIND {
-        false
-    } else {
-        true
+    match call {
+        Call::Open => record::is_free(r),
+        Call::On(_) => {
+            if r.id != id {
+                return false;
+            }
+            if r.kind == record::FREE_KIND {
+                false
+            } else {
+                true
+            }
+        }
     }
 }
 
@@ -228,19 +244,15 @@ fn open_stream(d: Doors, f: Found, id: StreamId) -> Near
 // ---- a call on an open stream
 
 // What a request answers, and what that makes of doors and record: a connection fault's code is kept.
-fn ask(r: Record, call: u64, allow: u64, piece: &[u8]) -> Reply
-    ensures { λ a. ⌜ Asks r call allow (now (piece .entry)) a ⌝ }
+fn ask(r: Record, own: Own, allow: u64, piece: &[u8]) -> Reply
+    ensures { λ a. ⌜ Asks r own allow (now (piece .entry)) a ⌝ }
 {
-    if call == rules::FEED {
-        return requests::feed(r, piece, allow);
+    match own {
+        Own::Feed => requests::feed(r, piece, allow),
+        Own::Give => requests::give(r, piece),
+        Own::End => requests::end(r),
+        Own::Reset => requests::reset(r),
     }
-    if call == rules::GIVE {
-        return requests::give(r, piece);
-    }
-    if call == rules::END {
-        return requests::end(r);
-    }
-    requests::reset(r)
 }
 
 fn reply_turn(d: Doors, a: Reply) -> Near
@@ -264,16 +276,15 @@ fn reply_turn(d: Doors, a: Reply) -> Near
 }
 
 // What a one-way stream answers, and what that makes of both: it alters its side of the connection too.
-fn heed(r: Record, d: Side, call: u64, allow: u64, piece: &[u8]) -> Heard
-    ensures { λ a. ⌜ Hears r d call allow (now (piece .entry)) a ⌝ }
+fn heed(r: Record, d: Side, own: Own, allow: u64, piece: &[u8]) -> Heard
+    ensures { λ a. ⌜ Hears r d own allow (now (piece .entry)) a ⌝ }
 {
-    if call == rules::FEED {
-        return oneway::calls::feed(r, d, piece, allow);
+    match own {
+        Own::Feed => oneway::calls::feed(r, d, piece, allow),
+        Own::Give => oneway::calls::give(r, d),
+        Own::End => oneway::calls::close(r, d),
+        Own::Reset => oneway::calls::close(r, d),
     }
-    if call == rules::GIVE {
-        return oneway::calls::give(r, d);
-    }
-    oneway::calls::close(r, d)
 }
 
 fn heard_turn(d: Doors, a: Heard) -> Turn
@@ -299,8 +310,8 @@ fn heard_turn(d: Doors, a: Heard) -> Turn
     }
 }
 
-// A call on one stream, as far as the doors decide it. call 0: open, 1: feed, 2: give a section, 3: end, any other: reset.
-pub fn answer(d: Doors, f: Found, call: u64, id: u64, allow: u64, piece: &[u8]) -> Near
+// A call on one stream, as far as the doors decide it.
+pub fn answer(d: Doors, f: Found, call: Call, id: u64, allow: u64, piece: &[u8]) -> Near
     ensures { λ r. ⌜ Nearly d f call id allow (now (piece .entry)) r ⌝ }
 {
     if f.len != 24 {
@@ -309,43 +320,56 @@ pub fn answer(d: Doors, f: Found, call: u64, id: u64, allow: u64, piece: &[u8]) 
     if d.code != 0 {
         return refused(d.code, d, f);
     }
-    if call == rules::OPEN {
-        return open_stream(d, f, StreamId(id));
+    match call {
+        Call::Open => open_stream(d, f, StreamId(id)),
+        Call::On(own) => {
+            if 24 <= f.at {
+                return refused(rules::NOT_OPEN, d, f);
+            }
+            let row = f.row;
+            // 1 to a record that is not an open stream's, here and aside.
+            if row.kind == record::REQUEST_KIND {
+                return reply_turn(d, ask(row, own, allow, piece));
+            }
+            Near {
+                aside: true,
+                doors: d,
+                row,
+                report: numbered_report(0),
+            }
+        }
     }
-    if 24 <= f.at {
-        return refused(rules::NOT_OPEN, d, f);
-    }
-    let row = f.row;
-    // 1 to a record that is not an open stream's, here and aside.
-    if row.kind == record::REQUEST_KIND {
-        return reply_turn(d, ask(row, call, allow, piece));
-    }
-    Near {
-        aside: true,
-        doors: d,
+}
+
+// The side stays as it is.
+fn near_turn(side: Side, n: Near) -> Turn
+    ensures { λ t. ⌜ t ≡ beside side n ⌝ }
+{
+    let doors = n.doors;
+    let row = n.row;
+    let report = n.report;
+    Turn {
+        conn: Connection { doors, side },
         row,
-        report: numbered_report(0),
+        report,
     }
 }
 
 // A call on one stream.
-pub fn decide(c: Connection, f: Found, call: u64, id: u64, allow: u64, piece: &[u8]) -> Turn
+pub fn decide(c: Connection, f: Found, call: Call, id: u64, allow: u64, piece: &[u8]) -> Turn
     ensures { λ r. ⌜ Turned c f call id allow (now (piece .entry)) r ⌝ }
 {
     let d = c.doors;
     let side = c.side;
     let row = f.row;
     let n = answer(d, f, call, id, allow, piece);
-    if n.aside {
-        heard_turn(d, heed(row, side, call, allow, piece))
-    } else {
-        let doors = n.doors;
-        let left = n.row;
-        let report = n.report;
-        Turn {
-            conn: Connection { doors, side },
-            row: left,
-            report,
+    match call {
+        Call::Open => near_turn(side, n),
+        Call::On(own) => {
+            if n.aside {
+                return heard_turn(d, heed(row, side, own, allow, piece));
+            }
+            near_turn(side, n)
         }
     }
 }

@@ -1,6 +1,6 @@
 -- A call on an open request: what the core answers is what the trace's stream does. Assumes nothing.
 use mathlib.Core.Path.{_≡_, refl, sym, ap, _∙_, subst}
-use Prim.Native.Nat.{ℕ, zero, suc, _≤_}
+use Prim.Native.Nat.{ℕ, _≤_}
 use native.Mathlib.Omega.{arith}
 use mathlib.Core.List.{List}
 use mathlib.Core.Bool.{true, false}
@@ -25,10 +25,11 @@ use Rattle.requests.specs.Reply.{Open, stateIn, refused, leftBy, unlessDue, end
 use Rattle.requests.specs.Plain.{Plain, plain-feed}
 use Rattle.requests.specs.Opens.{state-back, open-plain}
 use Rattle.requests.specs.Severity.{stream-frees, connection-leaves}
+use Rattle.connection.specs.declared.Own.{Own as CoreOwn}
 use Rattle.connection.specs.declared.Connection.{Connection}
 use Rattle.connection.specs.declared.Report.{Report}
 use Rattle.connection.specs.Faults.{withCode, codeKept, kept-small, connection-keeps, stream-keeps-none}
-use Rattle.connection.specs.Turned.{byCall, told, turn, requestAs, replied}
+use Rattle.connection.specs.Turned.{byOwn, told, turn, requestAs, replied}
 use Rattle.demands.specs.Streams.{streamCode, isDue, eventOf, fedBy, isReadable, sectionOf, givenBy, endedBy, streams}
 use Rattle.demands.specs.Means.{slotAt, connOf, ownOf, reported, reportOf}
 use Rattle.demands.specs.Suits.{RequestSuits, Given, given-suits}
@@ -36,13 +37,12 @@ use Rattle.demands.specs.Settles.{Comes, refuses, steps, leaves, fails, 
 
 -- what holds of each call and its own answer holds of any
 module _ {A B : Type 0} (P : A → B → Type 0) {f g e r : A} {f′ g′ e′ r′ : B} where
-  pub by-each : (call : ℕ) → (call ≡ 1 → P f f′) → P g g′ → P e e′ → P r r′ → P (byCall call f g e r) (byCall call f′ g′ e′ r′)
-  unfolding byCall
-  by-each zero x y z w = w
-  by-each (suc zero) x y z w = x refl
-  by-each (suc (suc zero)) x y z w = y
-  by-each (suc (suc (suc zero))) x y z w = z
-  by-each (suc (suc (suc (suc n)))) x y z w = w
+  pub by-each : (own : CoreOwn) → (own ≡ CoreOwn.Feed → P f f′) → P g g′ → P e e′ → P r r′ → P (byOwn own f g e r) (byOwn own f′ g′ e′ r′)
+  unfolding byOwn
+  by-each CoreOwn.Feed x y z w = x refl
+  by-each CoreOwn.Give x y z w = y
+  by-each CoreOwn.End x y z w = z
+  by-each CoreOwn.Reset x y z w = w
 
 -- ---- a number, and the connection that it leaves
 
@@ -153,12 +153,12 @@ module _ (c : Connection) (rows : List Record) (at : ℕ) (r : Record) where
 
   -- ---- EVERY CALL
 
-  pub request-comes : Open r → RequestSuits (stateIn r) → (call allow : ℕ) (piece : List ℕ) → Comes c rows at (r .id) r (replied c (requestAs call allow piece r (stateIn r))) (actOn (connOf c .kept) (asking (stateIn r)) (ownOf call allow piece))
+  pub request-comes : Open r → RequestSuits (stateIn r) → (own : CoreOwn) (allow : ℕ) (piece : List ℕ) → Comes c rows at (r .id) r (replied c (requestAs own allow piece r (stateIn r))) (actOn (connOf c .kept) (asking (stateIn r)) (ownOf own allow piece))
   unfolding actOn act mapOut reportOf
-  request-comes o fits call allow piece =
+  request-comes o fits own allow piece =
       let s = stateIn r in
       let f = F.feed (request document) allow s piece in
-      by-each (λ (a : Reply) (x : Own streams). Comes c rows at (r .id) r (replied c a) (actOn (connOf c .kept) (asking s) x)) call
+      by-each (λ (a : Reply) (x : Own streams). Comes c rows at (r .id) r (replied c a) (actOn (connOf c .kept) (asking s) x)) own
       (λ z. due-comes s (refuse section-due) (ofFed (fedBy (f .used) (f .heads) (f .event) (f .after))) (λ t m e. house-comes section-due) (said-comes (f .used) (f .heads) (f .event) (f .after) (λ x e. plain-feed document allow s (open-plain r o) piece .plain x e)))
       (due-comes s (either (isReadable (lines piece)) (ofGiven (givenBy (M.given (request document) (sectionOf (lines piece)) s))) (refuse numbers.unreadable)) (refuse no-section) (λ t m e. read-comes s (λ b. subst (λ x. Given (M.given (request document) b x)) (sym e) (given-suits t m (subst RequestSuits e fits) b)) (lines piece)) (house-comes no-section))
       (end-comes s)

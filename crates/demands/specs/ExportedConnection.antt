@@ -33,6 +33,8 @@ use Rattle.oneway.specs.Heard.{stateHere, feeding, saidBy, closedBy}
 use Rattle.oneway.specs.Closed.{closes}
 use Rattle.connection.specs.declared.doors.Doors.{Doors}
 use Rattle.connection.specs.declared.doors.Opening.{Opening}
+use Rattle.connection.specs.declared.Call.{Call as CoreCall}
+use Rattle.connection.specs.declared.Own.{Own as CoreOwn}
 use Rattle.connection.specs.declared.Connection.{Connection}
 use Rattle.connection.specs.declared.Report.{Report}
 use Rattle.connection.specs.declared.Found.{Found}
@@ -44,7 +46,8 @@ use Rattle.connection.specs.Goaway.{sentIn, goneAway, sendingOf, writeOf}
 use Rattle.connection.specs.Halves.{stream-id, withDoors, sideIn, withSide}
 use Rattle.connection.specs.Faults.{codeKept, kept-small}
 use Rattle.connection.specs.Leavings.{Heeded, goes-on, same, freed, one-way-left}
-use Rattle.connection.specs.Turned.{fresh-connection, freeAt, byCall, requestAs, oneWayAs, Turned, other-row, dead, opens, not-open, request, one-way, goneBy}
+use Rattle.connection.specs.Whose.{open-not-on, one-own}
+use Rattle.connection.specs.Turned.{fresh-connection, freeAt, byOwn, requestAs, oneWayAs, overheard, Turned, other-row, dead, opens, not-open, request, one-way, goneBy}
 use Rattle.calls.specs.Promises.{Started, Stepped, SaidGoaway}
 use Rattle.demands.specs.Streams.{streams}
 use Rattle.demands.specs.Overheard.{said-back}
@@ -53,6 +56,7 @@ use Rattle.demands.specs.Runs.{Seen, Does, starts, opens-one, feeds, giv
 use Rattle.demands.specs.Host.{Run, begun, then-called, meant}
 use Rattle.demands.specs.Said.{toldIn, said-is-told}
 use Rattle.demands.specs.Exports.{CallSays, World, Every, every}
+use Rattle.demands.specs.InMemory.{fed-by}
 use Rattle.demands.specs.ExportedRecords.{FirstOf, first-of, starts-anew}
 
 -- ---- DEFINITION: what an accepted call leaves of the connection's record
@@ -129,8 +133,8 @@ said-goes r d u h (O.qpack-bytes q len) (O.dies n) z = let k = code-high n in ab
 said-goes r d u h (O.of-frames e) (O.lives s) z = record { after = s; is = refl; row = refl; side = refl }
 said-goes r d u h (O.qpack-bytes q len) (O.lives s) z = record { after = s; is = refl; row = refl; side = refl }
 
-fed-goes : (r : Record) (d : Side) (allow : ℕ) (piece : List ℕ) (s : OneState) → oneWayAs 1 allow piece r d s .number ≡ 0 → Goes r d (feeding d allow piece s .after) (oneWayAs 1 allow piece r d s)
-unfolding byCall
+fed-goes : (r : Record) (d : Side) (allow : ℕ) (piece : List ℕ) (s : OneState) → oneWayAs CoreOwn.Feed allow piece r d s .number ≡ 0 → Goes r d (feeding d allow piece s .after) (oneWayAs CoreOwn.Feed allow piece r d s)
+unfolding byOwn
 fed-goes r d allow piece s z = let f = feeding d allow piece s in said-goes r d (f .used) (f .heads) (f .event) (f .after) z
 
 closed-side : (r : Record) (d : Side) (n : ℕ) → closedBy r d n .side ≡ d
@@ -139,11 +143,12 @@ closed-side r d zero = refl
 closed-side r d (suc n) = refl
 
 -- a section, the end or a reset leaves the side
-rests-side : (n allow : ℕ) (piece : List ℕ) (r : Record) (d : Side) (s : OneState) → oneWayAs (suc (suc n)) allow piece r d s .side ≡ d
-unfolding byCall
-rests-side zero allow piece r d s = refl
-rests-side (suc zero) allow piece r d s = closed-side r d (closes s)
-rests-side (suc (suc n)) allow piece r d s = closed-side r d (closes s)
+rests-side : (own : CoreOwn) → fed-by (CoreCall.On own) ≡ 0 → (allow : ℕ) (piece : List ℕ) (r : Record) (d : Side) (s : OneState) → oneWayAs own allow piece r d s .side ≡ d
+unfolding byOwn
+rests-side CoreOwn.Feed e allow piece r d s = absurd (omega arith)
+rests-side CoreOwn.Give e allow piece r d s = refl
+rests-side CoreOwn.End e allow piece r d s = closed-side r d (closes s)
+rests-side CoreOwn.Reset e allow piece r d s = closed-side r d (closes s)
 
 -- ---- the turn
 
@@ -151,7 +156,7 @@ number-of : {t u : Turn} → t .report .number ≡ 0 → t ≡ u → u .report .
 number-of z q = sym (ap (λ y. y .report .number) q) ∙ z
 
 module _ {c : Connection} {f : Found} {id allow : ℕ} {piece : List ℕ} {t : Turn} (z : t .report .number ≡ 0) where
-  turned-spends : Turned c f 0 id allow piece t → SpendsNext id c (t .conn)
+  turned-spends : Turned c f CoreCall.Open id allow piece t → SpendsNext id c (t .conn)
   turned-spends (other-row n q) = let e = number-of z q in absurd (omega arith)
   turned-spends (dead l n q) = absurd (n (number-of z q))
   turned-spends (opens v e q) = by (opened-doors (ways.went (c .doors) id (freeAt (f .at))) (number-of z q)) (ap (λ y. y .conn) q)
@@ -159,19 +164,20 @@ module _ {c : Connection} {f : Found} {id allow : ℕ} {piece : List ℕ} {t : T
       by : {d : Doors} → ((id % 4 ≡ 0) × (d ≡ nextRequest (c .doors))) ⊎ ((id % 4 ≡ 2) × (d ≡ nextOneWay (c .doors))) → t .conn ≡ withDoors c d → SpendsNext id c (t .conn)
       by (inl x) w = inl (x .0, w ∙ ap (withDoors c) (x .1))
       by (inr x) w = inr (x .0, w ∙ ap (withDoors c) (x .1))
-  turned-spends (not-open v n s q) = absurd (n refl)
-  turned-spends (request v n l o q s) = absurd (n refl)
-  turned-spends (one-way v n l h q s) = absurd (n refl)
+  turned-spends (not-open v n s q) = absurd (open-not-on refl n)
+  turned-spends (request v n l o q s) = absurd (open-not-on refl n)
+  turned-spends (one-way v n l h q s) = absurd (open-not-on refl n)
 
-  turned-fed : Turned c f 1 id allow piece t → (f .at < 24) × FedLeaves allow piece c (f .row) (t .row) (t .conn)
+  turned-fed : Turned c f (CoreCall.On CoreOwn.Feed) id allow piece t → (f .at < 24) × FedLeaves allow piece c (f .row) (t .row) (t .conn)
   turned-fed (other-row n q) = let e = number-of z q in absurd (omega arith)
   turned-fed (dead l n q) = absurd (n (number-of z q))
-  turned-fed (opens v e q) = absurd (omega arith)
+  turned-fed (opens v e q) = absurd (open-not-on e refl)
   turned-fed (not-open v n s q) = let e = number-of z q in absurd (omega arith)
-  turned-fed (request v n l o q s) = (l, inl (o .kind, ap (λ y. y .conn) q ∙ zero-keeps c (requestAs 1 allow piece (f .row) (stateIn (f .row)) .number) (number-of z q)))
-  turned-fed (one-way v n l h q s) =
+  turned-fed (request {own} v n l o q s) = (l, inl (o .kind, ap (λ y. y .conn) q ∙ zero-keeps c (requestAs own allow piece (f .row) (stateIn (f .row)) .number) (number-of z q)))
+  turned-fed (one-way v n l h q′ s) =
       let x = stateHere (f .row) (sideIn c) in
-      let a = oneWayAs 1 allow piece (f .row) (sideIn c) x in
+      let a = oneWayAs CoreOwn.Feed allow piece (f .row) (sideIn c) x in
+      let q : t ≡ overheard c a = q′ ∙ ap (λ w. overheard c (oneWayAs w allow piece (f .row) (sideIn c) x)) (sym (one-own refl n)) in
       let g = fed-goes (f .row) (sideIn c) allow piece x (number-of z q) in (
         l,
         inr (record {
@@ -183,29 +189,29 @@ module _ {c : Connection} {f : Found} {id allow : ℕ} {piece : List ℕ} {t : T
         }),
       )
 
-  turned-rests : (k : ℕ) → Turned c f (suc (suc k)) id allow piece t → t .conn ≡ c
-  turned-rests k (other-row n q) = ap (λ y. y .conn) q
-  turned-rests k (dead l n q) = ap (λ y. y .conn) q
-  turned-rests k (opens v e q) = absurd (omega arith)
-  turned-rests k (not-open v n s q) = ap (λ y. y .conn) q
-  turned-rests k (request v n l o q s) = ap (λ y. y .conn) q ∙ zero-keeps c (requestAs (suc (suc k)) allow piece (f .row) (stateIn (f .row)) .number) (number-of z q)
-  turned-rests k (one-way v n l h q s) =
+  turned-rests : {call : CoreCall} → fed-by call ≡ 0 → {own : CoreOwn} → call ≡ CoreCall.On own → Turned c f call id allow piece t → t .conn ≡ c
+  turned-rests k b (other-row n q) = ap (λ y. y .conn) q
+  turned-rests k b (dead l n q) = ap (λ y. y .conn) q
+  turned-rests k b (opens v e q) = absurd (open-not-on e b)
+  turned-rests k b (not-open v n s q) = ap (λ y. y .conn) q
+  turned-rests k b (request {own} v n l o q s) = ap (λ y. y .conn) q ∙ zero-keeps c (requestAs own allow piece (f .row) (stateIn (f .row)) .number) (number-of z q)
+  turned-rests k b (one-way {own} v n l h q s) =
       let x = stateHere (f .row) (sideIn c) in
-      let a = oneWayAs (suc (suc k)) allow piece (f .row) (sideIn c) x in
-      ap (λ y. y .conn) q ∙ zero-keeps (withSide c (a .side)) (a .number) (number-of z q) ∙ ap (withSide c) (rests-side k allow piece (f .row) (sideIn c) x)
+      let a = oneWayAs own allow piece (f .row) (sideIn c) x in
+      ap (λ y. y .conn) q ∙ zero-keeps (withSide c (a .side)) (a .number) (number-of z q) ∙ ap (withSide c) (rests-side own (sym (ap fed-by n) ∙ k) allow piece (f .row) (sideIn c) x)
 
 -- ---- the call
 
-accepted : {c : Connection} {rows : List Record} {call id allow : ℕ} {piece : List ℕ} {c′ : Connection} {rows′ : List Record} {r : Report} (m : Stepped c rows call id allow piece c′ rows′ r) → r .number ≡ 0 → m .turn .report .number ≡ 0
+accepted : {c : Connection} {rows : List Record} {call : CoreCall} {id allow : ℕ} {piece : List ℕ} {c′ : Connection} {rows′ : List Record} {r : Report} (m : Stepped c rows call id allow piece c′ rows′ r) → r .number ≡ 0 → m .turn .report .number ≡ 0
 accepted m z = sym (ap (λ y. y .number) (m .answered)) ∙ z
 
-fed-leaves : {c : Connection} {rows : List Record} {id allow : ℕ} {piece : List ℕ} {c′ : Connection} {rows′ : List Record} {r : Report} → length rows ≡ 24 → Stepped c rows 1 id allow piece c′ rows′ r → r .number ≡ 0
+fed-leaves : {c : Connection} {rows : List Record} {id allow : ℕ} {piece : List ℕ} {c′ : Connection} {rows′ : List Record} {r : Report} → length rows ≡ 24 → Stepped c rows (CoreCall.On CoreOwn.Feed) id allow piece c′ rows′ r → r .number ≡ 0
     → LeavesFed id allow piece c rows c′ rows′
 fed-leaves {c} {rows} {id} {allow} {piece} {c′} {rows′} long m z =
     let u = turned-fed (accepted m z) (m .turned) in
     let l = u .0 in
     let v : FedLeaves allow piece c (m .found .row) (m .turn .row) c′ = subst (FedLeaves allow piece c (m .found .row) (m .turn .row)) (sym (m .conn-left)) (u .1) in
-    (m .found .at, first-of (λ e. omega arith) (m .is-found) (omega arith), (m .turn .row, m .rows-left, subst (λ y. FedLeaves allow piece c y (m .turn .row) c′) (m .is-found .row) v))
+    (m .found .at, first-of refl (m .is-found) (omega arith), (m .turn .row, m .rows-left, subst (λ y. FedLeaves allow piece c y (m .turn .row) c′) (m .is-found .row) v))
 
 -- our GOAWAY: no refusal has the number 0
 abbrev NotZero : Write → Type 0
@@ -251,9 +257,9 @@ unfolding numberIn
 leaves-connection (starts m) long z = starts-anew m .anew long .1
 leaves-connection {c} (opens-one {id = id} m) long z = subst (SpendsNext id c) (sym (m .conn-left)) (turned-spends (accepted m z) (m .turned))
 leaves-connection (feeds m) long z = fed-leaves long m z
-leaves-connection (gives m) long z = m .conn-left ∙ turned-rests (accepted m z) 0 (m .turned)
-leaves-connection (ends m) long z = m .conn-left ∙ turned-rests (accepted m z) 1 (m .turned)
-leaves-connection (resets m) long z = m .conn-left ∙ turned-rests (accepted m z) 2 (m .turned)
+leaves-connection (gives m) long z = m .conn-left ∙ turned-rests (accepted m z) refl refl (m .turned)
+leaves-connection (ends m) long z = m .conn-left ∙ turned-rests (accepted m z) refl refl (m .turned)
+leaves-connection (resets m) long z = m .conn-left ∙ turned-rests (accepted m z) refl refl (m .turned)
 leaves-connection (goes-away m) long z = said-leaves m z
 
 -- AFTER A CALL THAT IS ACCEPTED, whatever memory is lent with a row of 24
@@ -280,22 +286,22 @@ after-written d in-skipped h = h
 side-written : {a b : Side} → a ≡ b → Spelled (b .kept) → Spelled (a .kept)
 side-written e h = subst (λ y. Spelled (y .kept)) (sym e) h
 
-heeded-written : {r : Record} {d : Side} {call allow : ℕ} {piece : List ℕ} {s : OneState} {a : Heard} → Heeded r d call allow piece s a → Spelled (d .kept) → Spelled (a .side .kept)
+heeded-written : {r : Record} {d : Side} {own : CoreOwn} {allow : ℕ} {piece : List ℕ} {s : OneState} {a : Heard} → Heeded r d own allow piece s a → Spelled (d .kept) → Spelled (a .side .kept)
 heeded-written {d = d} (goes-on z x f e q) h = side-written q (after-written d x h)
 heeded-written (same e q) h = side-written q h
 heeded-written (freed e q) h = side-written q h
 
 -- every call keeps them so
-turned-written : {c : Connection} {f : Found} {call id allow : ℕ} {piece : List ℕ} {t : Turn} → Turned c f call id allow piece t → Spelled (c .side .kept) → Spelled (t .conn .side .kept)
+turned-written : {c : Connection} {f : Found} {call : CoreCall} {id allow : ℕ} {piece : List ℕ} {t : Turn} → Turned c f call id allow piece t → Spelled (c .side .kept) → Spelled (t .conn .side .kept)
 turned-written (other-row n q) h = side-written (ap (λ y. y .conn .side) q) h
 turned-written (dead l n q) h = side-written (ap (λ y. y .conn .side) q) h
 turned-written (opens v e q) h = side-written (ap (λ y. y .conn .side) q) h
 turned-written (not-open v n s q) h = side-written (ap (λ y. y .conn .side) q) h
 turned-written (request v n l o q s) h = side-written (ap (λ y. y .conn .side) q) h
-turned-written {c} {f} {call} {allow = allow} {piece = piece} (one-way v n l o q s) h =
-    side-written (ap (λ y. y .conn .side) q) (heeded-written (one-way-left (f .row) (sideIn c) call allow piece (stateHere (f .row) (sideIn c))) h)
+turned-written {c} {f} {allow = allow} {piece = piece} (one-way {own} v n l o q s) h =
+    side-written (ap (λ y. y .conn .side) q) (heeded-written (one-way-left (f .row) (sideIn c) own allow piece (stateHere (f .row) (sideIn c))) h)
 
-stepped-written : {c : Connection} {rows : List Record} {call id allow : ℕ} {piece : List ℕ} {c′ : Connection} {rows′ : List Record} {r : Report} → Stepped c rows call id allow piece c′ rows′ r → Spelled (c .side .kept) → Spelled (c′ .side .kept)
+stepped-written : {c : Connection} {rows : List Record} {call : CoreCall} {id allow : ℕ} {piece : List ℕ} {c′ : Connection} {rows′ : List Record} {r : Report} → Stepped c rows call id allow piece c′ rows′ r → Spelled (c .side .kept) → Spelled (c′ .side .kept)
 stepped-written m h = side-written (ap (λ y. y .side) (m .conn-left)) (turned-written (m .turned) h)
 
 fresh-written : {c : Connection} → c ≡ fresh-connection → Spelled (c .side .kept)

@@ -34,6 +34,8 @@ use Rattle.oneway.specs.Heard.{stateHere, feeding}
 use Rattle.oneway.specs.Closed.{closes}
 use Rattle.connection.specs.declared.doors.Doors.{Doors}
 use Rattle.connection.specs.declared.doors.Opening.{Opening}
+use Rattle.connection.specs.declared.Call.{Call as CoreCall}
+use Rattle.connection.specs.declared.Own.{Own as CoreOwn}
 use Rattle.connection.specs.declared.Connection.{Connection}
 use Rattle.connection.specs.declared.Report.{Report}
 use Rattle.connection.specs.declared.Found.{Found}
@@ -41,8 +43,8 @@ use Rattle.connection.specs.declared.Turn.{Turn}
 use Rattle.connection.specs.OpeningWays as ways
 use Rattle.connection.specs.Halves.{sideIn}
 use Rattle.connection.specs.Faults.{withCode, Fault}
-use Rattle.connection.specs.Whose.{Belongs, Wanted, FoundIn, belongs-wanted, wanted-belongs}
-use Rattle.connection.specs.Turned.{fresh-connection, firstRecord, takenBy, freeAt, byCall, requestAs, oneWayAs, Turned, other-row, dead, opens, not-open, request, one-way, sweptOf}
+use Rattle.connection.specs.Whose.{Belongs, Wanted, FoundIn, belongs-wanted, wanted-belongs, open-not-on, one-own}
+use Rattle.connection.specs.Turned.{fresh-connection, firstRecord, takenBy, freeAt, byOwn, requestAs, oneWayAs, Turned, other-row, dead, opens, not-open, request, one-way, sweptOf}
 use Rattle.connection.specs.Ways.{begun-fresh, swept-free, none-at}
 use Rattle.calls.specs.Promises.{Started, Stepped}
 use Rattle.demands.specs.Streams.{streams}
@@ -129,13 +131,13 @@ start-accepted p = refl
 
 -- ---- which record was found
 
-lowest-free : {id : ℕ} {rows : List Record} {f : Found} → FoundIn 0 id rows f → f .at < length rows → LowestFree rows (f .at)
+lowest-free : {id : ℕ} {rows : List Record} {f : Found} → FoundIn CoreCall.Open id rows f → f .at < length rows → LowestFree rows (f .at)
 unfolding Wanted
 lowest-free x l = record { there = l; is-free = x .there l; lowest = x .before }
 
-pub first-of : {call id : ℕ} {rows : List Record} {f : Found} → ¬ (call ≡ 0) → FoundIn call id rows f → f .at < length rows → FirstOf id rows (f .at)
-first-of {call} {id} {rows} {f} n x l =
-    record { there = l; own = wanted-belongs id (getD rows (f .at) free-record) call n (x .there l); first = λ j m b. x .before j m (belongs-wanted id (getD rows j free-record) call n b) }
+pub first-of : {call : CoreCall} {own : CoreOwn} {id : ℕ} {rows : List Record} {f : Found} → call ≡ CoreCall.On own → FoundIn call id rows f → f .at < length rows → FirstOf id rows (f .at)
+first-of {id = id} {rows = rows} {f = f} n x l =
+    record { there = l; own = wanted-belongs id (getD rows (f .at) free-record) n (x .there l); first = λ j m b. x .before j m (belongs-wanted id (getD rows j free-record) n b) }
 
 below : (at : ℕ) → 0 < freeAt at → at < 24
 below at l = by (decLt at 24)
@@ -163,21 +165,21 @@ unfolding side.closedBy
 closed-frees r d zero e = refl
 closed-frees r d (suc n) e = absurd (omega arith)
 
-data Altering : ℕ → Type 0 where
-  a-feed : Altering 1
-  a-section : Altering 2
+data Altering : CoreOwn → Type 0 where
+  a-feed : Altering CoreOwn.Feed
+  a-section : Altering CoreOwn.Give
 
-data Closing : ℕ → Type 0 where
-  an-end : Closing 3
-  a-reset : Closing 4
+data Closing : CoreOwn → Type 0 where
+  an-end : Closing CoreOwn.End
+  a-reset : Closing CoreOwn.Reset
 
-request-frees : {call : ℕ} → Closing call → (allow : ℕ) (piece : List ℕ) (r : Record) (s : State Message) → requestAs call allow piece r s .number ≡ 0 → requestAs call allow piece r s .row ≡ free-record
-unfolding byCall
+request-frees : {own : CoreOwn} → Closing own → (allow : ℕ) (piece : List ℕ) (r : Record) (s : State Message) → requestAs own allow piece r s .number ≡ 0 → requestAs own allow piece r s .row ≡ free-record
+unfolding byOwn
 request-frees an-end allow piece r s e = ended-frees r (finish (asking-rules document) 0 s) e
 request-frees a-reset allow piece r s e = refl
 
-one-way-frees : {call : ℕ} → Closing call → (allow : ℕ) (piece : List ℕ) (r : Record) (d : Side) (s : OneState) → oneWayAs call allow piece r d s .number ≡ 0 → oneWayAs call allow piece r d s .row ≡ free-record
-unfolding byCall
+one-way-frees : {own : CoreOwn} → Closing own → (allow : ℕ) (piece : List ℕ) (r : Record) (d : Side) (s : OneState) → oneWayAs own allow piece r d s .number ≡ 0 → oneWayAs own allow piece r d s .row ≡ free-record
+unfolding byOwn
 one-way-frees an-end allow piece r d s e = closed-frees r d (closes s) e
 one-way-frees a-reset allow piece r d s e = closed-frees r d (closes s) e
 
@@ -233,57 +235,57 @@ module _ (r : Record) where
   heard-holds d u h (O.of-frames e) (O.lives s) = λ z. inr (s, refl)
   heard-holds d u h (O.qpack-bytes q len) (O.lives s) = λ z. inr (s, refl)
 
-  request-holds : {call : ℕ} → Altering call → (allow : ℕ) (piece : List ℕ) (s : State Message) → ReplyHolds (requestAs call allow piece r s)
-  unfolding byCall
+  request-holds : {own : CoreOwn} → Altering own → (allow : ℕ) (piece : List ℕ) (s : State Message) → ReplyHolds (requestAs own allow piece r s)
+  unfolding byOwn
   request-holds a-feed allow piece s = let f = F.feed (asking-rules document) allow s piece in
       due-holds (reply.refused 4 r) (reply.said r f) s (λ z. absurd (omega arith)) (said-holds (f .used) (f .heads) (f .event) (f .after))
   request-holds a-section allow piece s = due-holds (reply.readAs r s (lines piece)) (reply.refused 5 r) s (read-holds s (lines piece)) (λ z. absurd (omega arith))
 
-  one-way-holds : {call : ℕ} → Altering call → (allow : ℕ) (piece : List ℕ) (d : Side) (s : OneState) → HeardHolds (oneWayAs call allow piece r d s)
-  unfolding byCall
+  one-way-holds : {own : CoreOwn} → Altering own → (allow : ℕ) (piece : List ℕ) (d : Side) (s : OneState) → HeardHolds (oneWayAs own allow piece r d s)
+  unfolding byOwn
   one-way-holds a-feed allow piece d s = let f = feeding d allow piece s in heard-holds d (f .used) (f .heads) (f .event) (f .after)
   one-way-holds a-section allow piece d s = λ z. absurd (omega arith)
 
 -- ---- a call that is accepted
 
-module _ {c : Connection} {f : Found} {call id allow : ℕ} {piece : List ℕ} {t : Turn} (z : t .report .number ≡ 0) where
-  turned-opens : call ≡ 0 → Turned c f call id allow piece t → (f .at < 24) × (t .row ≡ firstRecord id)
+module _ {c : Connection} {f : Found} {call : CoreCall} {id allow : ℕ} {piece : List ℕ} {t : Turn} (z : t .report .number ≡ 0) where
+  turned-opens : call ≡ CoreCall.Open → Turned c f call id allow piece t → (f .at < 24) × (t .row ≡ firstRecord id)
   unfolding takenBy
   turned-opens b (other-row x q) = let e = ap (λ y. y .report .number) q in absurd (omega arith)
   turned-opens b (dead l x q) = absurd (x (sym (ap (λ y. y .report .number) q) ∙ z))
   turned-opens b (opens v e q) =
       let n = sym (ap (λ y. y .report .number) q) ∙ z in
       (opened-below (ways.went (c .doors) id (freeAt (f .at))) n, ap (λ y. y .row) q ∙ ap (λ k. takenBy k id (f .row)) n)
-  turned-opens b (not-open v x s q) = absurd (x b)
-  turned-opens b (request v x l o q s) = absurd (x b)
-  turned-opens b (one-way v x l h q s) = absurd (x b)
+  turned-opens b (not-open v x s q) = absurd (open-not-on b x)
+  turned-opens b (request v x l o q s) = absurd (open-not-on b x)
+  turned-opens b (one-way v x l h q s) = absurd (open-not-on b x)
 
-  module _ (n : ¬ (call ≡ 0)) where
+  module _ {own : CoreOwn} (n : call ≡ CoreCall.On own) where
     turned-place : Turned c f call id allow piece t → f .at < 24
     turned-place (other-row x q) = let e = ap (λ y. y .report .number) q in absurd (omega arith)
     turned-place (dead l x q) = absurd (x (sym (ap (λ y. y .report .number) q) ∙ z))
-    turned-place (opens v e q) = absurd (n e)
+    turned-place (opens v e q) = absurd (open-not-on e n)
     turned-place (not-open v x s q) = let e = ap (λ y. y .report .number) q in absurd (omega arith)
     turned-place (request v x l o q s) = l
     turned-place (one-way v x l h q s) = l
 
-    turned-closes : Closing call → Turned c f call id allow piece t → t .row ≡ free-record
+    turned-closes : Closing own → Turned c f call id allow piece t → t .row ≡ free-record
     turned-closes k (other-row x q) = let e = ap (λ y. y .report .number) q in absurd (omega arith)
     turned-closes k (dead l x q) = absurd (x (sym (ap (λ y. y .report .number) q) ∙ z))
-    turned-closes k (opens v e q) = absurd (n e)
+    turned-closes k (opens v e q) = absurd (open-not-on e n)
     turned-closes k (not-open v x s q) = let e = ap (λ y. y .report .number) q in absurd (omega arith)
-    turned-closes k (request v x l o q s) = ap (λ y. y .row) q ∙ request-frees k allow piece (f .row) (stateIn (f .row)) (sym (ap (λ y. y .report .number) q) ∙ z)
-    turned-closes k (one-way v x l h q s) = ap (λ y. y .row) q ∙ one-way-frees k allow piece (f .row) (sideIn c) (stateHere (f .row) (sideIn c)) (sym (ap (λ y. y .report .number) q) ∙ z)
+    turned-closes k (request v x l o q s) = ap (λ y. y .row) q ∙ request-frees (subst Closing (one-own n x) k) allow piece (f .row) (stateIn (f .row)) (sym (ap (λ y. y .report .number) q) ∙ z)
+    turned-closes k (one-way v x l h q s) = ap (λ y. y .row) q ∙ one-way-frees (subst Closing (one-own n x) k) allow piece (f .row) (sideIn c) (stateHere (f .row) (sideIn c)) (sym (ap (λ y. y .report .number) q) ∙ z)
 
-    turned-holds : Altering call → Turned c f call id allow piece t → HoldsState (f .row .id) (t .row)
+    turned-holds : Altering own → Turned c f call id allow piece t → HoldsState (f .row .id) (t .row)
     turned-holds k (other-row x q) = let e = ap (λ y. y .report .number) q in absurd (omega arith)
     turned-holds k (dead l x q) = absurd (x (sym (ap (λ y. y .report .number) q) ∙ z))
-    turned-holds k (opens v e q) = absurd (n e)
+    turned-holds k (opens v e q) = absurd (open-not-on e n)
     turned-holds k (not-open v x s q) = let e = ap (λ y. y .report .number) q in absurd (omega arith)
-    turned-holds k (request v x l o q s) = subst (HoldsState (f .row .id)) (sym (ap (λ y. y .row) q)) (request-holds (f .row) k allow piece (stateIn (f .row)) (sym (ap (λ y. y .report .number) q) ∙ z))
-    turned-holds k (one-way v x l h q s) = subst (HoldsState (f .row .id)) (sym (ap (λ y. y .row) q)) (one-way-holds (f .row) k allow piece (sideIn c) (stateHere (f .row) (sideIn c)) (sym (ap (λ y. y .report .number) q) ∙ z))
+    turned-holds k (request v x l o q s) = subst (HoldsState (f .row .id)) (sym (ap (λ y. y .row) q)) (request-holds (f .row) (subst Altering (one-own n x) k) allow piece (stateIn (f .row)) (sym (ap (λ y. y .report .number) q) ∙ z))
+    turned-holds k (one-way v x l h q s) = subst (HoldsState (f .row .id)) (sym (ap (λ y. y .row) q)) (one-way-holds (f .row) (subst Altering (one-own n x) k) allow piece (sideIn c) (stateHere (f .row) (sideIn c)) (sym (ap (λ y. y .report .number) q) ∙ z))
 
-module _ {c : Connection} {rows : List Record} {call id allow : ℕ} {piece : List ℕ} {c′ : Connection} {rows′ : List Record} {r : Report} (long : length rows ≡ 24) (m : Stepped c rows call id allow piece c′ rows′ r) where
+module _ {c : Connection} {rows : List Record} {call : CoreCall} {id allow : ℕ} {piece : List ℕ} {c′ : Connection} {rows′ : List Record} {r : Report} (long : length rows ≡ 24) (m : Stepped c rows call id allow piece c′ rows′ r) where
   -- the one record, and what it holds then
   set-to : {x : Record} → m .turn .row ≡ x → rows′ ≡ set rows (m .found .at) x
   set-to q = m .rows-left ∙ ap (set rows (m .found .at)) q
@@ -292,23 +294,23 @@ module _ {c : Connection} {rows : List Record} {call id allow : ℕ} {piece : Li
     accepted : m .turn .report .number ≡ 0
     accepted = sym (ap (λ y. y .number) (m .answered)) ∙ z
 
-    altered : ¬ (call ≡ 0) → Altering call → Alters id rows rows′
+    altered : {own : CoreOwn} → call ≡ CoreCall.On own → Altering own → Alters id rows rows′
     altered n k =
         let l = turned-place accepted n (m .turned) in
         let o = first-of n (m .is-found) (omega arith) in
         let i : m .found .row .id ≡ id = ap (λ y. y .id) (m .is-found .row) ∙ o .own .own in
         (m .found .at, o, (m .turn .row, subst (λ j. HoldsState j (m .turn .row)) i (turned-holds accepted n k (m .turned)), m .rows-left))
 
-    closed : ¬ (call ≡ 0) → Closing call → FreesFirst id rows rows′
+    closed : {own : CoreOwn} → call ≡ CoreCall.On own → Closing own → FreesFirst id rows rows′
     closed n k = let l = turned-place accepted n (m .turned) in (m .found .at, first-of n (m .is-found) (omega arith), set-to (turned-closes accepted n k (m .turned)))
 
-  faulted : c .doors .code ≡ 0 → IsStreamFault (r .number) → ¬ (call ≡ 0) → FreesFirst id rows rows′
+  faulted : c .doors .code ≡ 0 → IsStreamFault (r .number) → {own : CoreOwn} → call ≡ CoreCall.On own → FreesFirst id rows rows′
   faulted a z n =
       let u = turned-freed a (z .0, sym (ap (λ y. y .number) (m .answered)) ∙ z .1) n (m .turned) in
       let k = m .is-found .long in
       (m .found .at, first-of n (m .is-found) (let l = u .2 in omega arith), set-to (u .1))
 
-opened-lowest : {c : Connection} {rows : List Record} {id : ℕ} {c′ : Connection} {rows′ : List Record} {r : Report} → length rows ≡ 24 → Stepped c rows 0 id 0 [] c′ rows′ r → r .number ≡ 0 → LeavesRow (open′ id) rows rows′
+opened-lowest : {c : Connection} {rows : List Record} {id : ℕ} {c′ : Connection} {rows′ : List Record} {r : Report} → length rows ≡ 24 → Stepped c rows CoreCall.Open id 0 [] c′ rows′ r → r .number ≡ 0 → LeavesRow (open′ id) rows rows′
 opened-lowest long m z =
     let u = turned-opens (accepted long m z) refl (m .turned) in
     (m .found .at, lowest-free (m .is-found) (let l = u .0 in omega arith), set-to long m (u .1))
@@ -317,10 +319,10 @@ leaves-row : {c : Connection} {rows : List Record} {k : Call streams} {x : Seen}
 unfolding numberIn
 leaves-row (starts m) long z = starts-anew m .anew long .2
 leaves-row (opens-one m) long z = opened-lowest long m z
-leaves-row (feeds m) long z = altered long m z (λ e. omega arith) a-feed
-leaves-row (gives m) long z = altered long m z (λ e. omega arith) a-section
-leaves-row (ends m) long z = closed long m z (λ e. omega arith) an-end
-leaves-row (resets m) long z = closed long m z (λ e. omega arith) a-reset
+leaves-row (feeds m) long z = altered long m z refl a-feed
+leaves-row (gives m) long z = altered long m z refl a-section
+leaves-row (ends m) long z = closed long m z refl an-end
+leaves-row (resets m) long z = closed long m z refl a-reset
 leaves-row (goes-away m) long z = refl
 
 -- AFTER A CALL THAT IS ACCEPTED, whatever memory is lent with a row of 24
@@ -334,10 +336,10 @@ fault-leaves-row : {c : Connection} {rows : List Record} {k : Call streams} {x :
 unfolding numberIn
 fault-leaves-row (starts m) a long z = absurd (stream-fault a (starts m) z)
 fault-leaves-row (opens-one m) a long z = stream-fault a (opens-one m) z .1
-fault-leaves-row (feeds m) a long z = faulted long m a z (λ e. omega arith)
-fault-leaves-row (gives m) a long z = faulted long m a z (λ e. omega arith)
-fault-leaves-row (ends m) a long z = faulted long m a z (λ e. omega arith)
-fault-leaves-row (resets m) a long z = faulted long m a z (λ e. omega arith)
+fault-leaves-row (feeds m) a long z = faulted long m a z refl
+fault-leaves-row (gives m) a long z = faulted long m a z refl
+fault-leaves-row (ends m) a long z = faulted long m a z refl
+fault-leaves-row (resets m) a long z = faulted long m a z refl
 fault-leaves-row {c} {rows} (goes-away {c′ = c′} {w = w} {id = id} {room = room} m) a long z = let d : Does c rows (goaway id (length room)) (a-written w) c′ rows = goes-away m in absurd (stream-fault a d z)
 
 -- AFTER A STREAM FAULT on a live connection, whatever memory is lent with a row of 24
@@ -361,10 +363,10 @@ keeps-code : {c : Connection} {rows : List Record} {k : Call streams} {x : Seen}
 unfolding numberIn
 keeps-code (starts m) l z = absurd l
 keeps-code (opens-one m) l z = absurd l
-keeps-code (feeds m) l z = fault-alters (λ e. omega arith) m z
-keeps-code (gives m) l z = fault-alters (λ e. omega arith) m z
-keeps-code (ends m) l z = fault-alters (λ e. omega arith) m z
-keeps-code (resets m) l z = fault-alters (λ e. omega arith) m z
+keeps-code (feeds m) l z = fault-alters refl m z
+keeps-code (gives m) l z = fault-alters refl m z
+keeps-code (ends m) l z = fault-alters refl m z
+keeps-code (resets m) l z = fault-alters refl m z
 keeps-code (goes-away m) l z = absurd l
 
 pub fault-keeps-code : (w : World) → Every w KeepsCode

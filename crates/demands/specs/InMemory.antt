@@ -43,6 +43,8 @@ use Rattle.oneway.specs.Heard as side
 use Rattle.oneway.specs.Heard.{stateHere}
 use Rattle.connection.specs.declared.doors.Doors.{Doors}
 use Rattle.connection.specs.declared.doors.Opening.{Opening}
+use Rattle.connection.specs.declared.Call.{Call as CoreCall}
+use Rattle.connection.specs.declared.Own.{Own as CoreOwn}
 use Rattle.connection.specs.declared.Connection.{Connection}
 use Rattle.connection.specs.declared.Report.{Report}
 use Rattle.connection.specs.declared.Found.{Found}
@@ -55,8 +57,9 @@ use Rattle.connection.specs.Goaway.{sendingOf, writeOf, sentIn}
 use Rattle.connection.specs.Halves.{stream-id, doorsIn, withDoors, sideIn}
 use Rattle.connection.specs.Faults.{codeKept, stream-keeps-none}
 use Rattle.connection.specs.Ways.{taken-none}
-use Rattle.connection.specs.Whose.{Belongs, wanted-belongs}
-use Rattle.connection.specs.Turned.{byCall, freeAt, openedAt, requestAs, oneWayAs, Turned, other-row, dead, opens, not-open, request, one-way, fresh-connection, begunOf}
+use Rattle.connection.specs.Whose.{Belongs, wanted-belongs, open-not-on}
+use Rattle.connection.specs.Leavings.{by-any}
+use Rattle.connection.specs.Turned.{freeAt, openedAt, requestAs, oneWayAs, Turned, other-row, dead, opens, not-open, request, one-way, fresh-connection, begunOf}
 use Rattle.calls.specs.Promises.{Started, Stepped, SaidGoaway}
 use Rattle.demands.specs.Streams.{connCode, streams}
 use Rattle.demands.specs.Codes.{is-of-connection, one-way-listed}
@@ -152,55 +155,53 @@ apart f g e = let q = sym (fault-named (of-connection g)) ∙ ap named e ∙ fau
 
 -- ---- how a call may answer
 
+-- 1 of a feed
+abbrev pub fed-by : CoreCall → ℕ
+fed-by CoreCall.Open = 0
+fed-by (CoreCall.On CoreOwn.Feed) = 1
+fed-by (CoreCall.On CoreOwn.Give) = 0
+fed-by (CoreCall.On CoreOwn.End) = 0
+fed-by (CoreCall.On CoreOwn.Reset) = 0
+
 -- accepted; with a number of the house; with the code that the connection had; with a fault, which counts in a feed alone
-data Answers (c : Connection) (call allow : ℕ) (piece : List ℕ) : (number event start len used heads value : ℕ) → Type 0 where
+data Answers (c : Connection) (call : CoreCall) (allow : ℕ) (piece : List ℕ) : (number event start len used heads value : ℕ) → Type 0 where
   accepts : {e s l u h v : ℕ} → Answers c call allow piece 0 e s l u h v
   of-house : (n : House) → Answers c call allow piece (houseNumber n) 0 0 0 0 0 0
   dead-already : Answers c call allow piece (c .doors .code) 0 0 0 0 0 0
-  in-feed : (k : Code) {u h : ℕ} → c .doors .code ≡ 0 → call ≡ 1 → u ≤ length piece → h ≤ allow → Answers c call allow piece (codeNumber k) 0 0 0 u h 0
+  in-feed : (k : Code) {u h : ℕ} → c .doors .code ≡ 0 → fed-by call ≡ 1 → u ≤ length piece → h ≤ allow → Answers c call allow piece (codeNumber k) 0 0 0 u h 0
   elsewhere : (k : Code) → Answers c call allow piece (codeNumber k) 0 0 0 0 0 0
 
-record Facts (c : Connection) (call allow : ℕ) (piece : List ℕ) (number event start len used heads value : ℕ) : Type 0 where
+record Facts (c : Connection) (call : CoreCall) (allow : ℕ) (piece : List ℕ) (number event start len used heads value : ℕ) : Type 0 where
   hands : (event ≡ 0) × (start ≡ 0) × (len ≡ 0) × (value ≡ 0)
   fits : used ≤ length piece
   allowed : heads ≤ allow
-  nothing : OfHouse number ⊎ ((¬ (c .doors .code ≡ 0)) ⊎ (¬ (call ≡ 1))) → (used ≡ 0) × (heads ≡ 0)
+  nothing : OfHouse number ⊎ ((¬ (c .doors .code ≡ 0)) ⊎ (fed-by call ≡ 0)) → (used ≡ 0) × (heads ≡ 0)
   row : InTable number ⊎ (number ≡ c .doors .code)
 
-facts : {c : Connection} {call allow : ℕ} {piece : List ℕ} {n e s l u h v : ℕ} → Answers c call allow piece n e s l u h v → ¬ (n ≡ 0) → Facts c call allow piece n e s l u h v
+facts : {c : Connection} {call : CoreCall} {allow : ℕ} {piece : List ℕ} {n e s l u h v : ℕ} → Answers c call allow piece n e s l u h v → ¬ (n ≡ 0) → Facts c call allow piece n e s l u h v
 facts accepts z = absurd (z refl)
 facts (of-house n) z = record { hands = (refl, refl, refl, refl); fits = zero-le; allowed = zero-le; nothing = λ x. (refl, refl); row = inl (house-row n) }
 facts dead-already z = record { hands = (refl, refl, refl, refl); fits = zero-le; allowed = zero-le; nothing = λ x. (refl, refl); row = inr refl }
 facts {c} {call} (in-feed k {u} {h} a b f g) z = record { hands = (refl, refl, refl, refl); fits = f; allowed = g; nothing = none-of; row = inl (code-row k) }
   where
-    none-of : OfHouse (codeNumber k) ⊎ ((¬ (c .doors .code ≡ 0)) ⊎ (¬ (call ≡ 1))) → (u ≡ 0) × (h ≡ 0)
+    none-of : OfHouse (codeNumber k) ⊎ ((¬ (c .doors .code ≡ 0)) ⊎ (fed-by call ≡ 0)) → (u ≡ 0) × (h ≡ 0)
     none-of (inl x) = let y = code-high k in absurd (omega (arith, x .1, y))
     none-of (inr (inl x)) = absurd (x a)
-    none-of (inr (inr x)) = absurd (x b)
+    none-of (inr (inr x)) = absurd (omega (arith, x, b))
 facts (elsewhere k) z = record { hands = (refl, refl, refl, refl); fits = zero-le; allowed = zero-le; nothing = λ x. (refl, refl); row = inl (code-row k) }
 
--- what holds of each call's answer holds of any
-module _ {A : Type 0} (P : A → Type 0) {f g e r : A} where
-  by-own : (call : ℕ) → (call ≡ 1 → P f) → P g → P e → P r → P (byCall call f g e r)
-  unfolding byCall
-  by-own zero x y z w = w
-  by-own (suc zero) x y z w = x refl
-  by-own (suc (suc zero)) x y z w = y
-  by-own (suc (suc (suc zero))) x y z w = z
-  by-own (suc (suc (suc (suc n)))) x y z w = w
-
-module _ (c : Connection) (call allow : ℕ) (piece : List ℕ) (alive : c .doors .code ≡ 0) where
+module _ (c : Connection) (own : CoreOwn) (allow : ℕ) (piece : List ℕ) (alive : c .doors .code ≡ 0) where
   -- a request's
   abbrev Replies : Reply → Type 0
-  Replies a = Answers c call allow piece (a .number) (a .event) (a .start) (a .len) (a .used) (a .heads) 0
+  Replies a = Answers c (CoreCall.On own) allow piece (a .number) (a .event) (a .start) (a .len) (a .used) (a .heads) 0
 
-  said-answers : (r : Record) (u h : ℕ) (e : F.Event) (o : Outcome Message) → call ≡ 1 → u ≤ length piece → h ≤ allow → Replies (reply.saidBy r u h e o)
+  said-answers : (r : Record) (u h : ℕ) (e : F.Event) (o : Outcome Message) → own ≡ CoreOwn.Feed → u ≤ length piece → h ≤ allow → Replies (reply.saidBy r u h e o)
   unfolding reply.saidBy
-  said-answers r u h F.quiet (M.dies n) z f g = in-feed n alive z f g
-  said-answers r u h (F.content-bytes len) (M.dies n) z f g = in-feed n alive z f g
-  said-answers r u h (F.section-bytes len false) (M.dies n) z f g = in-feed n alive z f g
-  said-answers r u h (F.section-bytes len true) (M.dies n) z f g = in-feed n alive z f g
-  said-answers r u h (F.taken k payload) (M.dies n) z f g = in-feed n alive z f g
+  said-answers r u h F.quiet (M.dies n) z f g = in-feed n alive (rw z refl) f g
+  said-answers r u h (F.content-bytes len) (M.dies n) z f g = in-feed n alive (rw z refl) f g
+  said-answers r u h (F.section-bytes len false) (M.dies n) z f g = in-feed n alive (rw z refl) f g
+  said-answers r u h (F.section-bytes len true) (M.dies n) z f g = in-feed n alive (rw z refl) f g
+  said-answers r u h (F.taken k payload) (M.dies n) z f g = in-feed n alive (rw z refl) f g
   said-answers r u h F.quiet (M.lives s) z f g = accepts
   said-answers r u h (F.content-bytes len) (M.lives s) z f g = accepts
   said-answers r u h (F.section-bytes len false) (M.lives s) z f g = accepts
@@ -230,10 +231,10 @@ module _ (c : Connection) (call allow : ℕ) (piece : List ℕ) (alive : c .door
   end-answers r (fault n place) = elsewhere n
   end-answers r (waits place) = of-house table.section-due
 
-  request-answers : (r : Record) (s : State Message) → Replies (requestAs call allow piece r s)
+  request-answers : (r : Record) (s : State Message) → Replies (requestAs own allow piece r s)
   request-answers r s =
       let f = F.feed (asking-rules document) allow s piece in
-      by-own Replies call
+      by-any Replies own
       (λ z. due-answers _ _ s (of-house table.section-due) (said-answers r (f .used) (f .heads) (f .event) (f .after) z (feed-runs (asking-rules document) allow 0 s piece .fits) (feed-allows (asking-rules document) allow s piece)))
       (due-answers _ _ s (read-answers r s (lines piece)) (of-house table.no-section))
       (end-answers r (M.finish (asking-rules document) 0 s))
@@ -241,12 +242,12 @@ module _ (c : Connection) (call allow : ℕ) (piece : List ℕ) (alive : c .door
 
   -- a one-way stream's
   abbrev Hears : Heard → Type 0
-  Hears a = Answers c call allow piece (a .number) (a .event) (a .start) (a .len) (a .used) (a .heads) (a .value)
+  Hears a = Answers c (CoreCall.On own) allow piece (a .number) (a .event) (a .start) (a .len) (a .used) (a .heads) (a .value)
 
-  heard-answers : (r : Record) (d : Side) (u h : ℕ) (e : OneEvent) (o : OneOutcome) → call ≡ 1 → u ≤ length piece → h ≤ allow → Hears (side.saidBy r d u h e o)
+  heard-answers : (r : Record) (d : Side) (u h : ℕ) (e : OneEvent) (o : OneOutcome) → own ≡ CoreOwn.Feed → u ≤ length piece → h ≤ allow → Hears (side.saidBy r d u h e o)
   unfolding side.saidBy
-  heard-answers r d u h (O.of-frames e) (O.dies n) z f g = in-feed n alive z f g
-  heard-answers r d u h (O.qpack-bytes q len) (O.dies n) z f g = in-feed n alive z f g
+  heard-answers r d u h (O.of-frames e) (O.dies n) z f g = in-feed n alive (rw z refl) f g
+  heard-answers r d u h (O.qpack-bytes q len) (O.dies n) z f g = in-feed n alive (rw z refl) f g
   heard-answers r d u h (O.of-frames e) (O.lives s) z f g = accepts
   heard-answers r d u h (O.qpack-bytes q len) (O.lives s) z f g = accepts
 
@@ -257,11 +258,11 @@ module _ (c : Connection) (call allow : ℕ) (piece : List ℕ) (alive : c .door
   close-answers r d (O.in-qpack q) = elsewhere (of-connection closed-critical-stream)
   close-answers r d O.in-skipped = accepts
 
-  one-way-answers : (r : Record) (d : Side) (s : OneState) → Hears (oneWayAs call allow piece r d s)
+  one-way-answers : (r : Record) (d : Side) (s : OneState) → Hears (oneWayAs own allow piece r d s)
   one-way-answers r d s =
       let seen = typesOf (d .control) (d .encoder) (d .decoder) in
       let f = O.feed seen allow s piece in
-      by-own Hears call (λ z. heard-answers r d (f .used) (f .heads) (f .event) (f .after) z (one-fits seen allow s piece .fits) (one-allows seen allow s piece)) (of-house table.no-section) (close-answers r d s) (close-answers r d s)
+      by-any Hears own (λ z. heard-answers r d (f .used) (f .heads) (f .event) (f .after) z (one-fits seen allow s piece .fits) (one-allows seen allow s piece)) (of-house table.no-section) (close-answers r d s) (close-answers r d s)
 
 -- ---- an opening
 
@@ -309,25 +310,25 @@ module _ (P : Opening → Type 0) (d : Doors) (id : ℕ) (accepted : (next : Doo
 
 -- ---- every call on a stream
 
-abbrev Reports : (c : Connection) (call allow : ℕ) (piece : List ℕ) → Report → Type 0
+abbrev Reports : (c : Connection) (call : CoreCall) (allow : ℕ) (piece : List ℕ) → Report → Type 0
 Reports c call allow piece r = Answers c call allow piece (r .number) (r .event) (r .start) (r .len) (r .used) (r .heads) (r .value)
 
-module _ {c : Connection} {f : Found} {call id allow : ℕ} {piece : List ℕ} {t : Turn} where
+module _ {c : Connection} {f : Found} {call : CoreCall} {id allow : ℕ} {piece : List ℕ} {t : Turn} where
   turned-answers : Turned c f call id allow piece t → Reports c call allow piece (t .report)
   turned-answers (other-row x q) = subst (Reports c call allow piece) (sym (ap (λ y. y .report) q)) (of-house table.other-row)
   turned-answers (dead l x q) = subst (Reports c call allow piece) (sym (ap (λ y. y .report) q)) dead-already
   turned-answers (opens v e q) = subst (Reports c call allow piece) (sym (ap (λ y. y .report) q))
       (opening-goes (λ o. Answers c call allow piece (o .number) 0 0 0 0 0 0) (c .doors) id (λ next. accepts) (of-house table.not-next) (of-house table.no-record) (λ x. elsewhere (of-stream request-rejected)) (c .doors .code) (freeAt (f .at)) (v .alive))
   turned-answers (not-open v x s q) = subst (Reports c call allow piece) (sym (ap (λ y. y .report) q)) (of-house table.not-open)
-  turned-answers (request v x l o q s) = subst (Reports c call allow piece) (sym (ap (λ y. y .report) q)) (request-answers c call allow piece (v .alive) (f .row) (stateIn (f .row)))
-  turned-answers (one-way v x l h q s) = subst (Reports c call allow piece) (sym (ap (λ y. y .report) q)) (one-way-answers c call allow piece (v .alive) (f .row) (sideIn c) (stateHere (f .row) (sideIn c)))
+  turned-answers (request {own} v x l o q s) = subst (Reports c call allow piece) (sym (ap (λ y. y .report) q)) (rw x (request-answers c own allow piece (v .alive) (f .row) (stateIn (f .row))))
+  turned-answers (one-way {own} v x l h q s) = subst (Reports c call allow piece) (sym (ap (λ y. y .report) q)) (rw x (one-way-answers c own allow piece (v .alive) (f .row) (sideIn c) (stateHere (f .row) (sideIn c))))
 
-module _ {c : Connection} {rows : List Record} {call id allow : ℕ} {piece : List ℕ} {c′ : Connection} {rows′ : List Record} {r : Report} (m : Stepped c rows call id allow piece c′ rows′ r) where
+module _ {c : Connection} {rows : List Record} {call : CoreCall} {id allow : ℕ} {piece : List ℕ} {c′ : Connection} {rows′ : List Record} {r : Report} (m : Stepped c rows call id allow piece c′ rows′ r) where
   stepped-facts : ¬ (r .number ≡ 0) → Facts c call allow piece (r .number) (r .event) (r .start) (r .len) (r .used) (r .heads) (r .value)
   stepped-facts z = facts (subst (Reports c call allow piece) (sym (m .answered)) (turned-answers (m .turned))) z
 
   -- a call that is no feed counts nothing
-  refused-other : (k : Call streams) → ((x : CountsNothing r) → Counts c k r) → ¬ (call ≡ 1) → ¬ (r .number ≡ 0) → Refused c k (a-report r)
+  refused-other : (k : Call streams) → ((x : CountsNothing r) → Counts c k r) → fed-by call ≡ 0 → ¬ (r .number ≡ 0) → Refused c k (a-report r)
   unfolding numberIn
   refused-other k so n z = let f = stepped-facts z in record { hands-nothing = f .hands; counts = so (f .nothing (inr (inr n))); numbered = f .row }
 
@@ -335,7 +336,7 @@ module _ {c : Connection} {rows : List Record} {call id allow : ℕ} {piece : Li
   unfolding numberIn
   refused-feed j z = let f = stepped-facts z in record { hands-nothing = f .hands; counts = (f .fits, f .allowed, λ x. f .nothing (by x)); numbered = f .row }
     where
-      by : OfHouse (r .number) ⊎ (¬ (c .doors .code ≡ 0)) → OfHouse (r .number) ⊎ ((¬ (c .doors .code ≡ 0)) ⊎ (¬ (call ≡ 1)))
+      by : OfHouse (r .number) ⊎ (¬ (c .doors .code ≡ 0)) → OfHouse (r .number) ⊎ ((¬ (c .doors .code ≡ 0)) ⊎ (fed-by call ≡ 0))
       by (inl x) = inl x
       by (inr x) = inr (inl x)
 
@@ -392,11 +393,11 @@ written-facts dead-writes z = (refl, inr refl)
 pub refused-in-memory : {c : Connection} {rows : List Record} {k : Call streams} {x : Seen} {c′ : Connection} {rows′ : List Record} → Does c rows k x c′ rows′ → ¬ (numberIn x ≡ 0) → Refused c k x
 unfolding numberIn
 refused-in-memory {c} {rows} (starts m) z = record { hands-nothing = tt; counts = tt; numbered = inl (subst InTable (sym (m .answered)) (begun-goes (λ n. ¬ (n ≡ 0) → InTable n) c (length rows) (λ x. absurd (x refl)) (λ x. house-row table.other-row) (λ e. z (m .answered ∙ e)))) }
-refused-in-memory (opens-one {id = id} m) z = refused-other m (open′ id) (λ x. x) (λ e. omega arith) z
+refused-in-memory (opens-one {id = id} m) z = refused-other m (open′ id) (λ x. x) refl z
 refused-in-memory (feeds {id = id} m) z = refused-feed m id z
-refused-in-memory (gives {id = id} {block = block} m) z = refused-other m (on id (section block)) (λ x. x) (λ e. omega arith) z
-refused-in-memory (ends {id = id} m) z = refused-other m (on id end) (λ x. x) (λ e. omega arith) z
-refused-in-memory (resets {id = id} m) z = refused-other m (on id reset) (λ x. x) (λ e. omega arith) z
+refused-in-memory (gives {id = id} {block = block} m) z = refused-other m (on id (section block)) (λ x. x) refl z
+refused-in-memory (ends {id = id} m) z = refused-other m (on id end) (λ x. x) refl z
+refused-in-memory (resets {id = id} m) z = refused-other m (on id reset) (λ x. x) refl z
 refused-in-memory (goes-away m) z = let f = written-facts (said-writes m) z in record { hands-nothing = f .0; counts = tt; numbered = f .1 }
 
 -- ---- a stream fault
@@ -445,10 +446,10 @@ module _ (r : Record) where
   end-freed (fault n place) = code-freed n
   end-freed (waits place) = small-none 4 (omega arith)
 
-  request-freed : (call allow : ℕ) (piece : List ℕ) (s : State Message) → Freed (requestAs call allow piece r s)
-  request-freed call allow piece s =
+  request-freed : (own : CoreOwn) (allow : ℕ) (piece : List ℕ) (s : State Message) → Freed (requestAs own allow piece r s)
+  request-freed own allow piece s =
       let f = F.feed (asking-rules document) allow s piece in
-      by-own Freed call
+      by-any Freed own
       (λ z. due-freed (reply.refused 4 r) (reply.said r f) s (small-none 4 (omega arith)) (said-freed (f .used) (f .heads) (f .event) (f .after)))
       (due-freed (reply.readAs r s (lines piece)) (reply.refused 5 r) s (read-freed s (lines piece)) (small-none 5 (omega arith)))
       (end-freed (M.finish (asking-rules document) 0 s))
@@ -475,28 +476,28 @@ close-none r d (O.in-control s) = listed-none (of-connection closed-critical-str
 close-none r d (O.in-qpack q) = listed-none (of-connection closed-critical-stream) tt
 close-none r d O.in-skipped = small-none 0 (omega arith)
 
-one-way-none : (call allow : ℕ) (piece : List ℕ) (r : Record) (d : Side) (s : OneState) → NoStreamFault (oneWayAs call allow piece r d s)
-one-way-none call allow piece r d s =
+one-way-none : (own : CoreOwn) (allow : ℕ) (piece : List ℕ) (r : Record) (d : Side) (s : OneState) → NoStreamFault (oneWayAs own allow piece r d s)
+one-way-none own allow piece r d s =
     let seen = typesOf (d .control) (d .encoder) (d .decoder) in
     let f = O.feed seen allow s piece in
-    by-own NoStreamFault call (λ z. heard-none r d (f .used) (f .heads) (f .event) (f .after) (λ k e. one-way-listed seen allow s piece k e)) (small-none 5 (omega arith)) (close-none r d s) (close-none r d s)
+    by-any NoStreamFault own (λ z. heard-none r d (f .used) (f .heads) (f .event) (f .after) (λ k e. one-way-listed seen allow s piece k e)) (small-none 5 (omega arith)) (close-none r d s) (close-none r d s)
 
-module _ {c : Connection} {f : Found} {call id allow : ℕ} {piece : List ℕ} {t : Turn} (alive : c .doors .code ≡ 0) (z : IsStreamFault (t .report .number)) where
-  pub turned-freed : ¬ (call ≡ 0) → Turned c f call id allow piece t → (t .conn ≡ c) × (t .row ≡ free-record) × (f .at < f .len)
+module _ {c : Connection} {f : Found} {call : CoreCall} {id allow : ℕ} {piece : List ℕ} {t : Turn} (alive : c .doors .code ≡ 0) (z : IsStreamFault (t .report .number)) where
+  pub turned-freed : {own : CoreOwn} → call ≡ CoreCall.On own → Turned c f call id allow piece t → (t .conn ≡ c) × (t .row ≡ free-record) × (f .at < f .len)
   turned-freed b (other-row x q) = never 9 (omega arith) (ap (λ y. y .report .number) q) z
   turned-freed b (dead l x q) = absurd (x alive)
-  turned-freed b (opens v e q) = absurd (b e)
+  turned-freed b (opens v e q) = absurd (open-not-on e b)
   turned-freed b (not-open v x s q) = never 1 (omega arith) (ap (λ y. y .report .number) q) z
-  turned-freed b (request v x l o q s) =
-      let a = requestAs call allow piece (f .row) (stateIn (f .row)) in
+  turned-freed b (request {own} v x l o q s) =
+      let a = requestAs own allow piece (f .row) (stateIn (f .row)) in
       let i : t .report .number ≡ a .number = ap (λ y. y .report .number) q in
       let y : IsStreamFault (a .number) = (z .0, sym i ∙ z .1) in
       let k = v .long in
-      (ap (λ w. w .conn) q ∙ ap (codeKept c) (y .1) ∙ stream-keeps-none c (y .0), ap (λ w. w .row) q ∙ request-freed (f .row) call allow piece (stateIn (f .row)) y, omega arith)
-  turned-freed b (one-way v x l h q s) = absurd (one-way-none call allow piece (f .row) (sideIn c) (stateHere (f .row) (sideIn c)) (subst IsStreamFault (ap (λ y. y .report .number) q) z))
+      (ap (λ w. w .conn) q ∙ ap (codeKept c) (y .1) ∙ stream-keeps-none c (y .0), ap (λ w. w .row) q ∙ request-freed (f .row) own allow piece (stateIn (f .row)) y, omega arith)
+  turned-freed b (one-way {own} v x l h q s) = absurd (one-way-none own allow piece (f .row) (sideIn c) (stateHere (f .row) (sideIn c)) (subst IsStreamFault (ap (λ y. y .report .number) q) z))
 
   -- of an opening: barred
-  turned-spent : call ≡ 0 → Turned c f call id allow piece t → (id ≡ c .doors .requests) × (t .conn ≡ withDoors c (nextRequest (c .doors))) × (t .row ≡ f .row)
+  turned-spent : call ≡ CoreCall.Open → Turned c f call id allow piece t → (id ≡ c .doors .requests) × (t .conn ≡ withDoors c (nextRequest (c .doors))) × (t .row ≡ f .row)
   turned-spent b (other-row x q) = never 9 (omega arith) (ap (λ y. y .report .number) q) z
   turned-spent b (dead l x q) = absurd (x alive)
   turned-spent b (opens v e q) =
@@ -505,23 +506,23 @@ module _ {c : Connection} {f : Found} {call id allow : ℕ} {piece : List ℕ} {
       let w = opening-goes (λ o. IsStreamFault (o .number) → (id ≡ c .doors .requests) × (o .doors ≡ nextRequest (c .doors)) × (¬ (o .number ≡ 0))) (c .doors) id
       (λ next. small-none 0 (omega arith)) (small-none 2 (omega arith)) (small-none 3 (omega arith)) (λ x y. (x, refl, λ n. omega arith)) (c .doors .code) (freeAt (f .at)) (v .alive) (subst IsStreamFault i z) in
       (w .0, ap (λ y. y .conn) q ∙ ap (withDoors c) (w .1), ap (λ y. y .row) q ∙ sym (taken-none id (f .row) (o .number) (w .2) refl))
-  turned-spent b (not-open v x s q) = absurd (x b)
-  turned-spent b (request v x l o q s) = absurd (x b)
-  turned-spent b (one-way v x l h q s) = absurd (x b)
+  turned-spent b (not-open v x s q) = absurd (open-not-on b x)
+  turned-spent b (request v x l o q s) = absurd (open-not-on b x)
+  turned-spent b (one-way v x l h q s) = absurd (open-not-on b x)
 
-module _ {c : Connection} {rows : List Record} {call id allow : ℕ} {piece : List ℕ} {c′ : Connection} {rows′ : List Record} {r : Report} (alive : c .doors .code ≡ 0) (m : Stepped c rows call id allow piece c′ rows′ r) (z : IsStreamFault (r .number)) where
+module _ {c : Connection} {rows : List Record} {call : CoreCall} {id allow : ℕ} {piece : List ℕ} {c′ : Connection} {rows′ : List Record} {r : Report} (alive : c .doors .code ≡ 0) (m : Stepped c rows call id allow piece c′ rows′ r) (z : IsStreamFault (r .number)) where
   its : IsStreamFault (m .turn .report .number)
   its = subst IsStreamFault (ap (λ (y : Report). y .number) (m .answered)) z
 
-  stepped-freed : ¬ (call ≡ 0) → (c′ ≡ c) × Frees id rows rows′
+  stepped-freed : {own : CoreOwn} → call ≡ CoreCall.On own → (c′ ≡ c) × Frees id rows rows′
   stepped-freed b =
       let u = turned-freed alive its b (m .turned) in
       let l : m .found .at < length rows = subst (λ n. m .found .at < n) (m .is-found .long) (u .2) in (
         m .conn-left ∙ u .0,
-        record { at = m .found .at; there = l; own = wanted-belongs id (getD rows (m .found .at) free-record) call b (m .is-found .there l); freed = m .rows-left ∙ ap (set rows (m .found .at)) (u .1) },
+        record { at = m .found .at; there = l; own = wanted-belongs id (getD rows (m .found .at) free-record) b (m .is-found .there l); freed = m .rows-left ∙ ap (set rows (m .found .at)) (u .1) },
       )
 
-  stepped-spent : call ≡ 0 → Spends id c c′ × (rows′ ≡ rows)
+  stepped-spent : call ≡ CoreCall.Open → Spends id c c′ × (rows′ ≡ rows)
   stepped-spent b =
       let u = turned-spent alive its b (m .turned) in
       (record { next = u .0; spent = m .conn-left ∙ u .1 }, m .rows-left ∙ ap (set rows (m .found .at)) (u .2 ∙ m .is-found .row) ∙ set-getD rows (m .found .at) free-record)
@@ -537,8 +538,8 @@ pub stream-fault : {c : Connection} {rows : List Record} {k : Call streams} {x :
 unfolding numberIn
 stream-fault {c} {rows} a (starts m) z = begun-goes (λ n. IsStreamFault n → ⊥) c (length rows) (small-none 0 (omega arith)) (small-none 9 (omega arith)) (subst IsStreamFault (m .answered) z)
 stream-fault a (opens-one m) z = stepped-spent a m z refl
-stream-fault a (feeds m) z = stepped-freed a m z (λ e. omega arith)
-stream-fault a (gives m) z = stepped-freed a m z (λ e. omega arith)
-stream-fault a (ends m) z = stepped-freed a m z (λ e. omega arith)
-stream-fault a (resets m) z = stepped-freed a m z (λ e. omega arith)
+stream-fault a (feeds m) z = stepped-freed a m z refl
+stream-fault a (gives m) z = stepped-freed a m z refl
+stream-fault a (ends m) z = stepped-freed a m z refl
+stream-fault a (resets m) z = stepped-freed a m z refl
 stream-fault a (goes-away m) z = writes-no-fault a (said-writes m) z

@@ -12,11 +12,13 @@ use Rattle.requests.specs.Reply.{stateIn}
 use Rattle.connection.specs.Goaway.{sentAs}
 use Rattle.oneway.specs.declared.calls.Side.{Side}
 use Rattle.oneway.specs.Heard.{stateHere}
+use Rattle.connection.specs.declared.Call.{Call as CoreCall}
+use Rattle.connection.specs.declared.Own.{Own as CoreOwn}
 use Rattle.connection.specs.declared.Connection.{Connection}
 use Rattle.connection.specs.declared.Report.{Report}
 use Rattle.connection.specs.declared.Written.{Written}
 use Rattle.connection.specs.Halves.{sideIn}
-use Rattle.connection.specs.Turned.{byCall, told, numbered}
+use Rattle.connection.specs.Turned.{byOwn, told, numbered}
 use Rattle.demands.specs.Streams.{connCode, Keeps, streams}
 
 -- ---- the row
@@ -56,14 +58,12 @@ pairOf c rows = record { conn = connOf c; row = rowOf (sideIn c) rows }
 
 -- ---- the calls
 
--- 1 a feed, 2 a section, 3 the end, any other a reset
-abbrev pub ownOf : (call allow : ℕ) → (piece : List ℕ) → Own streams
-ownOf call allow piece = byCall call (feed allow piece) (section piece) end reset
+abbrev pub ownOf : CoreOwn → (allow : ℕ) → (piece : List ℕ) → Own streams
+ownOf own allow piece = byOwn own (feed allow piece) (section piece) end reset
 
--- 0 an opening
-unfoldable pub callOf : (call id allow : ℕ) → (piece : List ℕ) → Call streams
-callOf zero id allow piece = open′ id
-callOf (suc call) id allow piece = on id (ownOf (suc call) allow piece)
+unfoldable pub callOf : CoreCall → (id allow : ℕ) → (piece : List ℕ) → Call streams
+callOf CoreCall.Open id allow piece = open′ id
+callOf (CoreCall.On own) id allow piece = on id (ownOf own allow piece)
 
 -- ---- the answers: events are numbered as docs/DECISIONS N13 has them
 

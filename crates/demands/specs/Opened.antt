@@ -25,6 +25,7 @@ use Rattle.connection.specs.declared.doors.Opening.{Opening}
 use Rattle.connection.specs.Openings.{refusal, barredAt, nextRequest, nextOneWay, admittedAs, requestOf, oneWayOf, openedOf, open-above, open-request, open-one-way, open-none}
 use Rattle.connection.specs.Goaway.{sentAs}
 use Rattle.oneway.specs.declared.calls.Side.{Side}
+use Rattle.connection.specs.declared.Call.{Call as CoreCall}
 use Rattle.connection.specs.declared.Connection.{Connection}
 use Rattle.connection.specs.declared.Found.{Found}
 use Rattle.connection.specs.Whose.{Vacant, Wanted, FoundIn}
@@ -70,7 +71,7 @@ first-one-way d id r e = rw e refl
 
 -- ---- the calls
 
-module _ (c : Connection) (rows : List Record) (paired : Paired c rows) (id : ℕ) (f : Found) (found : FoundIn 0 id rows f) where
+module _ (c : Connection) (rows : List Record) (paired : Paired c rows) (id : ℕ) (f : Found) (found : FoundIn CoreCall.Open id rows f) where
   vacant : f .at < length rows → Vacant (getD rows (f .at) free-record)
   unfolding Wanted
   vacant l = found .there l

@@ -34,9 +34,10 @@ use Rattle.oneway.specs.Mirror.{keptNumbers, sideAfter}
 use Rattle.oneway.specs.Heard as side
 use Rattle.oneway.specs.Heard.{Heeds, placeHere, sofarHere, stateHere, takenNumber, valueIn, frameEvent, frameValue, typeNumber, feeding, fedHere, closedBy}
 use Rattle.oneway.specs.Back.{set-back}
+use Rattle.connection.specs.declared.Own.{Own as CoreOwn}
 use Rattle.connection.specs.declared.Connection.{Connection}
 use Rattle.connection.specs.Halves.{sideIn, withSide}
-use Rattle.connection.specs.Turned.{byCall, told, turn, oneWayAs, StaysOn, overheard}
+use Rattle.connection.specs.Turned.{byOwn, told, turn, oneWayAs, StaysOn, overheard}
 use Rattle.connection.specs.Leavings.{Standing, controls, others, standing, control-once, control-kind}
 use Rattle.connection.specs.Pair.{Paired}
 use Rattle.demands.specs.Streams as streams
@@ -324,7 +325,7 @@ module _ (c : Connection) (rows : List Record) (p : Paired c rows) (at : ℕ) (r
   close-comes (O.in-qpack q) = kill-comes closed-critical-stream 0 0
   close-comes O.in-skipped = leaves (code-none c free-record (told 0 12 0 0 0 0 0) 0 refl)
 
-  fed-comes : OneSuits state → StaysOn 1 allow piece r here (fedHere r here allow piece state) → Told (fedHere r here allow piece state) (ofFed (streams.heardOf (keepsOf here) (O.feed (typesIn (keepsOf here)) allow state piece)))
+  fed-comes : OneSuits state → StaysOn CoreOwn.Feed allow piece r here (fedHere r here allow piece state) → Told (fedHere r here allow piece state) (ofFed (streams.heardOf (keepsOf here) (O.feed (typesIn (keepsOf here)) allow state piece)))
   fed-comes fits stays =
       let f = feeding here allow piece state in
       let q = types-same here in
@@ -332,11 +333,11 @@ module _ (c : Connection) (rows : List Record) (p : Paired c rows) (at : ℕ) (r
 
   -- ---- EVERY CALL
 
-  pub one-way-comes : OneSuits state → (call : ℕ) → StaysOn call allow piece r here (oneWayAs call allow piece r here state)
-      → Comes c rows at (r .id) r (overheard c (oneWayAs call allow piece r here state)) (actOn (connOf c .kept) (telling state) (ownOf call allow piece))
-  unfolding actOn act₁ byCall
-  one-way-comes fits call stays =
-      by-each (λ (a : Heard) (x : Own streams.streams). Comes c rows at (r .id) r (overheard c a) (actOn (connOf c .kept) (telling state) x)) call
+  pub one-way-comes : OneSuits state → (own : CoreOwn) → StaysOn own allow piece r here (oneWayAs own allow piece r here state)
+      → Comes c rows at (r .id) r (overheard c (oneWayAs own allow piece r here state)) (actOn (connOf c .kept) (telling state) (ownOf own allow piece))
+  unfolding actOn act₁ byOwn
+  one-way-comes fits own stays =
+      by-each (λ (a : Heard) (x : Own streams.streams). Comes c rows at (r .id) r (overheard c a) (actOn (connOf c .kept) (telling state) x)) own
       (λ z. fed-comes fits (rw z at stays))
       (unfold mapOut in refuses (code-house c r (told 5 0 0 0 0 0 0) no-section))
       (close-comes state)

@@ -21,13 +21,14 @@ use Rattle.record.specs.Row.{requestRecord, free-record}
 use Rattle.requests.specs.Reply.{frees, freedIf, saidBy, unlessDue, endedBy, stateIn}
 use Rattle.requests.specs.Opens.{begins-open, begins-fresh}
 use Rattle.connection.specs.Openings as doors
+use Rattle.connection.specs.declared.Own.{Own as CoreOwn}
 use Rattle.connection.specs.declared.Connection.{Connection}
 use Rattle.connection.specs.declared.Report.{Report}
 use Rattle.connection.specs.declared.Found.{Found}
 use Rattle.connection.specs.Halves.{stream-id, withDoors}
 use Rattle.connection.specs.Faults.{keeps, keptIf, withCode}
 use Rattle.connection.specs.Whose.{Wanted}
-use Rattle.connection.specs.Turned.{fresh-connection, told, numbered, turn, unaltered, firstAs, takenBy, freeAt, openedAt, byCall, requestAs, replied, other-row, opens, request, begunOf, sweptOf}
+use Rattle.connection.specs.Turned.{fresh-connection, told, numbered, turn, unaltered, firstAs, takenBy, freeAt, openedAt, byOwn, requestAs, replied, other-row, opens, request, begunOf, sweptOf}
 use Rattle.demands.specs.Streams.{streams}
 use Rattle.demands.specs.Runs.{Seen, a-report, seenIn, numberIn, Does, starts, opens-one, feeds, ends as ends-one}
 use Rattle.demands.specs.Host.{Run, begun, then-called, meant}
@@ -90,8 +91,8 @@ nine-so = ends-one (record {
 abbrev pub frame : List ℕ
 frame = 0x21 ∷ 0x00 ∷ []
 
-frame-read : replied one-spent (requestAs 1 1 frame asking (between opening)) ≡ turn one-spent asking (told 0 0 0 0 2 1 0)
-unfolding lookup extra column kindOf ruleFor rule numberOf answers-of namedIn named leaves after fed typed machine.over with-left F.halt F.also F.onward F.over-event F.left-event F.behind-header F.feed saidBy unlessDue keeps keptIf byCall
+frame-read : replied one-spent (requestAs CoreOwn.Feed 1 frame asking (between opening)) ≡ turn one-spent asking (told 0 0 0 0 2 1 0)
+unfolding lookup extra column kindOf ruleFor rule numberOf answers-of namedIn named leaves after fed typed machine.over with-left F.halt F.also F.onward F.over-event F.left-event F.behind-header F.feed saidBy unlessDue keeps keptIf byOwn
 frame-read = refl
 
 fed-so : Does one-spent one-open (on 0 (feed 1 frame)) (a-report (told 0 0 0 0 2 1 0)) one-spent one-open
@@ -100,8 +101,8 @@ fed-so = feeds (record {
   found = at-first asking;
   turn = turn one-spent asking (told 0 0 0 0 2 1 0);
   is-found = record { long = refl; within = omega arith; before = λ j l. absurd (omega arith); there = λ l. record { taken = λ e. omega arith; own = refl }; row = refl };
-  turned = request (record { long = refl; alive = refl }) (λ e. omega arith) (omega arith) (begins-open 0 (omega arith) refl)
-      (sym (ap (λ s. replied one-spent (requestAs 1 1 frame asking s)) (begins-fresh 0) ∙ frame-read)) (λ e. inl (begins-open 0 (omega arith) refl));
+  turned = request (record { long = refl; alive = refl }) refl (omega arith) (begins-open 0 (omega arith) refl)
+      (sym (ap (λ s. replied one-spent (requestAs CoreOwn.Feed 1 frame asking s)) (begins-fresh 0) ∙ frame-read)) (λ e. inl (begins-open 0 (omega arith) refl));
   conn-left = refl;
   rows-left = refl;
   answered = refl;
@@ -111,8 +112,8 @@ fed-so = feeds (record {
 abbrev pub early-data : List ℕ
 early-data = 0x00 ∷ 0x00 ∷ []
 
-early-read : replied one-spent (requestAs 1 1 early-data asking (between opening)) ≡ turn (withCode FRAME-UNEXPECTED one-spent) asking (told FRAME-UNEXPECTED 0 0 0 2 1 0)
-unfolding lookup extra column kindOf ruleFor rule numberOf answers-of namedIn named leaves after fed typed machine.over with-left F.halt F.also F.onward F.over-event F.left-event F.behind-header F.feed saidBy unlessDue keeps keptIf frees freedIf byCall data-rule carries codeOf
+early-read : replied one-spent (requestAs CoreOwn.Feed 1 early-data asking (between opening)) ≡ turn (withCode FRAME-UNEXPECTED one-spent) asking (told FRAME-UNEXPECTED 0 0 0 2 1 0)
+unfolding lookup extra column kindOf ruleFor rule numberOf answers-of namedIn named leaves after fed typed machine.over with-left F.halt F.also F.onward F.over-event F.left-event F.behind-header F.feed saidBy unlessDue keeps keptIf frees freedIf byOwn data-rule carries codeOf
 early-read = refl
 
 died-so : Does one-spent one-open (on 0 (feed 1 early-data)) (a-report (told FRAME-UNEXPECTED 0 0 0 2 1 0)) (withCode FRAME-UNEXPECTED one-spent) one-open
@@ -121,15 +122,15 @@ died-so = feeds (record {
   found = at-first asking;
   turn = turn (withCode FRAME-UNEXPECTED one-spent) asking (told FRAME-UNEXPECTED 0 0 0 2 1 0);
   is-found = record { long = refl; within = omega arith; before = λ j l. absurd (omega arith); there = λ l. record { taken = λ e. omega arith; own = refl }; row = refl };
-  turned = request (record { long = refl; alive = refl }) (λ e. omega arith) (omega arith) (begins-open 0 (omega arith) refl)
-      (sym (ap (λ s. replied one-spent (requestAs 1 1 early-data asking s)) (begins-fresh 0) ∙ early-read)) (λ e. inl (begins-open 0 (omega arith) refl));
+  turned = request (record { long = refl; alive = refl }) refl (omega arith) (begins-open 0 (omega arith) refl)
+      (sym (ap (λ s. replied one-spent (requestAs CoreOwn.Feed 1 early-data asking s)) (begins-fresh 0) ∙ early-read)) (λ e. inl (begins-open 0 (omega arith) refl));
   conn-left = refl;
   rows-left = refl;
   answered = refl;
 })
 
-end-read : replied one-spent (requestAs 3 0 [] asking (between opening)) ≡ turn one-spent free-record (numbered REQUEST-INCOMPLETE)
-unfolding ended ends codeOf end-of finish numberOf answers-of namedIn named leaves frees freedIf endedBy keeps keptIf byCall
+end-read : replied one-spent (requestAs CoreOwn.End 0 [] asking (between opening)) ≡ turn one-spent free-record (numbered REQUEST-INCOMPLETE)
+unfolding ended ends codeOf end-of finish numberOf answers-of namedIn named leaves frees freedIf endedBy keeps keptIf byOwn
 end-read = refl
 
 ended-so : Does one-spent one-open (on 0 end) (a-report (numbered REQUEST-INCOMPLETE)) one-spent all-free
@@ -138,8 +139,8 @@ ended-so = ends-one (record {
   found = at-first asking;
   turn = turn one-spent free-record (numbered REQUEST-INCOMPLETE);
   is-found = record { long = refl; within = omega arith; before = λ j l. absurd (omega arith); there = λ l. record { taken = λ e. omega arith; own = refl }; row = refl };
-  turned = request (record { long = refl; alive = refl }) (λ e. omega arith) (omega arith) (begins-open 0 (omega arith) refl)
-      (sym (ap (λ s. replied one-spent (requestAs 3 0 [] asking s)) (begins-fresh 0) ∙ end-read)) (λ e. absurd (omega arith));
+  turned = request (record { long = refl; alive = refl }) refl (omega arith) (begins-open 0 (omega arith) refl)
+      (sym (ap (λ s. replied one-spent (requestAs CoreOwn.End 0 [] asking s)) (begins-fresh 0) ∙ end-read)) (λ e. absurd (omega arith));
   conn-left = refl;
   rows-left = refl;
   answered = refl;

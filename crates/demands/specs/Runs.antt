@@ -47,6 +47,8 @@ use Rattle.oneway.specs.declared.calls.Side.{Side}
 use Rattle.oneway.specs.declared.calls.Heard.{Heard}
 use Rattle.oneway.specs.Heard as side
 use Rattle.oneway.specs.Heard.{stateHere}
+use Rattle.connection.specs.declared.Call.{Call as CoreCall}
+use Rattle.connection.specs.declared.Own.{Own as CoreOwn}
 use Rattle.connection.specs.declared.Connection.{Connection}
 use Rattle.connection.specs.declared.Report.{Report}
 use Rattle.connection.specs.declared.Found.{Found}
@@ -54,7 +56,9 @@ use Rattle.connection.specs.declared.Turn.{Turn}
 use Rattle.connection.specs.declared.Written.{Written}
 use Rattle.connection.specs.Halves.{stream-id, doorsIn, withDoors, sideIn, withSide}
 use Rattle.connection.specs.Faults.{withCode, Fault, kept-fault, kept-small}
-use Rattle.connection.specs.Turned.{byCall, unaltered, openedAt, requestAs, oneWayAs, Turned, other-row, dead, opens, not-open, request, one-way, sweptOf}
+use Rattle.connection.specs.Whose.{open-not-on}
+use Rattle.connection.specs.Leavings.{by-any}
+use Rattle.connection.specs.Turned.{byOwn, unaltered, openedAt, requestAs, oneWayAs, Turned, other-row, dead, opens, not-open, request, one-way, sweptOf}
 use Rattle.connection.specs.Ways.{begun-fresh, begun-other, swept-other, opening-refused}
 use Rattle.calls.specs.Promises.{Started, Stepped, Opened, Fed, Given, Ended, Reset, SaidGoaway}
 use Rattle.demands.specs.Streams.{Keeps, typesIn, isDue, eventOf, fedBy, isReadable, sectionOf, givenBy, endedBy, placeIn, keptBy, noticeOf, framesEvent, oneEvent, heardBy, closeOf, streams}
@@ -108,7 +112,7 @@ pub record Done (c : Connection) (rows : List Record) (k : Call streams) (x : Se
   pub stands : Stands c′ rows′
 
 module _ {c : Connection} {rows : List Record} (s : Stands c rows) where
-  on-stream : {n id allow : ℕ} {piece : List ℕ} {c′ : Connection} {rows′ : List Record} {r : Report} (k : Call streams) → callOf n id allow piece ≡ k → ((a : Answer) → seenOf k a ≡ a-report (reportOf a)) → Stepped c rows n id allow piece c′ rows′ r
+  on-stream : {core : CoreCall} {id allow : ℕ} {piece : List ℕ} {c′ : Connection} {rows′ : List Record} {r : Report} (k : Call streams) → callOf core id allow piece ≡ k → ((a : Answer) → seenOf k a ≡ a-report (reportOf a)) → Stepped c rows core id allow piece c′ rows′ r
       → Done c rows k (a-report r) c′ rows′
   on-stream k e v m = let t = stepped-traced s m in record {
     after = t .after ∙ ap (λ y. call y (pairOf c rows) .after) e;
@@ -117,7 +121,7 @@ module _ {c : Connection} {rows : List Record} (s : Stands c rows) where
   }
 
   pub does-so : {k : Call streams} {x : Seen} {c′ : Connection} {rows′ : List Record} → Does c rows k x c′ rows′ → Done c rows k x c′ rows′
-  unfolding seenOf callOf byCall call same reportOf
+  unfolding seenOf callOf byOwn call same reportOf
   does-so (starts m) = let long = s .paired .long in record { after = started-fresh long m; seen = ap a-number (started-number long m); stands = started-stands long m }
   does-so (opens-one {id = id} m) = on-stream (open′ id) refl (λ a. refl) m
   does-so (feeds {id = id} {allow = allow} {piece = piece} m) = on-stream (on id (feed allow piece)) refl (λ a. refl) m
@@ -164,13 +168,13 @@ record Untouched (c : Connection) (f : Found) (t : Turn) : Type 0 where
 unaltered-so : {c : Connection} {f : Found} {t : Turn} (k : ℕ) → t ≡ unaltered k c f → Untouched c f t
 unaltered-so k q = record { conn = ap (λ y. y .conn) q; row = ap (λ y. y .row) q }
 
-module _ {c : Connection} {rows : List Record} {n id allow : ℕ} {piece : List ℕ} {c′ : Connection} {rows′ : List Record} {r : Report} (m : Stepped c rows n id allow piece c′ rows′ r) where
+module _ {c : Connection} {rows : List Record} {core : CoreCall} {id allow : ℕ} {piece : List ℕ} {c′ : Connection} {rows′ : List Record} {r : Report} (m : Stepped c rows core id allow piece c′ rows′ r) where
   stored : Untouched c (m .found) (m .turn) → (c′ ≡ c) × (rows′ ≡ rows)
   stored u = (m .conn-left ∙ u .conn, m .rows-left ∙ ap (set rows (m .found .at)) (u .row ∙ m .is-found .row) ∙ set-getD rows (m .found .at) free-record)
 
 -- ---- a row of another length: 9, before all else, and nothing altered
 
-module _ {c : Connection} {rows : List Record} {n id allow : ℕ} {piece : List ℕ} {c′ : Connection} {rows′ : List Record} {r : Report} (other : ¬ (length rows ≡ 24)) (m : Stepped c rows n id allow piece c′ rows′ r) where
+module _ {c : Connection} {rows : List Record} {core : CoreCall} {id allow : ℕ} {piece : List ℕ} {c′ : Connection} {rows′ : List Record} {r : Report} (other : ¬ (length rows ≡ 24)) (m : Stepped c rows core id allow piece c′ rows′ r) where
   pub nine : (c′ ≡ c) × (rows′ ≡ rows) × (r ≡ reportOf (house row-refused))
   unfolding reportOf
   nine = let q = by (m .turned) in let u = stored m (unaltered-so 9 q) in (u .0, u .1, m .answered ∙ ap (λ t. t .report) q)
@@ -178,7 +182,7 @@ module _ {c : Connection} {rows : List Record} {n id allow : ℕ} {piece : List 
       short : m .found .len ≡ 24 → ⊥
       short e = other (sym (m .is-found .long) ∙ e)
 
-      by : {t : Turn} → Turned c (m .found) n id allow piece t → t ≡ unaltered 9 c (m .found)
+      by : {t : Turn} → Turned c (m .found) core id allow piece t → t ≡ unaltered 9 c (m .found)
       by (other-row x q) = q
       by (dead l x q) = absurd (short l)
       by (opens v e q) = absurd (short (v .long))
@@ -208,16 +212,6 @@ FreesNone n = OfHouse n ⊎ Fault n
 not-zero : FreesNone 0 → ⊥
 not-zero (inl h) = omega arith
 not-zero (inr (f, e)) = let h = code-high (of-connection f) in omega arith
-
--- what holds of each call's answer holds of any
-module _ {A : Type 0} (P : A → Type 0) {f g e r : A} where
-  by-all : (call : ℕ) → P f → P g → P e → P r → P (byCall call f g e r)
-  unfolding byCall
-  by-all zero x y z w = w
-  by-all (suc zero) x y z w = x
-  by-all (suc (suc zero)) x y z w = y
-  by-all (suc (suc (suc zero))) x y z w = z
-  by-all (suc (suc (suc (suc n)))) x y z w = w
 
 -- a request's record
 record AsIs (r : Record) (a : Reply) : Type 0 where
@@ -273,11 +267,11 @@ module _ (r : Record) where
   end-as-is (fault n place) = code-as-is n 0 0
   end-as-is (waits place) = same-as-is _ _ _ _ _ _
 
-  request-as-is : (call allow : ℕ) (piece : List ℕ) (s : State Message) → AsIs r (requestAs call allow piece r s)
-  request-as-is call allow piece s =
+  request-as-is : (own : CoreOwn) (allow : ℕ) (piece : List ℕ) (s : State Message) → AsIs r (requestAs own allow piece r s)
+  request-as-is own allow piece s =
       let f = F.feed (asked.request document) allow s piece in
-      by-all (AsIs r) call
-      (due-as-is _ _ s (same-as-is 4 0 0 0 0 0) (said-as-is (f .used) (f .heads) (f .event) (f .after)))
+      by-any (AsIs r) own
+      (λ z. due-as-is _ _ s (same-as-is 4 0 0 0 0 0) (said-as-is (f .used) (f .heads) (f .event) (f .after)))
       (due-as-is _ _ s (read-as-is s (lines piece)) (same-as-is 5 0 0 0 0 0))
       (end-as-is (M.finish (asked.request document) 0 s))
       (zero-as-is _ _ _ _ _ _)
@@ -306,54 +300,54 @@ module _ (r : Record) (d : Side) where
   close-as-is₁ zero = zero-as-is₁ _ _ _ _ _ _ _ _
   close-as-is₁ (suc n) = same-as-is₁ (suc n) 0 0
 
-  one-way-as-is : (call allow : ℕ) (piece : List ℕ) (s : OneState) → AsIs₁ r d (oneWayAs call allow piece r d s)
-  one-way-as-is call allow piece s =
+  one-way-as-is : (own : CoreOwn) (allow : ℕ) (piece : List ℕ) (s : OneState) → AsIs₁ r d (oneWayAs own allow piece r d s)
+  one-way-as-is own allow piece s =
       let f = side.feeding d allow piece s in
-      by-all (AsIs₁ r d) call (said-as-is₁ (f .used) (f .heads) (f .event) (f .after)) (same-as-is₁ 5 0 0) (close-as-is₁ (closes s)) (close-as-is₁ (closes s))
+      by-any (AsIs₁ r d) own (λ z. said-as-is₁ (f .used) (f .heads) (f .event) (f .after)) (same-as-is₁ 5 0 0) (close-as-is₁ (closes s)) (close-as-is₁ (closes s))
 
 -- the turn
-module _ {c : Connection} {f : Found} {n id allow : ℕ} {piece : List ℕ} {t : Turn} where
-  house-turned : Turned c f n id allow piece t → OfHouse (t .report .number) → Untouched c f t
+module _ {c : Connection} {f : Found} {core : CoreCall} {id allow : ℕ} {piece : List ℕ} {t : Turn} where
+  house-turned : Turned c f core id allow piece t → OfHouse (t .report .number) → Untouched c f t
   house-turned (other-row x q) z = unaltered-so _ q
   house-turned (dead l x q) z = unaltered-so _ q
   house-turned (opens v e q) z =
       let k : t .report .number ≡ openedAt c f id .report .number = ap (λ y. y .report .number) q in
       unaltered-so _ (q ∙ opening-refused c f id (λ e. omega arith) (λ e. omega arith))
   house-turned (not-open v x s q) z = unaltered-so _ q
-  house-turned (request v x l o q s) z =
-      let a = requestAs n allow piece (f .row) (stateIn (f .row)) in
+  house-turned (request {own} v x l o q s) z =
+      let a = requestAs own allow piece (f .row) (stateIn (f .row)) in
       let k : t .report .number ≡ a .number = ap (λ y. y .report .number) q in
-      let i = request-as-is (f .row) n allow piece (stateIn (f .row)) in
+      let i = request-as-is (f .row) own allow piece (stateIn (f .row)) in
       record { conn = ap (λ y. y .conn) q ∙ sym (kept-small c (a .number) (omega arith)); row = ap (λ y. y .row) q ∙ i .row (inl (omega arith, omega arith)) }
-  house-turned (one-way v x l h q s) z =
-      let a = oneWayAs n allow piece (f .row) (sideIn c) (stateHere (f .row) (sideIn c)) in
+  house-turned (one-way {own} v x l h q s) z =
+      let a = oneWayAs own allow piece (f .row) (sideIn c) (stateHere (f .row) (sideIn c)) in
       let k : t .report .number ≡ a .number = ap (λ y. y .report .number) q in
-      let i = one-way-as-is (f .row) (sideIn c) n allow piece (stateHere (f .row) (sideIn c)) in
+      let i = one-way-as-is (f .row) (sideIn c) own allow piece (stateHere (f .row) (sideIn c)) in
       record {
         conn = ap (λ y. y .conn) q ∙ sym (kept-small (withSide c (a .side)) (a .number) (omega arith)) ∙ ap (withSide c) (i .side (inl (omega arith, omega arith)));
         row = ap (λ y. y .row) q ∙ i .row (inl (omega arith, omega arith));
       }
 
   -- and a connection fault of a call on a stream: the code, and all else byte for byte
-  fault-turned : ¬ (n ≡ 0) → Turned c f n id allow piece t → Fault (t .report .number) → (t .conn ≡ withCode (t .report .number) c) × (t .row ≡ f .row)
+  fault-turned : {own : CoreOwn} → core ≡ CoreCall.On own → Turned c f core id allow piece t → Fault (t .report .number) → (t .conn ≡ withCode (t .report .number) c) × (t .row ≡ f .row)
   fault-turned b (other-row x q) z = let k : t .report .number ≡ 9 = ap (λ y. y .report .number) q in let h = code-high (of-connection (z .0)) in let e = z .1 in absurd (omega arith)
   fault-turned b (dead l x q) z = let k : t .report .number ≡ c .doors .code = ap (λ y. y .report .number) q in (ap (λ y. y .conn) q ∙ ap (λ y. withCode y c) (sym k), ap (λ y. y .row) q)
-  fault-turned b (opens v e q) z = absurd (b e)
+  fault-turned b (opens v e q) z = absurd (open-not-on e b)
   fault-turned b (not-open v x s q) z = let k : t .report .number ≡ 1 = ap (λ y. y .report .number) q in let h = code-high (of-connection (z .0)) in let e = z .1 in absurd (omega arith)
-  fault-turned b (request v x l o q s) z =
-      let a = requestAs n allow piece (f .row) (stateIn (f .row)) in
+  fault-turned b (request {own} v x l o q s) z =
+      let a = requestAs own allow piece (f .row) (stateIn (f .row)) in
       let k : t .report .number ≡ a .number = ap (λ y. y .report .number) q in
-      let i = request-as-is (f .row) n allow piece (stateIn (f .row)) in
+      let i = request-as-is (f .row) own allow piece (stateIn (f .row)) in
       (ap (λ y. y .conn) q ∙ sym (kept-fault c (a .number) (z .0, sym k ∙ z .1)) ∙ ap (λ y. withCode y c) (sym k), ap (λ y. y .row) q ∙ i .row (inr (z .0, sym k ∙ z .1)))
-  fault-turned b (one-way v x l h q s) z =
-      let a = oneWayAs n allow piece (f .row) (sideIn c) (stateHere (f .row) (sideIn c)) in
+  fault-turned b (one-way {own} v x l h q s) z =
+      let a = oneWayAs own allow piece (f .row) (sideIn c) (stateHere (f .row) (sideIn c)) in
       let k : t .report .number ≡ a .number = ap (λ y. y .report .number) q in
-      let i = one-way-as-is (f .row) (sideIn c) n allow piece (stateHere (f .row) (sideIn c)) in (
+      let i = one-way-as-is (f .row) (sideIn c) own allow piece (stateHere (f .row) (sideIn c)) in (
         ap (λ y. y .conn) q ∙ sym (kept-fault (withSide c (a .side)) (a .number) (z .0, sym k ∙ z .1)) ∙ ap (λ y. withCode (a .number) (withSide c y)) (i .side (inr (z .0, sym k ∙ z .1))) ∙ ap (λ y. withCode y c) (sym k),
         ap (λ y. y .row) q ∙ i .row (inr (z .0, sym k ∙ z .1)),
       )
 
-  dead-turned : Turned c f n id allow piece t → ¬ (c .doors .code ≡ 0) → Untouched c f t
+  dead-turned : Turned c f core id allow piece t → ¬ (c .doors .code ≡ 0) → Untouched c f t
   dead-turned (other-row x q) z = unaltered-so _ q
   dead-turned (dead l x q) z = unaltered-so _ q
   dead-turned (opens v e q) z = absurd (z (v .alive))
@@ -412,7 +406,7 @@ said-nothing k m (by-house z) = goaway-refused m (λ e. omega arith)
 said-nothing k m (by-death l z) = goaway-refused m (dead-number m z)
 
 module _ {c : Connection} {rows : List Record} where
-  stepped-nothing : {n id allow : ℕ} {piece : List ℕ} {c′ : Connection} {rows′ : List Record} {r : Report} (k : Call streams) → Stepped c rows n id allow piece c′ rows′ r → Refuses c k (a-report r) → (c′ ≡ c) × (rows′ ≡ rows)
+  stepped-nothing : {core : CoreCall} {id allow : ℕ} {piece : List ℕ} {c′ : Connection} {rows′ : List Record} {r : Report} (k : Call streams) → Stepped c rows core id allow piece c′ rows′ r → Refuses c k (a-report r) → (c′ ≡ c) × (rows′ ≡ rows)
   unfolding numberIn
   stepped-nothing k m (by-house z) = let e = ap (λ y. y .number) (m .answered) in stored m (house-turned (m .turned) (omega (arith, z .0), omega (arith, z .1)))
   stepped-nothing k m (by-death l z) = stored m (dead-turned (m .turned) z)
@@ -433,7 +427,7 @@ module _ {c : Connection} {rows : List Record} where
   does-nothing (goes-away {id = id} {room = room} m) z = let u = said-nothing (goaway id (length room)) m z in (u .0, refl, u .1)
 
 -- A CONNECTION FAULT of a call on a stream: the code is kept, every other number of the connection's record and every record of the row is as it was
-pub fault-alters : {c : Connection} {rows : List Record} {n id allow : ℕ} {piece : List ℕ} {c′ : Connection} {rows′ : List Record} {r : Report} → ¬ (n ≡ 0) → Stepped c rows n id allow piece c′ rows′ r → Fault (r .number)
+pub fault-alters : {c : Connection} {rows : List Record} {core : CoreCall} {id allow : ℕ} {piece : List ℕ} {c′ : Connection} {rows′ : List Record} {r : Report} {own : CoreOwn} → core ≡ CoreCall.On own → Stepped c rows core id allow piece c′ rows′ r → Fault (r .number)
     → (c′ ≡ withCode (r .number) c) × (rows′ ≡ rows)
 fault-alters {c} {rows} b m z =
     let e = ap (λ y. y .number) (m .answered) in

@@ -15,6 +15,7 @@ use Rattle.connection.specs.Goaway.{sendingOf, writeOf}
 use Rattle.record.specs.declared.Record.{Record}
 use Rattle.requests.specs.Reply.{stateIn}
 use Rattle.oneway.specs.Heard.{stateHere}
+use Rattle.connection.specs.declared.Call.{Call as CoreCall}
 use Rattle.connection.specs.declared.Connection.{Connection}
 use Rattle.connection.specs.declared.Found.{Found}
 use Rattle.connection.specs.declared.Turn.{Turn}
@@ -59,13 +60,13 @@ opened-code (a-request m e l f) = refl
 opened-code (a-one-way m e l f) = refl
 
 -- EVERY CALL KEEPS IT
-pub turned-coded : {c : Connection} {f : Found} {call id allow : ℕ} {piece : List ℕ} {t : Turn} → Coded (c .doors .code) → Turned c f call id allow piece t → Coded (t .conn .doors .code)
+pub turned-coded : {c : Connection} {f : Found} {call : CoreCall} {id allow : ℕ} {piece : List ℕ} {t : Turn} → Coded (c .doors .code) → Turned c f call id allow piece t → Coded (t .conn .doors .code)
 turned-coded h (other-row n q) = rw q h
 turned-coded h (dead l n q) = rw q h
 turned-coded {c} {f} {id = id} h (opens v e q) = rw q (subst Coded (sym (opened-code (went (doorsIn c) id (freeAt (f .at))))) h)
 turned-coded h (not-open v n s q) = rw q h
-turned-coded {c} {f} {call} {allow = allow} {piece = piece} h (request v n l o q s) = rw q (kept-coded c (requestAs call allow piece (f .row) (stateIn (f .row)) .number) h)
-turned-coded {c} {f} {call} {allow = allow} {piece = piece} h (one-way v n l o q s) = let a = oneWayAs call allow piece (f .row) (sideIn c) (stateHere (f .row) (sideIn c)) in rw q (kept-coded (withSide c (a .side)) (a .number) h)
+turned-coded {c} {f} {allow = allow} {piece = piece} h (request {own} v n l o q s) = rw q (kept-coded c (requestAs own allow piece (f .row) (stateIn (f .row)) .number) h)
+turned-coded {c} {f} {allow = allow} {piece = piece} h (one-way {own} v n l o q s) = let a = oneWayAs own allow piece (f .row) (sideIn c) (stateHere (f .row) (sideIn c)) in rw q (kept-coded (withSide c (a .side)) (a .number) h)
 
 gone-coded : (d : Doors) (id : ℕ) (w : Write) → sendingOf d (stream-id id) w .doors .code ≡ d .code
 unfolding sendingOf

@@ -19,6 +19,8 @@ use Rattle.oneway.specs.declared.calls.Side.{Side}
 use Rattle.oneway.specs.Heard.{Heeds, stateHere}
 use Rattle.control.specs.Rules.{controlAt}
 use Rattle.connection.specs.Goaway.{sentAs}
+use Rattle.connection.specs.declared.Call.{Call as CoreCall}
+use Rattle.connection.specs.declared.Own.{Own as CoreOwn}
 use Rattle.connection.specs.declared.Connection.{Connection}
 use Rattle.connection.specs.declared.Report.{Report}
 use Rattle.connection.specs.declared.Found.{Found}
@@ -49,24 +51,22 @@ whose-belongs d id q = by (q .kind) refl
     by (suc zero) e w = record { taken = λ z. omega arith; own = unfold slotAt in w }
     by (suc (suc k)) e w = record { taken = λ z. omega arith; own = unfold slotAt in w }
 
--- a call on a stream
-call-on : (call id allow : ℕ) (piece : List ℕ) → ¬ (call ≡ 0) → callOf call id allow piece ≡ on id (ownOf call allow piece)
+call-on : {call : CoreCall} {own : CoreOwn} (id allow : ℕ) (piece : List ℕ) → call ≡ CoreCall.On own → callOf call id allow piece ≡ on id (ownOf own allow piece)
 unfolding callOf
-call-on zero id allow piece n = absurd (n refl)
-call-on (suc call) id allow piece n = refl
+call-on id allow piece e = rw e refl
 
-call-open : (call id allow : ℕ) (piece : List ℕ) → call ≡ 0 → callOf call id allow piece ≡ open′ id
+call-open : {call : CoreCall} (id allow : ℕ) (piece : List ℕ) → call ≡ CoreCall.Open → callOf call id allow piece ≡ open′ id
 unfolding callOf
-call-open call id allow piece e = rw e refl
+call-open id allow piece e = rw e refl
 
 -- ---- a dead connection
 
-call-dead : (call id allow : ℕ) (piece : List ℕ) (p : Pair streams) (k : ConnectionFault) → p .conn .dead ≡ some k → Board.call (callOf call id allow piece) p ≡ same (code (of-connection k) 0 0) p
+call-dead : (call : CoreCall) (id allow : ℕ) (piece : List ℕ) (p : Pair streams) (k : ConnectionFault) → p .conn .dead ≡ some k → Board.call (callOf call id allow piece) p ≡ same (code (of-connection k) 0 0) p
 unfolding callOf Board.call alive
-call-dead zero id allow piece p k e = rw e refl
-call-dead (suc call) id allow piece p k e = rw e refl
+call-dead CoreCall.Open id allow piece p k e = rw e refl
+call-dead (CoreCall.On own) id allow piece p k e = rw e refl
 
-module _ (c : Connection) (rows : List Record) (s : Stands c rows) (call id allow : ℕ) (piece : List ℕ) (f : Found) (found : FoundIn call id rows f) where
+module _ (c : Connection) (rows : List Record) (s : Stands c rows) (call : CoreCall) (id allow : ℕ) (piece : List ℕ) (f : Found) (found : FoundIn call id rows f) where
   abbrev p : Pair streams
   p = pairOf c rows
 
@@ -90,35 +90,35 @@ module _ (c : Connection) (rows : List Record) (s : Stands c rows) (call id allo
           let q = call-dead call id allow piece p k (ap deadBy e ∙ dead-by k) in
           record { after = ap (pairOf c) same-row ∙ ap (λ x. x .after) (sym q); answer = ap numbered e ∙ ap (λ x. reportOf (x .answer)) (sym q) }
 
-  module _ (live : c .doors .code ≡ 0) (n : ¬ (call ≡ 0)) where
+  module _ (live : c .doors .code ≡ 0) {own : CoreOwn} (n : call ≡ CoreCall.On own) where
     -- no record is its own
     absent-turns : 24 ≤ f .at → Turns (unaltered 1 c f)
     unfolding Board.call acting same reportOf
     absent-turns l =
-        let none-there = absent-find Record as-slot free-record rows id (λ j m w. found .before j (let q = s .paired .long in omega arith) (belongs-wanted id (getD rows j free-record) call n (whose-belongs (sideIn c) id (getD rows j free-record) w))) in
-        let q : Board.call (on id (ownOf call allow piece)) p ≡ same (house not-open) p = alive-call c live p (acting id (ownOf call allow piece) p (find id (p .row))) ∙ ap (acting id (ownOf call allow piece) p) none-there in
-        let y = call-on call id allow piece n in
+        let none-there = absent-find Record as-slot free-record rows id (λ j m w. found .before j (let q = s .paired .long in omega arith) (belongs-wanted id (getD rows j free-record) n (whose-belongs (sideIn c) id (getD rows j free-record) w))) in
+        let q : Board.call (on id (ownOf own allow piece)) p ≡ same (house not-open) p = alive-call c live p (acting id (ownOf own allow piece) p (find id (p .row))) ∙ ap (acting id (ownOf own allow piece) p) none-there in
+        let y = call-on id allow piece n in
         rw y (record { after = ap (pairOf c) same-row ∙ ap (λ x. x .after) (sym q); answer = ap (λ x. reportOf (x .answer)) (sym q) })
 
     module _ (l : f .at < 24) where
-      own : Belongs id (getD rows (f .at) free-record)
-      own = wanted-belongs id (getD rows (f .at) free-record) call n (found .there (let q = s .paired .long in omega arith))
+      belongs : Belongs id (getD rows (f .at) free-record)
+      belongs = wanted-belongs id (getD rows (f .at) free-record) n (found .there (let q = s .paired .long in omega arith))
 
       own-id : f .row .id ≡ id
-      own-id = ap (λ x. x .id) (found .row) ∙ own .own
+      own-id = ap (λ x. x .id) (found .row) ∙ belongs .own
 
       found-at : (x : Stream streams) → as-slot (f .row) ≡ held (f .row .id) x → FoundAt Record as-slot free-record rows (f .row .id) (f .at) x
       found-at x e = record {
         within = let q = s .paired .long in omega arith;
         that = ap as-slot (sym (found .row)) ∙ e;
-        before = λ j m w. found .before j m (belongs-wanted id (getD rows j free-record) call n (whose-belongs (sideIn c) id (getD rows j free-record) (subst (λ i. Whose {M = streams} i (as-slot (getD rows j free-record))) own-id w)));
+        before = λ j m w. found .before j m (belongs-wanted id (getD rows j free-record) n (whose-belongs (sideIn c) id (getD rows j free-record) (subst (λ i. Whose {M = streams} i (as-slot (getD rows j free-record))) own-id w)));
       }
 
       -- the stream found
-      comes-turns : (x : Stream streams) → as-slot (f .row) ≡ held (f .row .id) x → {t : Turn} → Comes c rows (f .at) (f .row .id) (f .row) t (Board.actOn (connOf c .kept) x (ownOf call allow piece)) → Turns t
+      comes-turns : (x : Stream streams) → as-slot (f .row) ≡ held (f .row .id) x → {t : Turn} → Comes c rows (f .at) (f .row .id) (f .row) t (Board.actOn (connOf c .kept) x (ownOf own allow piece)) → Turns t
       comes-turns x e {t} m =
-          let r = comes-traced c rows (f .at) (f .row .id) (f .row) (found .row) x (found-at x e) live (ownOf call allow piece) m in
-          subst (λ k. Traced c rows k (t .conn) (set rows (f .at) (t .row)) (t .report)) (ap (λ i. on i (ownOf call allow piece)) own-id ∙ sym (call-on call id allow piece n)) r
+          let r = comes-traced c rows (f .at) (f .row .id) (f .row) (found .row) x (found-at x e) live (ownOf own allow piece) m in
+          subst (λ k. Traced c rows k (t .conn) (set rows (f .at) (t .row)) (t .report)) (ap (λ i. on i (ownOf own allow piece)) own-id ∙ sym (call-on id allow piece n)) r
 
       its-suits : (x : Stream streams) → as-slot (f .row) ≡ held (f .row .id) x → StreamSuits x
       its-suits x e = found-suits (f .row .id) x (p .row) (s .suits) (found-find Record as-slot free-record rows (f .row .id) (f .at) x (found-at x e))
@@ -127,14 +127,14 @@ module _ (c : Connection) (rows : List Record) (s : Stands c rows) (call id allo
       unfolding slotAt
       request-slot o = ap (λ k. slotAt k (sideIn c) (f .row)) (o .kind)
 
-      request-turns : Open (f .row) → Turns (replied c (requestAs call allow piece (f .row) (stateIn (f .row))))
+      request-turns : Open (f .row) → Turns (replied c (requestAs own allow piece (f .row) (stateIn (f .row))))
       request-turns o = let x = asking (stateIn (f .row)) in
-          comes-turns x (request-slot o) (request-comes c rows (f .at) (f .row) o (its-suits x (request-slot o)) call allow piece)
+          comes-turns x (request-slot o) (request-comes c rows (f .at) (f .row) o (its-suits x (request-slot o)) own allow piece)
 
-      one-way-turns : Heeds (f .row) → StaysOn call allow piece (f .row) (sideIn c) (oneWayAs call allow piece (f .row) (sideIn c) (stateHere (f .row) (sideIn c)))
-          → Turns (overheard c (oneWayAs call allow piece (f .row) (sideIn c) (stateHere (f .row) (sideIn c))))
+      one-way-turns : Heeds (f .row) → StaysOn own allow piece (f .row) (sideIn c) (oneWayAs own allow piece (f .row) (sideIn c) (stateHere (f .row) (sideIn c)))
+          → Turns (overheard c (oneWayAs own allow piece (f .row) (sideIn c) (stateHere (f .row) (sideIn c))))
       one-way-turns h stays = let x = telling (stateHere (f .row) (sideIn c)) in let e = two-slot (sideIn c) (f .row) (f .row .kind) (h .kind) in
-          comes-turns x e (one-way-comes c rows (s .paired) (f .at) (f .row) (found .row) allow piece (its-suits x e) call stays)
+          comes-turns x e (one-way-comes c rows (s .paired) (f .at) (f .row) (found .row) allow piece (its-suits x e) own stays)
 
   -- EVERY TURN
   turns : {t : Turn} → Turned c f call id allow piece t → Turns t
@@ -142,7 +142,7 @@ module _ (c : Connection) (rows : List Record) (s : Stands c rows) (call id allo
   turns (dead l n q) = rw q (dead-turns n)
   turns (opens v e q) =
       let o = opening-traced c rows (s .paired) id f (subst (λ k. FoundIn k id rows f) e found) (v .alive) in
-      let y = call-open call id allow piece e in
+      let y = call-open id allow piece e in
       rw (q, y) o
   turns {t} (turned.not-open v n shut q) = by (decLt (f .at) 24)
     where
@@ -161,7 +161,7 @@ module _ (c : Connection) (rows : List Record) (s : Stands c rows) (call id allo
   }
 
 -- A CALL ON ONE STREAM
-module _ {c : Connection} {rows : List Record} {call id allow : ℕ} {piece : List ℕ} {c′ : Connection} {rows′ : List Record} {r : Report} (s : Stands c rows) (m : Stepped c rows call id allow piece c′ rows′ r) where
+module _ {c : Connection} {rows : List Record} {call : CoreCall} {id allow : ℕ} {piece : List ℕ} {c′ : Connection} {rows′ : List Record} {r : Report} (s : Stands c rows) (m : Stepped c rows call id allow piece c′ rows′ r) where
   pub stepped-traced : Traced c rows (callOf call id allow piece) c′ rows′ r
   stepped-traced = let a = m .conn-left in let b = m .rows-left in let e = m .answered in rw (a, b, e) (turns c rows s call id allow piece (m .found) (m .is-found) (m .turned))
 

@@ -1,4 +1,5 @@
 // The lent calls over values, as covered code calls them: locals are lent, and taken back. Of the records, the first n are the row.
+use connection::Call;
 use connection::Connection;
 use connection::Report;
 use connection::Written;
@@ -19,7 +20,7 @@ pub fn drive(
     c: Connection,
     rs: [Record; 32],
     n: usize,
-    call: u64,
+    call: Call,
     id: u64,
     allow: u64,
     piece: &[u8],

@@ -9,6 +9,8 @@ use Rattle.rules.specs.Integers.{integer}
 use Rattle.listing.specs.Put.{Put}
 use Rattle.record.specs.declared.Record.{Record}
 use Rattle.record.specs.Row.{free-record}
+use Rattle.connection.specs.declared.Call.{Call}
+use Rattle.connection.specs.declared.Own.{Own}
 use Rattle.connection.specs.declared.Connection.{Connection}
 use Rattle.connection.specs.declared.Report.{Report}
 use Rattle.connection.specs.declared.Written.{Written}
@@ -30,7 +32,7 @@ pub data Starts (p : Pair) (n : ℕ) (q : Pair) (text : List ℕ) : Type 0 where
   start-elsewhere : (rows : List Record) (number : ℕ) → (n ≡ 24 → ⊥) → Started (p .conn) (replicate n free-record) (q .conn) rows number → q .rows ≡ p .rows → text ≡ startLine number → Starts p n q text
 
 -- a call on one stream, lent the same
-pub data Steps (p : Pair) (n call id allow : ℕ) (piece : List ℕ) (q : Pair) (text : List ℕ) : Type 0 where
+pub data Steps (p : Pair) (n : ℕ) (call : Call) (id allow : ℕ) (piece : List ℕ) (q : Pair) (text : List ℕ) : Type 0 where
   step-here : (r : Report) → n ≡ 24 → Stepped (p .conn) (kept p) call id allow piece (q .conn) (kept q) r → text ≡ reportLine (q .conn) r → Steps p n call id allow piece q text
   step-elsewhere : (rows : List Record) (r : Report) → (n ≡ 24 → ⊥) → Stepped (p .conn) (replicate n free-record) call id allow piece (q .conn) rows r → q .rows ≡ p .rows → text ≡ reportLine (q .conn) r
       → Steps p n call id allow piece q text
@@ -54,11 +56,11 @@ pub data Writes (p : Pair) (l : Line) (q : Pair) (text : List ℕ) : Type 0 wher
 -- THE CALL OF A LINE: S, O, F, H, E, R, V, D, and the writes
 pub data Plays (p : Pair) (l : Line) (piece : List ℕ) (q : Pair) (text : List ℕ) : Type 0 where
   starts : l .letter ≡ 83 → Starts p (l .row) q text → Plays p l piece q text
-  opens : l .letter ≡ 79 → Steps p (l .row) 0 (l .a) (l .b) piece q text → Plays p l piece q text
-  feeds : l .letter ≡ 70 → Steps p (l .row) 1 (l .a) (l .b) piece q text → Plays p l piece q text
-  gives : l .letter ≡ 72 → Steps p (l .row) 2 (l .a) (l .b) piece q text → Plays p l piece q text
-  ends : l .letter ≡ 69 → Steps p (l .row) 3 (l .a) (l .b) piece q text → Plays p l piece q text
-  resets : l .letter ≡ 82 → Steps p (l .row) 4 (l .a) (l .b) piece q text → Plays p l piece q text
+  opens : l .letter ≡ 79 → Steps p (l .row) Call.Open (l .a) (l .b) piece q text → Plays p l piece q text
+  feeds : l .letter ≡ 70 → Steps p (l .row) (Call.On Own.Feed) (l .a) (l .b) piece q text → Plays p l piece q text
+  gives : l .letter ≡ 72 → Steps p (l .row) (Call.On Own.Give) (l .a) (l .b) piece q text → Plays p l piece q text
+  ends : l .letter ≡ 69 → Steps p (l .row) (Call.On Own.End) (l .a) (l .b) piece q text → Plays p l piece q text
+  resets : l .letter ≡ 82 → Steps p (l .row) (Call.On Own.Reset) (l .a) (l .b) piece q text → Plays p l piece q text
   reads : l .letter ≡ 86 → q ≡ p → text ≡ readLine (integer 0 piece) → Plays p l piece q text
   shows : l .letter ≡ 68 → q ≡ p → text ≡ stateLine (p .conn) (kept p) → Plays p l piece q text
   writes : Writes p l q text → Plays p l piece q text
@@ -100,7 +102,7 @@ module _ (p : Pair) (n : ℕ) (h : n ≤ 32) (w : n ≡ 24 → ⊥) {x : Record}
   pub start-other : {number : ℕ} → Started (p .conn) (take n (replicate 32 x)) c rows number → Starts p n (beside p c) (startLine number)
   start-other {number} s = start-elsewhere rows number w (subst (λ ys. Started (p .conn) ys c rows number) (free-rows n h f) s) refl refl
 
-  pub step-other : {call id allow : ℕ} {piece : List ℕ} {r : Report} → Stepped (p .conn) (take n (replicate 32 x)) call id allow piece c rows r → Steps p n call id allow piece (beside p c) (reportLine c r)
+  pub step-other : {call : Call} {id allow : ℕ} {piece : List ℕ} {r : Report} → Stepped (p .conn) (take n (replicate 32 x)) call id allow piece c rows r → Steps p n call id allow piece (beside p c) (reportLine c r)
   step-other {call} {id} {allow} {piece} {r} s = step-elsewhere rows r w (subst (λ ys. Stepped (p .conn) ys call id allow piece c rows r) (free-rows n h f) s) refl refl
 
 module _ (p : Pair) (l : Line) (b : List ℕ) (h : l .room ≤ 64) (e : b ≡ replicate 64 170) where

@@ -1,5 +1,7 @@
 // The lines of `replay`: a script's calls made one by one, and a line printed for each.
+use connection::Call;
 use connection::Connection;
+use connection::Own;
 use connection::Report;
 use connection::doors::Doors;
 use control::Kept;
@@ -349,12 +351,12 @@ fn started(room: &mut [u8; 2048], pair: Pair, n: u64) -> Played
     }
 }
 
-// A call on one stream, lent the kept row or another of n free records. call 0: open, 1: feed, 2: give a section, 3: end, 4: reset.
+// A call on one stream, lent the kept row or another of n free records.
 fn streamed(
     room: &mut [u8; 2048],
     pair: Pair,
     n: u64,
-    call: u64,
+    call: Call,
     id: u64,
     allow: u64,
     piece: &[u8],
@@ -471,19 +473,19 @@ fn play(room: &mut [u8; 2048], pair: Pair, l: Line, piece: &[u8]) -> Played
         return started(room, pair, l.row);
     }
     if l.letter == b'O' {
-        return streamed(room, pair, l.row, 0, l.a, l.b, piece);
+        return streamed(room, pair, l.row, Call::Open, l.a, l.b, piece);
     }
     if l.letter == b'F' {
-        return streamed(room, pair, l.row, 1, l.a, l.b, piece);
+        return streamed(room, pair, l.row, Call::On(Own::Feed), l.a, l.b, piece);
     }
     if l.letter == b'H' {
-        return streamed(room, pair, l.row, 2, l.a, l.b, piece);
+        return streamed(room, pair, l.row, Call::On(Own::Give), l.a, l.b, piece);
     }
     if l.letter == b'E' {
-        return streamed(room, pair, l.row, 3, l.a, l.b, piece);
+        return streamed(room, pair, l.row, Call::On(Own::End), l.a, l.b, piece);
     }
     if l.letter == b'R' {
-        return streamed(room, pair, l.row, 4, l.a, l.b, piece);
+        return streamed(room, pair, l.row, Call::On(Own::Reset), l.a, l.b, piece);
     }
     if l.letter == b'V' {
         let count = value(room, piece);

@@ -43,17 +43,6 @@ pub const REQUEST_INCOMPLETE: u64 = 0x010d;
 
 pub const MESSAGE_ERROR: u64 = 0x010e;
 
-// A call on one stream.
-pub const OPEN: u64 = 0;
-
-pub const FEED: u64 = 1;
-
-pub const GIVE: u64 = 2;
-
-pub const END: u64 = 3;
-
-pub const RESET: u64 = 4;
-
 // What a call reports: an event of its report (docs/DECISIONS, N13). A fault and the parts of a kept payload are reported inside the engine alone.
 pub const NOTHING: u64 = 0;
 

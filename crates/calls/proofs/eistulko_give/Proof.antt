@@ -37,13 +37,15 @@ use denote.Triple.Table.{entered, cited}
 use denote.Triple.Walked.{says, Stays, stay-none, stay-none-slice, gave-ref, gave-slice, walkOf, goes-none, goes-none-slice, goes-gave-ref, goes-gave-slice, Walks, ends-at, walked, walk-meets}
 use denote.Exit.{yes}
 use Rattle.record.specs.declared.Record.{Record}
+use Rattle.connection.specs.declared.Call.{Call}
+use Rattle.connection.specs.declared.Own.{Own}
 use Rattle.connection.specs.declared.Connection.{Connection}
 use Rattle.connection.specs.declared.Report.{Report}
 use Rattle.connection.proofs.Connection as C
 use Rattle.connection.proofs.Report as N
 use Rattle.connection.proofs.Report.Laws as N′
 use Rattle.calls.specs.Lent.{Stepped}
-use Rattle.calls.proofs.Laws.{R}
+use Rattle.calls.proofs.Laws.{R, call-val, own-typed, call-typed}
 use Rattle.calls.proofs.Thin.{StepC, conn-val, rows-val, bytes-val, OwnPiece, handed, calls-step}
 use Rattle.calls.proofs.step.Symbol as step-def
 use Rattle.calls.proofs.step.Symbol.{name as #calls·step}
@@ -75,7 +77,7 @@ module _ {M : Type 1} (𝓤 : URA M) (H : Heap 𝓤) (A : Atoms 𝓤) (W : Given
   abbrev Toks : Item 𝓤
   Toks = ‵ (flft κ₀ q₀) ⊛ ‵ (flft κ₁ q₁) ⊛ ‵ (flft κ₂ q₂) ⊛ ‵ ftrue
 
-  exits : (r : Report) (u : Val) (c′ : Connection) (zs : List Record) → Stepped (cr .now) (x .now) 2 id 0 (piece .now) c′ zs r → length zs ≡ length (x .now)
+  exits : (r : Report) (u : Val) (c′ : Connection) (zs : List Record) → Stepped (cr .now) (x .now) (Call.On Own.Give) id 0 (piece .now) c′ zs r → length zs ≡ length (x .now)
       → ent 𝓤 (⋆ 𝓤 H A (‵ (N.the-row .own r (u ∷ [])) ∷ Toks ∷ ‵ (fres (cr .name) (C.the-row .coded .code c′)) ∷ ‵ (finally R (x .name) zs) ∷ ‵ (OwnPiece κ₂ piece) ∷ [])) (Post u)
   exits r u c′ zs e l =
       qed W (‵ (N.the-row .own r (u ∷ [])) ∷ Toks ∷ ‵ (fres (cr .name) (C.the-row .coded .code c′)) ∷ ‵ (finally R (x .name) zs) ∷ ‵ (OwnPiece κ₂ piece) ∷ []) ∵
@@ -84,27 +86,30 @@ module _ {M : Type 1} (𝓤 : URA M) (H : Heap 𝓤) (A : Atoms 𝓤) (W : Given
 
   module _ (Cs : Calls 𝓤 H) (Λ : Loops 𝓤 H) (fm : FmC 𝓤 H (W .laws) Cs) (known : Triple 𝓤 (Cs #calls·step) (StepC 𝓤 H A mem run)) where
     walk : Is (MutSlice (named 1) κ₁ R) x (rows-val x ∷ []) → Is (ShrSlice (named 2) κ₂ u8) piece (bytes-val piece ∷ []) → ent 𝓤 (onEntry 𝓤 H A self.signature κs qs a at) (WpFn 𝓤 H Cs Λ code.function (conn-val cr ∷ rows-val x ∷ vint w64 id ∷ bytes-val piece ∷ []) Post)
+    unfolding call-val
     walk p p′ =
         qed W (Toks ∷ ‵ (owns (MutRef (named 0) κ₀ C.the-row ∷ MutSlice (named 1) κ₁ R ∷ u64 ∷ ShrSlice (named 2) κ₂ u8 ∷ []) a at) ∷ []) ∵ enter ! Cs Λ code.function (conn-val cr ∷ rows-val x ∷ vint w64 id ∷ bytes-val piece ∷ []) _ $
-        alloc1 ! (λ l0. alloc1 ! (λ l1. alloc1 ! (λ l2. alloc1 ! (λ l3. alloc1 ! (λ l4. alloc1 ! (λ l5. alloc1 ! (λ l6. alloc1 ! (λ l7. alloc0 ! $ params1 ! $
-        pass1 ! (init ! 12 refl (tt, tt)) $
-        pass1 ! (init ! 10 refl (mut-slice-lawful 𝓤 H A W (named 1) κ₁ R .typed x (rows-val x ∷ []) p .0)) $
-        pass1 ! (init ! 8 refl (tt, record { fits = id-fits })) $
-        pass1 ! (init ! 6 refl (shr-slice-lawful 𝓤 H A W (named 2) κ₂ u8 .typed piece (bytes-val piece ∷ []) p′ .0)) $
+        alloc1 ! (λ l0. alloc1 ! (λ l1. alloc1 ! (λ l2. alloc1 ! (λ l3. alloc1 ! (λ l4. alloc1 ! (λ l5. alloc1 ! (λ l6. alloc1 ! (λ l7. alloc1 ! (λ l8. alloc1 ! (λ l9. alloc0 ! $ params1 ! $
+        pass1 ! (init ! 16 refl (tt, tt)) $
+        pass1 ! (init ! 14 refl (mut-slice-lawful 𝓤 H A W (named 1) κ₁ R .typed x (rows-val x ∷ []) p .0)) $
+        pass1 ! (init ! 12 refl (tt, record { fits = id-fits })) $
+        pass1 ! (init ! 10 refl (shr-slice-lawful 𝓤 H A W (named 2) κ₂ u8 .typed piece (bytes-val piece ∷ []) p′ .0)) $
         pass0 ! $
-        assigns ! (addr ! (from ! (hop ! (look ! 12 refl) (stop !)))) (from ! (stop !)) (init ! 4 refl (tt, tt)) $
-        assigns ! (addr ! (from ! (fld ! refl (hop ! (look-in ! 10 (sub ! 0 refl (whole !))) (stop !))))) (from ! (stop !)) (init ! 2 refl (tt, tt)) $
-        assigns ! (agg ! (and-then ! (load ! (from ! (stop !)) (look ! 2 refl)) (and-then ! (load ! (from ! (fld ! refl (stop !))) (look-in ! 10 (sub ! 1 refl (whole !)))) (no-more !)))) (from ! (stop !)) (init ! 0 refl (tt, (tt, (record { fits = p .0 .1 .0 }, tt)))) $
-        move ! (16 ∷ 17 ∷ []) $
-        handed W mem run κ₀ κ₁ κ₂ q₀ q₁ q₂ cr x 2 id 0 piece (lit< tt) id-fits (lit< tt) $
-        -- [toks; all; piece2; _7; _6; _5; _4; _3; _2; _1; _0]
-        calls-step W mem run κ₀ κ₁ κ₂ q₀ q₁ q₂ cr x 2 id 0 piece (lit< tt) id-fits (lit< tt) fm known (and-then ! (load ! (from ! (stop !)) (look ! 6 refl)) (and-then ! (load ! (from ! (stop !)) (look ! 2 refl)) (and-then ! (lit ! tt) (and-then ! (load ! (from ! (stop !)) (look ! 10 refl)) (and-then ! (lit ! tt) (and-then ! (load ! (from ! (stop !)) (look ! 8 refl)) (no-more !))))))) (λ u r c′ zs e l is.
-        land ! (from ! (stop !)) (init ! 19 refl (LL.lawful N.the-type N′.the-laws 𝓤 H A W .typed r _ is .0)) $
-        returns ! (look ! 19 refl) $
-        forget ! 5 refl $ forget ! 7 refl $ forget ! 9 refl $ forget ! 11 refl $ forget ! 13 refl $ forget ! 15 refl $ forget ! 17 refl $ forget ! 19 refl $
-        move ! (19 ∷ 20 ∷ []) $ free1 ! $ move ! (17 ∷ 18 ∷ []) $ free1 ! $ move ! (15 ∷ 16 ∷ []) $ free1 ! $ move ! (13 ∷ 14 ∷ []) $ free1 ! $ move ! (11 ∷ 12 ∷ []) $ free1 ! $ move ! (9 ∷ 10 ∷ []) $ free1 ! $ move ! (7 ∷ 8 ∷ []) $ free1 ! $ move ! (5 ∷ 6 ∷ []) $ free1 ! $ free0 ! $
+        assigns ! (addr ! (from ! (hop ! (look ! 16 refl) (stop !)))) (from ! (stop !)) (init ! 8 refl (tt, tt)) $
+        assigns ! (addr ! (from ! (fld ! refl (hop ! (look-in ! 14 (sub ! 0 refl (whole !))) (stop !))))) (from ! (stop !)) (init ! 6 refl (tt, tt)) $
+        assigns ! (agg ! (and-then ! (load ! (from ! (stop !)) (look ! 6 refl)) (and-then ! (load ! (from ! (fld ! refl (stop !))) (look-in ! 14 (sub ! 1 refl (whole !)))) (no-more !)))) (from ! (stop !)) (init ! 4 refl (tt, (tt, (record { fits = p .0 .1 .0 }, tt)))) $
+        assigns ! (agg ! (and-then ! (lit ! tt) (no-more !))) (from ! (stop !)) (init ! 2 refl (own-typed 𝓤 H A W Own.Give)) $
+        assigns ! (agg ! (and-then ! (lit ! tt) (and-then ! (load ! (from ! (stop !)) (look ! 2 refl)) (no-more !)))) (from ! (stop !)) (init ! 0 refl (call-typed 𝓤 H A W (Call.On Own.Give) refl)) $
+        move ! (20 ∷ 21 ∷ []) $
+        handed W mem run κ₀ κ₁ κ₂ q₀ q₁ q₂ cr x (Call.On Own.Give) id 0 piece id-fits (lit< tt) $
+        -- [toks; all; piece2; _9; _8; _7; _6; _5; _4; _3; _2; _1; _0]
+        calls-step W mem run κ₀ κ₁ κ₂ q₀ q₁ q₂ cr x (Call.On Own.Give) id 0 piece id-fits (lit< tt) fm known (and-then ! (load ! (from ! (stop !)) (look ! 10 refl)) (and-then ! (load ! (from ! (stop !)) (look ! 6 refl)) (and-then ! (load ! (from ! (stop !)) (look ! 2 refl)) (and-then ! (load ! (from ! (stop !)) (look ! 14 refl)) (and-then ! (lit ! tt) (and-then ! (load ! (from ! (stop !)) (look ! 12 refl)) (no-more !))))))) (λ u r c′ zs e l is.
+        land ! (from ! (stop !)) (init ! 23 refl (LL.lawful N.the-type N′.the-laws 𝓤 H A W .typed r _ is .0)) $
+        returns ! (look ! 23 refl) $
+        forget ! 5 refl $ forget ! 7 refl $ forget ! 9 refl $ forget ! 11 refl $ forget ! 13 refl $ forget ! 15 refl $ forget ! 17 refl $ forget ! 19 refl $ forget ! 21 refl $ forget ! 23 refl $
+        move ! (23 ∷ 24 ∷ []) $ free1 ! $ move ! (21 ∷ 22 ∷ []) $ free1 ! $ move ! (19 ∷ 20 ∷ []) $ free1 ! $ move ! (17 ∷ 18 ∷ []) $ free1 ! $ move ! (15 ∷ 16 ∷ []) $ free1 ! $ move ! (13 ∷ 14 ∷ []) $ free1 ! $ move ! (11 ∷ 12 ∷ []) $ free1 ! $ move ! (9 ∷ 10 ∷ []) $ free1 ! $ move ! (7 ∷ 8 ∷ []) $ free1 ! $ move ! (5 ∷ 6 ∷ []) $ free1 ! $ free0 ! $
         keep ! (0 ∷ 1 ∷ 2 ∷ 3 ∷ 4 ∷ []) $
-        by ! (exits r u c′ zs e l))))))))))
+        by ! (exits r u c′ zs e l))))))))))))
 
 module _ {M : Type 1} (𝓤 : URA M) (H : Heap 𝓤) (A : Atoms 𝓤) (W : Given 𝓤 H A) (mem : Memory → SProp 𝓤) (run : Routine → Fun 𝓤) where
   walks : (Cs : Calls 𝓤 H) (Λ : Loops 𝓤 H) → FmC 𝓤 H (W .laws) Cs → Triple 𝓤 (Cs #calls·step) (StepC 𝓤 H A mem run) → Walks 𝓤 H A self.ended stayed (WpFn 𝓤 H Cs Λ code.function) (self.clauses 𝓤 H A mem run)

@@ -49,14 +49,16 @@ use Rattle.record.specs.declared.Record.{Record}
 use Rattle.record.specs.Row.{free-record}
 use Rattle.record.specs.Sound.{Decides}
 use Rattle.record.proofs.Record.Laws as T′
+use Rattle.connection.specs.declared.Call.{Call}
 use Rattle.connection.specs.Whose.{Wanted}
 use Rattle.connection.proofs.wanted as wanted
 use Rattle.connection.proofs.wanted.Symbol as wanted-def
 use Rattle.connection.proofs.wanted.Symbol.{name as #connection·wanted}
 use Rattle.connection.proofs.wanted.Met as wanted-thm
+use Rattle.connection.proofs.Call.Laws as K′
 use Rattle.calls.specs.Lent.{FirstIn}
 use Rattle.calls.specs.Search.{held-yes, held-no, Clear, clear-none, clear-more, hit, miss}
-use Rattle.calls.proofs.Laws.{R, size, vals, tells, rec-shows, rec-makes, rec-copy, typed, offset-fits, next-fits, falls, tail}
+use Rattle.calls.proofs.Laws.{R, size, vals, tells, rec-shows, rec-makes, rec-copy, typed, offset-fits, next-fits, falls, tail, K, call-vals, call-val, call-tells, is-call, call-makes, call-typed}
 use Rattle.calls.proofs.find.Key.{name as #calls·find}
 use Rattle.calls.proofs.find as find
 use Rattle.calls.proofs.find.Statement as stated
@@ -64,7 +66,7 @@ use Rattle.calls.proofs.find.Code as code
 use Rattle.calls.proofs.find.Code.Mir as m
 
 abbrev stayed : Stays (find.ended .signature .params) (find.ended .kept)
-stayed = (stay-none-slice (0 ∷ []) tt (plain (λ _. R)) yes, (stay-none (λ _. u64) yes, (stay-none (λ _. u64) yes, tt)))
+stayed = (stay-none-slice (0 ∷ []) tt (plain (λ _. R)) yes, (stay-none (λ _. K) yes, (stay-none (λ _. u64) yes, tt)))
 
 abbrev word : Ty
 word = tyInt w64
@@ -76,7 +78,7 @@ slice = sliceTy (tyRef (named 0) imm (pointee (R .written)))
 abbrev WantedC : {M : Type 1} (𝓤 : URA M) (H : Heap 𝓤) (A : Atoms 𝓤) (mem : Memory → SProp 𝓤) (run : Routine → Fun 𝓤) → Contract 𝓤
 WantedC 𝓤 H A mem run = tripleOf 𝓤 H A wanted.signature (wanted.spec 𝓤 H A mem run)
 
-module _ {M : Type 1} (𝓤 : URA M) (H : Heap 𝓤) (A : Atoms 𝓤) (W : Given 𝓤 H A) (mem : Memory → SProp 𝓤) (run : Routine → Fun 𝓤) (κ : Lft) (q : Share) (b o : ℕ) (γ : GName) (ys : List Record) (k id : ℕ) (k-fits : k < 2 ^ 64) (id-fits : id < 2 ^ 64) where
+module _ {M : Type 1} (𝓤 : URA M) (H : Heap 𝓤) (A : Atoms 𝓤) (W : Given 𝓤 H A) (mem : Memory → SProp 𝓤) (run : Routine → Fun 𝓤) (κ : Lft) (q : Share) (b o : ℕ) (γ : GName) (ys : List Record) (k : Call) (id : ℕ) (id-fits : id < 2 ^ 64) where
   abbrev s : RefT (List Record)
   s = record { ptr = (b, o); name = γ; now = ys }
 
@@ -90,7 +92,7 @@ module _ {M : Type 1} (𝓤 : URA M) (H : Heap 𝓤) (A : Atoms 𝓤) (W : Given
   elem i = getD ys i free-record
 
   abbrev Post : Val → SProp 𝓤
-  Post = walkOf 𝓤 H A find.ended stayed (find.clauses 𝓤 H A mem run) .post (((κ, tt), (q, tt), tt, (s, (k, (id, tt))), (v ∷ [], (vint w64 k ∷ [], (vint w64 id ∷ [], tt)))), tt)
+  Post = walkOf 𝓤 H A find.ended stayed (find.clauses 𝓤 H A mem run) .post (((κ, tt), (q, tt), tt, (s, (k, (id, tt))), (v ∷ [], (call-val k ∷ [], (vint w64 id ∷ [], tt)))), tt)
 
   abbrev Own : Fml
   Own = ShrSlice (named 0) κ R .own s (v ∷ [])
@@ -98,16 +100,16 @@ module _ {M : Type 1} (𝓤 : URA M) (H : Heap 𝓤) (A : Atoms 𝓤) (W : Given
   exits : (i : ℕ) → FirstIn k id ys i → i < 2 ^ 64 → ent 𝓤 (⋆ 𝓤 H A (‵ (flft κ q) ∷ ‵ Own ∷ [])) (Post (vint w64 i))
   exits i e fits =
       qed W (‵ (flft κ q) ∷ ‵ Own ∷ []) ∵
-      suffices ! _ (ends-at 𝓤 H A find.ended stayed (find.clauses 𝓤 H A mem run) W (((κ, tt), (q, tt), tt, (s, (k, (id, tt))), (v ∷ [], (vint w64 k ∷ [], (vint w64 id ∷ [], tt)))), tt) (vint w64 i) i (tt, (tt, (tt, tt))) (tt, (tt, (tt, tt)))) $ says ! e $
-      nothing ! $ move ! (1 ∷ 0 ∷ []) $ join ! $ frame ! $ nothing ! $ owned ! u64 (Is u64) (uint-makes 𝓤 H A W w64) id _ (refl, id-fits) $ fjoin ! $ owned ! u64 (Is u64) (uint-makes 𝓤 H A W w64) k _ (refl, k-fits) $ fjoin ! $ move ! (1 ∷ 0 ∷ []) $ fjoin ! $ frame ! $
+      suffices ! _ (ends-at 𝓤 H A find.ended stayed (find.clauses 𝓤 H A mem run) W (((κ, tt), (q, tt), tt, (s, (k, (id, tt))), (v ∷ [], (call-val k ∷ [], (vint w64 id ∷ [], tt)))), tt) (vint w64 i) i (tt, (tt, (tt, tt))) (tt, (tt, (tt, tt)))) $ says ! e $
+      nothing ! $ move ! (1 ∷ 0 ∷ []) $ join ! $ frame ! $ nothing ! $ owned ! u64 (Is u64) (uint-makes 𝓤 H A W w64) id _ (refl, id-fits) $ fjoin ! $ owned ! K (Is K) (call-makes 𝓤 H A) k _ (is-call k) $ fjoin ! $ move ! (1 ∷ 0 ∷ []) $ fjoin ! $ frame ! $
       owned ! usize (Is usize) (uint-makes 𝓤 H A W w64) i _ (refl, fits) $ done !
 
   -- the call of `wanted`
   abbrev to-wanted : Record → WantedC 𝓤 H A mem run .Ghost
-  to-wanted d = ((tt, tt, tt, (k, (id, (d, tt))), (vint w64 k ∷ [], (vint w64 id ∷ [], (vals d, tt)))), tt)
+  to-wanted d = ((tt, tt, tt, (k, (id, (d, tt))), (call-val k ∷ [], (vint w64 id ∷ [], (vals d, tt)))), tt)
 
   goes-wanted : (d : Record) → Is R d (vals d) → ent 𝓤 (emp 𝓤) (WantedC 𝓤 H A mem run .pre (to-wanted d))
-  goes-wanted d is = qed W [] ∵ nothing ! $ owned ! R (Is R) (rec-makes 𝓤 H A) d _ is $ fjoin ! $ owned ! u64 (Is u64) (uint-makes 𝓤 H A W w64) id _ (refl, id-fits) $ fjoin ! $ owned ! u64 (Is u64) (uint-makes 𝓤 H A W w64) k _ (refl, k-fits) $ fjoin ! $ nothing ! $ join ! $ frame ! $ done !
+  goes-wanted d is = qed W [] ∵ nothing ! $ owned ! R (Is R) (rec-makes 𝓤 H A) d _ is $ fjoin ! $ owned ! u64 (Is u64) (uint-makes 𝓤 H A W w64) id _ (refl, id-fits) $ fjoin ! $ owned ! K (Is K) (call-makes 𝓤 H A) k _ (is-call k) $ fjoin ! $ nothing ! $ join ! $ frame ! $ done !
 
   wanted-said : (d : Record) (t : Bool) → ent 𝓤 (ensured 𝓤 H A wanted.ended (wanted.clauses 𝓤 H A mem run) tt (k, (id, (d, tt))) tt t) (fact 𝓤 (Decides (Wanted k id d) t))
   wanted-said d t = exE 𝓤 _ (λ ws. snd∗ 𝓤 (sem 𝓤 H A (lasts wanted.ended tt (k, (id, (d, tt))) ws)) (fact 𝓤 (Decides (Wanted k id d) t)))
@@ -136,11 +138,11 @@ module _ {M : Type 1} (𝓤 : URA M) (H : Heap 𝓤) (A : Atoms 𝓤) (W : Given
     fm = fmOf 𝓤 H (W .laws) 𝓣
 
     abbrev En : Env 𝓤 H
-    En = (word, l0) ∷ (slice, l1) ∷ (word, l2) ∷ (word, l3) ∷ (word, l4) ∷ (word, l5) ∷ (tyBool, l6) ∷ (tyBool, l7) ∷ (tyPtr, l8) ∷ (T′.mir, l9) ∷ []
+    En = (word, l0) ∷ (slice, l1) ∷ (K′.mir, l2) ∷ (word, l3) ∷ (word, l4) ∷ (word, l5) ∷ (tyBool, l6) ∷ (tyBool, l7) ∷ (tyPtr, l8) ∷ (T′.mir, l9) ∷ []
 
     -- the invariant: the row at a share, what shuts the borrow, what row owns, and the locals, the last first
     abbrev At : Upto → List (Item 𝓤)
-    At i = ‵ (row R q′ ys b o) ∷ ‵ (fobor κ q (arr-parts (shares R) n .part q′ ys b o)) ∷ ‵ Own ∷ ‵ (froom T′.mir l9 0) ∷ ‵ (fdies T′.mir l9) ∷ ‵ (froom tyPtr l8 0) ∷ ‵ (fdies tyPtr l8) ∷ ‵ (froom tyBool l7 0) ∷ ‵ (fdies tyBool l7) ∷ ‵ (froom tyBool l6 0) ∷ ‵ (fdies tyBool l6) ∷ ‵ (froom word l5 0) ∷ ‵ (fdies word l5) ∷ ‵ (fat fullShare word l4 0 (vint w64 (i .0))) ∷ ‵ (fdies word l4) ∷ ‵ (fat fullShare word l3 0 (vint w64 id)) ∷ ‵ (fdies word l3) ∷ ‵ (fat fullShare word l2 0 (vint w64 k)) ∷ ‵ (fdies word l2) ∷ ‵ (fat fullShare slice l1 0 v) ∷ ‵ (fdies slice l1) ∷ ‵ (froom word l0 0) ∷ ‵ (fdies word l0) ∷ []
+    At i = ‵ (row R q′ ys b o) ∷ ‵ (fobor κ q (arr-parts (shares R) n .part q′ ys b o)) ∷ ‵ Own ∷ ‵ (froom T′.mir l9 0) ∷ ‵ (fdies T′.mir l9) ∷ ‵ (froom tyPtr l8 0) ∷ ‵ (fdies tyPtr l8) ∷ ‵ (froom tyBool l7 0) ∷ ‵ (fdies tyBool l7) ∷ ‵ (froom tyBool l6 0) ∷ ‵ (fdies tyBool l6) ∷ ‵ (froom word l5 0) ∷ ‵ (fdies word l5) ∷ ‵ (fat fullShare word l4 0 (vint w64 (i .0))) ∷ ‵ (fdies word l4) ∷ ‵ (fat fullShare word l3 0 (vint w64 id)) ∷ ‵ (fdies word l3) ∷ ‵ (fat fullShare K′.mir l2 0 (call-val k)) ∷ ‵ (fdies K′.mir l2) ∷ ‵ (fat fullShare slice l1 0 v) ∷ ‵ (fdies slice l1) ∷ ‵ (froom word l0 0) ∷ ‵ (fdies word l0) ∷ []
 
     -- a turn's postcondition: it ends nearer to the length, or the loop is left and the rest of the body runs
     abbrev Turned : Upto → Out → SProp 𝓤
@@ -189,13 +191,16 @@ module _ {M : Type 1} (𝓤 : URA M) (H : Heap 𝓤) (A : Atoms 𝓤) (W : Given
         again ! Nearer At i (i .0 + 1, clear-more k id ys (i .0) (i .1) l (held-no e other)) (falls n (i .0) l))))))))
         (λ over. jumps ! $ exec ! C Λ En m.t-3 (atRet En Post) $ forget ! 9 refl $ forget ! 11 refl $ leaves i (miss k id ys (i .0) (i .1) (nltb→le (i .0) n over)))
 
+    searches : Sq W (At (0, clear-none k id ys)) (runs C Λ En m.t-2 (atRet En Post))
+    searches = first ! $ blocks ! $ loops ! 𝓣 Nearer Nearer-wf At turns (0, clear-none k id ys)
+
   module _ (𝓣 : Tables 𝓤 H) (known : Triple 𝓤 (𝓣 .C #connection·wanted) (WantedC 𝓤 H A mem run)) where
-    walk : Is (ShrSlice (named 0) κ R) s (v ∷ []) → ent 𝓤 (onEntry 𝓤 H A find.signature (κ, tt) (q, tt) (s, (k, (id, tt))) (v ∷ [], (vint w64 k ∷ [], (vint w64 id ∷ [], tt)))) (WpFn 𝓤 H (𝓣 .C) (𝓣 .Λ) code.function (v ∷ vint w64 k ∷ vint w64 id ∷ []) Post)
+    walk : Is (ShrSlice (named 0) κ R) s (v ∷ []) → ent 𝓤 (onEntry 𝓤 H A find.signature (κ, tt) (q, tt) (s, (k, (id, tt))) (v ∷ [], (call-val k ∷ [], (vint w64 id ∷ [], tt)))) (WpFn 𝓤 H (𝓣 .C) (𝓣 .Λ) code.function (v ∷ call-val k ∷ vint w64 id ∷ []) Post)
     walk p =
-        qed W ((‵ (flft κ q) ⊛ ‵ ftrue) ∷ ‵ (owns (ShrSlice (named 0) κ R ∷ u64 ∷ u64 ∷ []) (s, (k, (id, tt))) (v ∷ [], (vint w64 k ∷ [], (vint w64 id ∷ [], tt)))) ∷ []) ∵ enter ! (𝓣 .C) (𝓣 .Λ) code.function (v ∷ vint w64 k ∷ vint w64 id ∷ []) _ $
+        qed W ((‵ (flft κ q) ⊛ ‵ ftrue) ∷ ‵ (owns (ShrSlice (named 0) κ R ∷ K ∷ u64 ∷ []) (s, (k, (id, tt))) (v ∷ [], (call-val k ∷ [], (vint w64 id ∷ [], tt)))) ∷ []) ∵ enter ! (𝓣 .C) (𝓣 .Λ) code.function (v ∷ call-val k ∷ vint w64 id ∷ []) _ $
         alloc1 ! (λ l0. alloc1 ! (λ l1. alloc1 ! (λ l2. alloc1 ! (λ l3. alloc1 ! (λ l4. alloc1 ! (λ l5. alloc1 ! (λ l6. alloc1 ! (λ l7. alloc1 ! (λ l8. alloc1 ! (λ l9. alloc0 ! $ params1 ! $
         pass1 ! (init ! 16 refl (shr-slice-lawful 𝓤 H A W (named 0) κ R .typed s (v ∷ []) p .0)) $
-        pass1 ! (init ! 14 refl (tt, record { fits = k-fits })) $
+        pass1 ! (init ! 14 refl (call-typed 𝓤 H A W k refl)) $
         pass1 ! (init ! 12 refl (tt, record { fits = id-fits })) $
         pass0 ! $
         assigns ! (of-opd ! (lit ! tt)) (from ! (stop !)) (init ! 10 refl (tt, record { fits = lit< tt })) $
@@ -204,18 +209,18 @@ module _ {M : Type 1} (𝓤 : URA M) (H : Heap 𝓤) (A : Atoms 𝓤) (W : Given
         fsplit ! $ drop ! $ fsplit ! $ drop ! $ move ! (22 ∷ []) $ split ! $ move ! (1 ∷ []) $ drop ! $ move ! (1 ∷ 0 ∷ []) $
         looks-slice ! tt R (Is R) (rec-shows 𝓤 H A) vals tells (rec-copy 𝓤 H A W) ys b o (λ q′.
         move ! (2 ∷ []) $ drop ! $
-        first ! $ blocks ! $ loops ! 𝓣 Nearer Nearer-wf (At 𝓣 p known q′ l0 l1 l2 l3 l4 l5 l6 l7 l8 l9) (turns 𝓣 p known q′ l0 l1 l2 l3 l4 l5 l6 l7 l8 l9) (0, clear-none k id ys))))))))))))
+        searches 𝓣 p known q′ l0 l1 l2 l3 l4 l5 l6 l7 l8 l9)))))))))))
 
 module _ {M : Type 1} (𝓤 : URA M) (H : Heap 𝓤) (A : Atoms 𝓤) (W : Given 𝓤 H A) (mem : Memory → SProp 𝓤) (run : Routine → Fun 𝓤) where
   find-walks : (𝓣 : Tables 𝓤 H) → Triple 𝓤 (𝓣 .C #connection·wanted) (WantedC 𝓤 H A mem run) → Walks 𝓤 H A find.ended stayed (WpFn 𝓤 H (𝓣 .C) (𝓣 .Λ) code.function) (find.clauses 𝓤 H A mem run)
-  find-walks 𝓣 known = walked 𝓤 H A find.ended stayed (find.clauses 𝓤 H A mem run) (WpFn 𝓤 H (𝓣 .C) (𝓣 .Λ) code.function) (λ κs. (slice-vals, (uint-vals w64, (uint-vals w64, tt)))) (λ κs. (shr-slice-tells (named 0) (κs .0) R, (uint-tells w64, (uint-tells w64, tt))))
+  find-walks 𝓣 known = walked 𝓤 H A find.ended stayed (find.clauses 𝓤 H A mem run) (WpFn 𝓤 H (𝓣 .C) (𝓣 .Λ) code.function) (λ κs. (slice-vals, (call-vals, (uint-vals w64, tt)))) (λ κs. (shr-slice-tells (named 0) (κs .0) R, (call-tells, (uint-tells w64, tt))))
       (λ κs qs bounds a g are. via 𝓤 _ (fst∗ 𝓤 _ (emp 𝓤))
-      (walk 𝓤 H A W mem run (κs .0) (qs .0) (a .0 .ptr .0) (a .0 .ptr .1) (a .0 .name) (a .0 .now) (a .1 .0) (a .1 .1 .0) (are .1 .0 .1) (are .1 .1 .0 .1) 𝓣 known (are .0)))
+      (walk 𝓤 H A W mem run (κs .0) (qs .0) (a .0 .ptr .0) (a .0 .ptr .1) (a .0 .name) (a .0 .now) (a .1 .0) (a .1 .1 .0) (are .1 .1 .0 .1) 𝓣 known (are .0)))
 
 find-meets : {M : Type 1} (𝓤 : URA M) (H : Heap 𝓤) (A : Atoms 𝓤) → Given 𝓤 H A → (mem : Memory → SProp 𝓤) (run : Routine → Fun 𝓤) (𝓣 : Tables 𝓤 H) → Triple 𝓤 (𝓣 .C #connection·wanted) (WantedC 𝓤 H A mem run)
     → Meets 𝓤 H A find.signature (WpFn 𝓤 H (𝓣 .C) (𝓣 .Λ) code.function) (find.spec 𝓤 H A mem run)
 find-meets 𝓤 H A W mem run 𝓣 known =
-    walk-meets 𝓤 H A find.ended stayed W (goes-none-slice 𝓤 H A W 1 (0 ∷ []) tt (plain (λ _. R)) yes, (goes-none 𝓤 H A W 1 (λ _. u64) yes (λ κs x f. refl), (goes-none 𝓤 H A W 1 (λ _. u64) yes (λ κs x f. refl), tt))) (find.clauses 𝓤 H A mem run)
+    walk-meets 𝓤 H A find.ended stayed W (goes-none-slice 𝓤 H A W 1 (0 ∷ []) tt (plain (λ _. R)) yes, (goes-none 𝓤 H A W 1 (λ _. K) yes (λ κs x f. refl), (goes-none 𝓤 H A W 1 (λ _. u64) yes (λ κs x f. refl), tt))) (find.clauses 𝓤 H A mem run)
     (WpFn 𝓤 H (𝓣 .C) (𝓣 .Λ) code.function) (WpFn-mono 𝓤 H (W .laws) 𝓣 code.function) (find-walks 𝓤 H A W mem run 𝓣 known)
 
 pub find-spec : {M : Type 1} → stated.statement M

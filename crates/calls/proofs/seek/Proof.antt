@@ -44,13 +44,14 @@ use Rattle.record.proofs.free as free
 use Rattle.record.proofs.free.Symbol as free-def
 use Rattle.record.proofs.free.Symbol.{name as #record·free}
 use Rattle.record.proofs.free.Met as free-thm
+use Rattle.connection.specs.declared.Call.{Call}
 use Rattle.connection.specs.declared.Found.{Found}
 use Rattle.connection.specs.Whose.{FoundIn}
 use Rattle.connection.proofs.Found as F
 use Rattle.connection.proofs.Found.Laws as F′
 use Rattle.calls.specs.Lent.{FirstIn}
 use Rattle.calls.specs.Search.{finds}
-use Rattle.calls.proofs.Laws.{R, vals, val, rec-shows, rec-makes, typed, spelt-rec, at-val}
+use Rattle.calls.proofs.Laws.{R, vals, val, rec-shows, rec-makes, typed, spelt-rec, at-val, K, call-vals, call-val, call-tells, is-call, call-makes, call-typed}
 use Rattle.calls.proofs.find as find
 use Rattle.calls.proofs.find.Symbol as find-def
 use Rattle.calls.proofs.find.Symbol.{name as #calls·find}
@@ -65,7 +66,7 @@ use Rattle.calls.proofs.seek.Statement as stated
 use Rattle.calls.proofs.seek.Code as code
 
 abbrev stayed : Stays (seek.ended .signature .params) (seek.ended .kept)
-stayed = (stay-none-slice (0 ∷ []) tt (plain (λ _. R)) yes, (stay-none (λ _. u64) yes, (stay-none (λ _. u64) yes, tt)))
+stayed = (stay-none-slice (0 ∷ []) tt (plain (λ _. R)) yes, (stay-none (λ _. K) yes, (stay-none (λ _. u64) yes, tt)))
 
 module _ {M : Type 1} (𝓤 : URA M) (H : Heap 𝓤) (A : Atoms 𝓤) (mem : Memory → SProp 𝓤) (run : Routine → Fun 𝓤) where
   -- the contracts that the proof cites
@@ -78,7 +79,7 @@ module _ {M : Type 1} (𝓤 : URA M) (H : Heap 𝓤) (A : Atoms 𝓤) (mem : Mem
   abbrev Fetch : Contract 𝓤
   Fetch = tripleOf 𝓤 H A fetch.signature (fetch.spec 𝓤 H A mem run)
 
-module _ {M : Type 1} (𝓤 : URA M) (H : Heap 𝓤) (A : Atoms 𝓤) (W : Given 𝓤 H A) (mem : Memory → SProp 𝓤) (run : Routine → Fun 𝓤) (κ : Lft) (q : Share) (s : RefT (List Record)) (k id : ℕ) (k-fits : k < 2 ^ 64) (id-fits : id < 2 ^ 64) where
+module _ {M : Type 1} (𝓤 : URA M) (H : Heap 𝓤) (A : Atoms 𝓤) (W : Given 𝓤 H A) (mem : Memory → SProp 𝓤) (run : Routine → Fun 𝓤) (κ : Lft) (q : Share) (s : RefT (List Record)) (k : Call) (id : ℕ) (id-fits : id < 2 ^ 64) where
   abbrev ys : List Record
   ys = s .now
 
@@ -89,17 +90,17 @@ module _ {M : Type 1} (𝓤 : URA M) (H : Heap 𝓤) (A : Atoms 𝓤) (W : Given
   v = sliceVal (s .ptr) n
 
   abbrev Post : Val → SProp 𝓤
-  Post = walkOf 𝓤 H A seek.ended stayed (seek.clauses 𝓤 H A mem run) .post (((κ, tt), (q, tt), tt, (s, (k, (id, tt))), (v ∷ [], (vint w64 k ∷ [], (vint w64 id ∷ [], tt)))), tt)
+  Post = walkOf 𝓤 H A seek.ended stayed (seek.clauses 𝓤 H A mem run) .post (((κ, tt), (q, tt), tt, (s, (k, (id, tt))), (v ∷ [], (call-val k ∷ [], (vint w64 id ∷ [], tt)))), tt)
 
   abbrev Own : Fml
   Own = ShrSlice (named 0) κ R .own s (v ∷ [])
 
   -- the call of `find`
   abbrev to-find : Find 𝓤 H A mem run .Ghost
-  to-find = (((κ, tt), (q, tt), tt, (s, (k, (id, tt))), (v ∷ [], (vint w64 k ∷ [], (vint w64 id ∷ [], tt)))), tt)
+  to-find = (((κ, tt), (q, tt), tt, (s, (k, (id, tt))), (v ∷ [], (call-val k ∷ [], (vint w64 id ∷ [], tt)))), tt)
 
   goes-find : ent 𝓤 (⋆ 𝓤 H A (‵ (flft κ q) ∷ ‵ Own ∷ [])) (Find 𝓤 H A mem run .pre to-find)
-  goes-find = qed W (‵ (flft κ q) ∷ ‵ Own ∷ []) ∵ nothing ! $ owned ! u64 (Is u64) (uint-makes 𝓤 H A W w64) id _ (refl, id-fits) $ fjoin ! $ owned ! u64 (Is u64) (uint-makes 𝓤 H A W w64) k _ (refl, k-fits) $ fjoin ! $ move ! (2 ∷ 0 ∷ []) $ fjoin ! $ nothing ! $ move ! (2 ∷ 0 ∷ []) $ join ! $ join ! $ frame ! $ done !
+  goes-find = qed W (‵ (flft κ q) ∷ ‵ Own ∷ []) ∵ nothing ! $ owned ! u64 (Is u64) (uint-makes 𝓤 H A W w64) id _ (refl, id-fits) $ fjoin ! $ owned ! K (Is K) (call-makes 𝓤 H A) k _ (is-call k) $ fjoin ! $ move ! (2 ∷ 0 ∷ []) $ fjoin ! $ nothing ! $ move ! (2 ∷ 0 ∷ []) $ join ! $ join ! $ frame ! $ done !
 
   find-said : (r : ℕ) → ent 𝓤 (ensured 𝓤 H A find.ended (find.clauses 𝓤 H A mem run) (κ, tt) (s, (k, (id, tt))) tt r) (fact 𝓤 (FirstIn k id ys r))
   find-said r = exE 𝓤 _ (λ ws. snd∗ 𝓤 (sem 𝓤 H A (lasts find.ended (κ, tt) (s, (k, (id, tt))) ws)) (fact 𝓤 (FirstIn k id ys r)))
@@ -138,17 +139,17 @@ module _ {M : Type 1} (𝓤 : URA M) (H : Heap 𝓤) (A : Atoms 𝓤) (W : Given
   exits : (i : ℕ) (r : Record) → FoundIn k id ys (found i r) → Is F.the-row (found i r) (found-val i r ∷ []) → ent 𝓤 (⋆ 𝓤 H A ((‵ (flft κ q) ⊛ ‵ ftrue) ∷ ‵ Own ∷ [])) (Post (found-val i r))
   exits i r e is =
       qed W ((‵ (flft κ q) ⊛ ‵ ftrue) ∷ ‵ Own ∷ []) ∵
-      suffices ! _ (ends-at 𝓤 H A seek.ended stayed (seek.clauses 𝓤 H A mem run) W (((κ, tt), (q, tt), tt, (s, (k, (id, tt))), (v ∷ [], (vint w64 k ∷ [], (vint w64 id ∷ [], tt)))), tt) (found-val i r) (found i r) (tt, (tt, (tt, tt))) (tt, (tt, (tt, tt)))) $ says ! e $
-      frame ! $ nothing ! $ owned ! u64 (Is u64) (uint-makes 𝓤 H A W w64) id _ (refl, id-fits) $ fjoin ! $ owned ! u64 (Is u64) (uint-makes 𝓤 H A W w64) k _ (refl, k-fits) $ fjoin ! $ move ! (1 ∷ 0 ∷ []) $ fjoin ! $ frame ! $
+      suffices ! _ (ends-at 𝓤 H A seek.ended stayed (seek.clauses 𝓤 H A mem run) W (((κ, tt), (q, tt), tt, (s, (k, (id, tt))), (v ∷ [], (call-val k ∷ [], (vint w64 id ∷ [], tt)))), tt) (found-val i r) (found i r) (tt, (tt, (tt, tt))) (tt, (tt, (tt, tt)))) $ says ! e $
+      frame ! $ nothing ! $ owned ! u64 (Is u64) (uint-makes 𝓤 H A W w64) id _ (refl, id-fits) $ fjoin ! $ owned ! K (Is K) (call-makes 𝓤 H A) k _ (is-call k) $ fjoin ! $ move ! (1 ∷ 0 ∷ []) $ fjoin ! $ frame ! $
       owned ! F.the-row (Is F.the-row) (LL.makes F.the-type F′.the-plain 𝓤 H A) (found i r) _ is $ done !
 
   module _ (C : Calls 𝓤 H) (Λ : Loops 𝓤 H) (fm : FmC 𝓤 H (W .laws) C) (known-find : Triple 𝓤 (C #calls·find) (Find 𝓤 H A mem run)) (known-free : Triple 𝓤 (C #record·free) (Free 𝓤 H A mem run)) (known-fetch : Triple 𝓤 (C #calls·fetch) (Fetch 𝓤 H A mem run)) where
-    walk : Is (ShrSlice (named 0) κ R) s (v ∷ []) → ent 𝓤 (onEntry 𝓤 H A seek.signature (κ, tt) (q, tt) (s, (k, (id, tt))) (v ∷ [], (vint w64 k ∷ [], (vint w64 id ∷ [], tt)))) (WpFn 𝓤 H C Λ code.function (v ∷ vint w64 k ∷ vint w64 id ∷ []) Post)
+    walk : Is (ShrSlice (named 0) κ R) s (v ∷ []) → ent 𝓤 (onEntry 𝓤 H A seek.signature (κ, tt) (q, tt) (s, (k, (id, tt))) (v ∷ [], (call-val k ∷ [], (vint w64 id ∷ [], tt)))) (WpFn 𝓤 H C Λ code.function (v ∷ call-val k ∷ vint w64 id ∷ []) Post)
     walk p =
-        qed W ((‵ (flft κ q) ⊛ ‵ ftrue) ∷ ‵ (owns (ShrSlice (named 0) κ R ∷ u64 ∷ u64 ∷ []) (s, (k, (id, tt))) (v ∷ [], (vint w64 k ∷ [], (vint w64 id ∷ [], tt)))) ∷ []) ∵ enter ! C Λ code.function (v ∷ vint w64 k ∷ vint w64 id ∷ []) _ $
+        qed W ((‵ (flft κ q) ⊛ ‵ ftrue) ∷ ‵ (owns (ShrSlice (named 0) κ R ∷ K ∷ u64 ∷ []) (s, (k, (id, tt))) (v ∷ [], (call-val k ∷ [], (vint w64 id ∷ [], tt)))) ∷ []) ∵ enter ! C Λ code.function (v ∷ call-val k ∷ vint w64 id ∷ []) _ $
         alloc1 ! (λ l0. alloc1 ! (λ l1. alloc1 ! (λ l2. alloc1 ! (λ l3. alloc1 ! (λ l4. alloc1 ! (λ l5. alloc1 ! (λ l6. alloc1 ! (λ l7. alloc0 ! $ params1 ! $
         pass1 ! (init ! 12 refl (shr-slice-lawful 𝓤 H A W (named 0) κ R .typed s (v ∷ []) p .0)) $
-        pass1 ! (init ! 10 refl (tt, record { fits = k-fits })) $
+        pass1 ! (init ! 10 refl (call-typed 𝓤 H A W k refl)) $
         pass1 ! (init ! 8 refl (tt, record { fits = id-fits })) $
         pass0 ! $
         move ! (17 ∷ []) $ fsplit ! $ move ! (1 ∷ []) $ drop ! $
@@ -200,13 +201,13 @@ module _ {M : Type 1} (𝓤 : URA M) (H : Heap 𝓤) (A : Atoms 𝓤) (W : Given
 module _ {M : Type 1} (𝓤 : URA M) (H : Heap 𝓤) (A : Atoms 𝓤) (W : Given 𝓤 H A) (mem : Memory → SProp 𝓤) (run : Routine → Fun 𝓤) where
   seek-walks : (C : Calls 𝓤 H) (Λ : Loops 𝓤 H) → FmC 𝓤 H (W .laws) C → Triple 𝓤 (C #calls·find) (Find 𝓤 H A mem run) → Triple 𝓤 (C #record·free) (Free 𝓤 H A mem run) → Triple 𝓤 (C #calls·fetch) (Fetch 𝓤 H A mem run)
       → Walks 𝓤 H A seek.ended stayed (WpFn 𝓤 H C Λ code.function) (seek.clauses 𝓤 H A mem run)
-  seek-walks C Λ fm k₁ k₂ k₃ = walked 𝓤 H A seek.ended stayed (seek.clauses 𝓤 H A mem run) (WpFn 𝓤 H C Λ code.function) (λ κs. (slice-vals, (uint-vals w64, (uint-vals w64, tt)))) (λ κs. (shr-slice-tells (named 0) (κs .0) R, (uint-tells w64, (uint-tells w64, tt))))
-      (λ κs qs bounds a g are. via 𝓤 _ (fst∗ 𝓤 _ (emp 𝓤)) (walk 𝓤 H A W mem run (κs .0) (qs .0) (a .0) (a .1 .0) (a .1 .1 .0) (are .1 .0 .1) (are .1 .1 .0 .1) C Λ fm k₁ k₂ k₃ (are .0)))
+  seek-walks C Λ fm k₁ k₂ k₃ = walked 𝓤 H A seek.ended stayed (seek.clauses 𝓤 H A mem run) (WpFn 𝓤 H C Λ code.function) (λ κs. (slice-vals, (call-vals, (uint-vals w64, tt)))) (λ κs. (shr-slice-tells (named 0) (κs .0) R, (call-tells, (uint-tells w64, tt))))
+      (λ κs qs bounds a g are. via 𝓤 _ (fst∗ 𝓤 _ (emp 𝓤)) (walk 𝓤 H A W mem run (κs .0) (qs .0) (a .0) (a .1 .0) (a .1 .1 .0) (are .1 .1 .0 .1) C Λ fm k₁ k₂ k₃ (are .0)))
 
 seek-meets : {M : Type 1} (𝓤 : URA M) (H : Heap 𝓤) (A : Atoms 𝓤) (W : Given 𝓤 H A) (mem : Memory → SProp 𝓤) (run : Routine → Fun 𝓤) (𝓣 : Tables 𝓤 H)
     → Triple 𝓤 (𝓣 .C #calls·find) (Find 𝓤 H A mem run) → Triple 𝓤 (𝓣 .C #record·free) (Free 𝓤 H A mem run) → Triple 𝓤 (𝓣 .C #calls·fetch) (Fetch 𝓤 H A mem run)
     → Meets 𝓤 H A seek.signature (WpFn 𝓤 H (𝓣 .C) (𝓣 .Λ) code.function) (seek.spec 𝓤 H A mem run)
-seek-meets 𝓤 H A W mem run 𝓣 k₁ k₂ k₃ = walk-meets 𝓤 H A seek.ended stayed W (goes-none-slice 𝓤 H A W 1 (0 ∷ []) tt (plain (λ _. R)) yes, (goes-none 𝓤 H A W 1 (λ _. u64) yes (λ κs x f. refl), (goes-none 𝓤 H A W 1 (λ _. u64) yes (λ κs x f. refl), tt))) (seek.clauses 𝓤 H A mem run) (WpFn 𝓤 H (𝓣 .C) (𝓣 .Λ) code.function) (WpFn-mono 𝓤 H (W .laws) 𝓣 code.function)
+seek-meets 𝓤 H A W mem run 𝓣 k₁ k₂ k₃ = walk-meets 𝓤 H A seek.ended stayed W (goes-none-slice 𝓤 H A W 1 (0 ∷ []) tt (plain (λ _. R)) yes, (goes-none 𝓤 H A W 1 (λ _. K) yes (λ κs x f. refl), (goes-none 𝓤 H A W 1 (λ _. u64) yes (λ κs x f. refl), tt))) (seek.clauses 𝓤 H A mem run) (WpFn 𝓤 H (𝓣 .C) (𝓣 .Λ) code.function) (WpFn-mono 𝓤 H (W .laws) 𝓣 code.function)
     (seek-walks 𝓤 H A W mem run (𝓣 .C) (𝓣 .Λ) (fmOf 𝓤 H (W .laws) 𝓣) k₁ k₂ k₃)
 
 pub seek-spec : {M : Type 1} → stated.statement M

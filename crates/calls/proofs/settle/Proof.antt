@@ -46,6 +46,7 @@ use denote.Exit.{yes}
 use Rattle.record.specs.declared.Record.{Record}
 use Rattle.connection.proofs.doors.Doors as D
 use Rattle.connection.proofs.doors.Doors.Laws as D′
+use Rattle.connection.specs.declared.Call.{Call}
 use Rattle.connection.specs.declared.Connection.{Connection}
 use Rattle.connection.specs.declared.Report.{Report}
 use Rattle.connection.specs.declared.Found.{Found}
@@ -57,6 +58,7 @@ use Rattle.connection.specs.Turned.{turn, Turned}
 use Rattle.connection.specs.Nearly.{Nearly, turned-near}
 use Rattle.connection.proofs.Connection as C
 use Rattle.connection.proofs.Connection.Laws as C′
+use Rattle.connection.proofs.Call.Laws as K′
 use Rattle.connection.proofs.Found as F
 use Rattle.connection.proofs.Found.Laws as F′
 use Rattle.connection.proofs.Brief as B
@@ -73,7 +75,7 @@ use Rattle.connection.proofs.decide as decide
 use Rattle.connection.proofs.decide.Symbol as decide-def
 use Rattle.connection.proofs.decide.Symbol.{name as #connection·decide}
 use Rattle.connection.proofs.decide.Met as decide-thm
-use Rattle.calls.proofs.Laws.{then-of}
+use Rattle.calls.proofs.Laws.{then-of, K, call-vals, call-val, call-tells, is-call, call-makes, call-typed}
 use Rattle.calls.proofs.Conn.{conn-vals, conn-makes, conn-typed, doors-vals, doors-makes, doors-typed, doors-of, with-doors, opens-conn, closes-conn, as-named}
 use Rattle.calls.proofs.settle.Key.{name as #calls·settle}
 use Rattle.calls.proofs.settle as self
@@ -82,7 +84,7 @@ use Rattle.calls.proofs.settle.Code as code
 use Rattle.calls.proofs.settle.Code.Mir as m
 
 abbrev stayed : Stays (self.ended .signature .params) (self.ended .kept)
-stayed = (stay-ref (0 ∷ []) tt (plain (λ _. C.the-row)), (stay-none (λ _. F.the-row) yes, (stay-none (λ _. u64) yes, (stay-none (λ _. u64) yes, (stay-none (λ _. u64) yes, (stay-none-slice (1 ∷ []) tt (plain (λ _. u8)) yes, tt))))))
+stayed = (stay-ref (0 ∷ []) tt (plain (λ _. C.the-row)), (stay-none (λ _. F.the-row) yes, (stay-none (λ _. K) yes, (stay-none (λ _. u64) yes, (stay-none (λ _. u64) yes, (stay-none-slice (1 ∷ []) tt (plain (λ _. u8)) yes, tt))))))
 
 module _ {M : Type 1} (𝓤 : URA M) (H : Heap 𝓤) (A : Atoms 𝓤) (at-mem : Memory → SProp 𝓤) (run : Routine → Fun 𝓤) where
   -- the contracts that the proof cites
@@ -113,7 +115,7 @@ brief r p = record { row = r; report = p }
 aside-no : (b : Bool) → Holds (not b) → b ≡ false
 aside-no false h = refl
 
-module _ {M : Type 1} (𝓤 : URA M) (H : Heap 𝓤) (A : Atoms 𝓤) (W : Given 𝓤 H A) (at-mem : Memory → SProp 𝓤) (run : Routine → Fun 𝓤) (κ₀ κ₁ : Lft) (q₀ q₁ : Share) (b₀ o₀ : ℕ) (γ₀ : GName) (c : Connection) (f : Found) (k id allow : ℕ) (piece : RefT (List ℕ)) (k-fits : k < 2 ^ 64) (id-fits : id < 2 ^ 64) (allow-fits : allow < 2 ^ 64) (is-f : Is F.the-row f (found-vals f)) where
+module _ {M : Type 1} (𝓤 : URA M) (H : Heap 𝓤) (A : Atoms 𝓤) (W : Given 𝓤 H A) (at-mem : Memory → SProp 𝓤) (run : Routine → Fun 𝓤) (κ₀ κ₁ : Lft) (q₀ q₁ : Share) (b₀ o₀ : ℕ) (γ₀ : GName) (c : Connection) (f : Found) (k : Call) (id allow : ℕ) (piece : RefT (List ℕ)) (id-fits : id < 2 ^ 64) (allow-fits : allow < 2 ^ 64) (is-f : Is F.the-row f (found-vals f)) where
   abbrev κs : Lfts 2
   κs = (κ₀, (κ₁, tt))
 
@@ -123,14 +125,14 @@ module _ {M : Type 1} (𝓤 : URA M) (H : Heap 𝓤) (A : Atoms 𝓤) (W : Given
   abbrev cr : RefT Connection
   cr = record { ptr = (b₀, o₀); name = γ₀; now = c }
 
-  abbrev a : RefT Connection × (Found × (ℕ × (ℕ × (ℕ × (RefT (List ℕ) × Unit {0})))))
+  abbrev a : RefT Connection × (Found × (Call × (ℕ × (ℕ × (RefT (List ℕ) × Unit {0})))))
   a = (cr, (f, (k, (id, (allow, (piece, tt))))))
 
   abbrev pv : Val
   pv = sliceVal (piece .ptr) (length (piece .now))
 
   abbrev at : List Val × (List Val × (List Val × (List Val × (List Val × (List Val × Unit {0})))))
-  at = (vptr b₀ o₀ ∷ [], (found-vals f, (vint w64 k ∷ [], (vint w64 id ∷ [], (vint w64 allow ∷ [], (pv ∷ [], tt))))))
+  at = (vptr b₀ o₀ ∷ [], (found-vals f, (call-val k ∷ [], (vint w64 id ∷ [], (vint w64 allow ∷ [], (pv ∷ [], tt))))))
 
   abbrev Post : Val → SProp 𝓤
   Post = walkOf 𝓤 H A self.ended stayed (self.clauses 𝓤 H A at-mem run) .post ((κs, qs, tt, a, at), tt)
@@ -140,11 +142,11 @@ module _ {M : Type 1} (𝓤 : URA M) (H : Heap 𝓤) (A : Atoms 𝓤) (W : Given
 
   -- the call of `answer`, with the doors
   abbrev to-answer : Answer 𝓤 H A at-mem run .Ghost
-  to-answer = (((κ₁, tt), (q₁, tt), tt, (c .doors, (f, (k, (id, (allow, (piece, tt)))))), (doors-vals (c .doors), (found-vals f, (vint w64 k ∷ [], (vint w64 id ∷ [], (vint w64 allow ∷ [], (pv ∷ [], tt))))))), tt)
+  to-answer = (((κ₁, tt), (q₁, tt), tt, (c .doors, (f, (k, (id, (allow, (piece, tt)))))), (doors-vals (c .doors), (found-vals f, (call-val k ∷ [], (vint w64 id ∷ [], (vint w64 allow ∷ [], (pv ∷ [], tt))))))), tt)
 
   goes-answer : Is D.the-row (c .doors) (doors-vals (c .doors)) → ent 𝓤 (⋆ 𝓤 H A ((‵ (flft κ₁ q₁) ⊛ ‵ ftrue) ∷ ‵ OwnPiece ∷ [])) (Answer 𝓤 H A at-mem run .pre to-answer)
   goes-answer is-d = qed W ((‵ (flft κ₁ q₁) ⊛ ‵ ftrue) ∷ ‵ OwnPiece ∷ []) ∵
-      nothing ! $ move ! (2 ∷ 0 ∷ []) $ fjoin ! $ owned ! u64 (Is u64) (uint-makes 𝓤 H A W w64) allow _ (refl, allow-fits) $ fjoin ! $ owned ! u64 (Is u64) (uint-makes 𝓤 H A W w64) id _ (refl, id-fits) $ fjoin ! $ owned ! u64 (Is u64) (uint-makes 𝓤 H A W w64) k _ (refl, k-fits) $ fjoin ! $
+      nothing ! $ move ! (2 ∷ 0 ∷ []) $ fjoin ! $ owned ! u64 (Is u64) (uint-makes 𝓤 H A W w64) allow _ (refl, allow-fits) $ fjoin ! $ owned ! u64 (Is u64) (uint-makes 𝓤 H A W w64) id _ (refl, id-fits) $ fjoin ! $ owned ! K (Is K) (call-makes 𝓤 H A) k _ (is-call k) $ fjoin ! $
       owned ! F.the-row (Is F.the-row) (LL.makes F.the-type F′.the-plain 𝓤 H A) f _ is-f $ fjoin ! $ owned ! D.the-row (Is D.the-row) (doors-makes 𝓤 H A) (c .doors) _ is-d $ fjoin ! $ move ! (1 ∷ 0 ∷ []) $ join ! $ frame ! $ done !
 
   answer-said : (n : Near) → ent 𝓤 (ensured 𝓤 H A answer.ended (answer.clauses 𝓤 H A at-mem run) (κ₁, tt) (c .doors, (f, (k, (id, (allow, (piece, tt)))))) tt n) (fact 𝓤 (Nearly (c .doors) f k id allow (piece .now) n))
@@ -152,11 +154,11 @@ module _ {M : Type 1} (𝓤 : URA M) (H : Heap 𝓤) (A : Atoms 𝓤) (W : Given
 
   -- the call of `decide`, with the whole connection
   abbrev to-decide : Decide 𝓤 H A at-mem run .Ghost
-  to-decide = (((κ₁, tt), (q₁, tt), tt, (c, (f, (k, (id, (allow, (piece, tt)))))), (conn-vals c, (found-vals f, (vint w64 k ∷ [], (vint w64 id ∷ [], (vint w64 allow ∷ [], (pv ∷ [], tt))))))), tt)
+  to-decide = (((κ₁, tt), (q₁, tt), tt, (c, (f, (k, (id, (allow, (piece, tt)))))), (conn-vals c, (found-vals f, (call-val k ∷ [], (vint w64 id ∷ [], (vint w64 allow ∷ [], (pv ∷ [], tt))))))), tt)
 
   goes-decide : Is C.the-row c (conn-vals c) → ent 𝓤 (⋆ 𝓤 H A ((‵ (flft κ₁ q₁) ⊛ ‵ ftrue) ∷ ‵ OwnPiece ∷ [])) (Decide 𝓤 H A at-mem run .pre to-decide)
   goes-decide is-c = qed W ((‵ (flft κ₁ q₁) ⊛ ‵ ftrue) ∷ ‵ OwnPiece ∷ []) ∵
-      nothing ! $ move ! (2 ∷ 0 ∷ []) $ fjoin ! $ owned ! u64 (Is u64) (uint-makes 𝓤 H A W w64) allow _ (refl, allow-fits) $ fjoin ! $ owned ! u64 (Is u64) (uint-makes 𝓤 H A W w64) id _ (refl, id-fits) $ fjoin ! $ owned ! u64 (Is u64) (uint-makes 𝓤 H A W w64) k _ (refl, k-fits) $ fjoin ! $
+      nothing ! $ move ! (2 ∷ 0 ∷ []) $ fjoin ! $ owned ! u64 (Is u64) (uint-makes 𝓤 H A W w64) allow _ (refl, allow-fits) $ fjoin ! $ owned ! u64 (Is u64) (uint-makes 𝓤 H A W w64) id _ (refl, id-fits) $ fjoin ! $ owned ! K (Is K) (call-makes 𝓤 H A) k _ (is-call k) $ fjoin ! $
       owned ! F.the-row (Is F.the-row) (LL.makes F.the-type F′.the-plain 𝓤 H A) f _ is-f $ fjoin ! $ owned ! C.the-row (Is C.the-row) (conn-makes 𝓤 H A) c _ is-c $ fjoin ! $ move ! (1 ∷ 0 ∷ []) $ join ! $ frame ! $ done !
 
   decide-said : (t : Turn) → ent 𝓤 (ensured 𝓤 H A decide.ended (decide.clauses 𝓤 H A at-mem run) (κ₁, tt) (c, (f, (k, (id, (allow, (piece, tt)))))) tt t) (fact 𝓤 (Turned c f k id allow (piece .now) t))
@@ -169,14 +171,14 @@ module _ {M : Type 1} (𝓤 : URA M) (H : Heap 𝓤) (A : Atoms 𝓤) (W : Given
       suffices ! _ (ends-at 𝓤 H A self.ended stayed (self.clauses 𝓤 H A at-mem run) W ((κs, qs, tt, a, at), tt) (only (brief-vals r)) r (c′, (tt, (tt, (tt, (tt, (tt, tt)))))) (tt, (tt, (tt, (tt, (tt, (tt, tt))))))) $ says ! e $
       move ! (2 ∷ 3 ∷ []) $ join ! $ frame ! $
       -- [obs; conn's borrow; what piece owns]
-      nothing ! $ move ! (3 ∷ 0 ∷ []) $ fjoin ! $ owned ! u64 (Is u64) (uint-makes 𝓤 H A W w64) allow _ (refl, allow-fits) $ fjoin ! $ owned ! u64 (Is u64) (uint-makes 𝓤 H A W w64) id _ (refl, id-fits) $ fjoin ! $ owned ! u64 (Is u64) (uint-makes 𝓤 H A W w64) k _ (refl, k-fits) $ fjoin ! $ owned ! F.the-row (Is F.the-row) (LL.makes F.the-type F′.the-plain 𝓤 H A) f _ is-f $ fjoin ! $
+      nothing ! $ move ! (3 ∷ 0 ∷ []) $ fjoin ! $ owned ! u64 (Is u64) (uint-makes 𝓤 H A W w64) allow _ (refl, allow-fits) $ fjoin ! $ owned ! u64 (Is u64) (uint-makes 𝓤 H A W w64) id _ (refl, id-fits) $ fjoin ! $ owned ! K (Is K) (call-makes 𝓤 H A) k _ (is-call k) $ fjoin ! $ owned ! F.the-row (Is F.the-row) (LL.makes F.the-type F′.the-plain 𝓤 H A) f _ is-f $ fjoin ! $
       move ! (1 ∷ 2 ∷ []) $ feqI ! (List Val) (vptr b₀ o₀ ∷ []) (vptr b₀ o₀ ∷ []) refl $ fjoin3 ! $ fjoin ! $ frame ! $ owned ! B.the-row (Is B.the-row) (LL.makes B.the-type B′.the-plain 𝓤 H A) r _ is $ done !
 
   module _ (Cs : Calls 𝓤 H) (Λ : Loops 𝓤 H) (fm : FmC 𝓤 H (W .laws) Cs) (known-answer : Triple 𝓤 (Cs #connection·answer) (Answer 𝓤 H A at-mem run)) (known-decide : Triple 𝓤 (Cs #connection·decide) (Decide 𝓤 H A at-mem run)) where
     -- where the locals lie
     module _ (l0 l1 l2 l3 l4 l5 l6 l7 l8 l9 l10 l11 : ℕ) where
       abbrev En : Env 𝓤 H
-      En = (B′.mir, l0) ∷ (conn-ref, l1) ∷ (F′.mir, l2) ∷ (tyInt w64, l3) ∷ (tyInt w64, l4) ∷ (tyInt w64, l5) ∷ (bytes-ref, l6) ∷ (E′.mir, l7) ∷ (O′.mir, l8) ∷ (D′.mir, l9) ∷ (tyBool, l10) ∷ (C′.mir, l11) ∷ []
+      En = (B′.mir, l0) ∷ (conn-ref, l1) ∷ (F′.mir, l2) ∷ (K′.mir, l3) ∷ (tyInt w64, l4) ∷ (tyInt w64, l5) ∷ (bytes-ref, l6) ∷ (E′.mir, l7) ∷ (O′.mir, l8) ∷ (D′.mir, l9) ∷ (tyBool, l10) ∷ (C′.mir, l11) ∷ []
 
       -- what the branch's arm ends in: the rest runs, or it returns
       abbrev arm : Ends 𝓤 H
@@ -186,7 +188,7 @@ module _ {M : Type 1} (𝓤 : URA M) (H : Heap 𝓤) (A : Atoms 𝓤) (W : Given
       abbrev Frame : Item 𝓤 → List (Item 𝓤)
       Frame at-n = (‵ (flft κ₁ q₁) ⊛ ‵ ftrue) ∷ ‵ OwnPiece ∷ ‵ (cellAt fullShare (C.the-row .mir) (conn-vals c) b₀ o₀) ∷ ‵ (fobor κ₀ q₀ (Body (mem C.the-row) b₀ o₀ γ₀)) ∷ ‵ (fobs γ₀ (C.the-row .coded .code c)) ∷ ‵ (fauth γ₀ (C.the-row .coded .code c))
           ∷ ‵ (froom C′.mir l11 0) ∷ ‵ (fdies C′.mir l11) ∷ ‵ (froom tyBool l10 0) ∷ ‵ (fdies tyBool l10) ∷ ‵ (froom D′.mir l9 0) ∷ ‵ (fdies D′.mir l9) ∷ ‵ (froom O′.mir l8 0) ∷ ‵ (fdies O′.mir l8) ∷ at-n ∷ ‵ (fdies E′.mir l7)
-          ∷ ‵ (fat fullShare bytes-ref l6 0 pv) ∷ ‵ (fdies bytes-ref l6) ∷ ‵ (fat fullShare (tyInt w64) l5 0 (vint w64 allow)) ∷ ‵ (fdies (tyInt w64) l5) ∷ ‵ (fat fullShare (tyInt w64) l4 0 (vint w64 id)) ∷ ‵ (fdies (tyInt w64) l4) ∷ ‵ (fat fullShare (tyInt w64) l3 0 (vint w64 k)) ∷ ‵ (fdies (tyInt w64) l3)
+          ∷ ‵ (fat fullShare bytes-ref l6 0 pv) ∷ ‵ (fdies bytes-ref l6) ∷ ‵ (fat fullShare (tyInt w64) l5 0 (vint w64 allow)) ∷ ‵ (fdies (tyInt w64) l5) ∷ ‵ (fat fullShare (tyInt w64) l4 0 (vint w64 id)) ∷ ‵ (fdies (tyInt w64) l4) ∷ ‵ (fat fullShare K′.mir l3 0 (call-val k)) ∷ ‵ (fdies K′.mir l3)
           ∷ ‵ (fat fullShare F′.mir l2 0 (only (found-vals f))) ∷ ‵ (fdies F′.mir l2) ∷ ‵ (fat fullShare conn-ref l1 0 (vptr b₀ o₀)) ∷ ‵ (fdies conn-ref l1) ∷ ‵ (froom B′.mir l0 0) ∷ ‵ (fdies B′.mir l0) ∷ []
 
       -- the side is asked: the whole connection is read and stored
@@ -228,12 +230,12 @@ module _ {M : Type 1} (𝓤 : URA M) (H : Heap 𝓤) (A : Atoms 𝓤) (W : Given
           returns ! (look ! 27 refl) $
           forget ! 13 refl $ forget ! 15 refl $ forget ! 17 refl $ forget ! 19 refl $ forget ! 21 refl $ forget ! 23 refl $ forget ! 25 refl $ forget ! 27 refl $
           move ! (27 ∷ 28 ∷ []) $ free1 ! $ move ! (25 ∷ 26 ∷ []) $ free1 ! $ move ! (23 ∷ 24 ∷ []) $ free1 ! $ move ! (21 ∷ 22 ∷ []) $ free1 ! $ move ! (19 ∷ 20 ∷ []) $ free1 ! $ move ! (17 ∷ 18 ∷ []) $ free1 ! $ move ! (15 ∷ 16 ∷ []) $ free1 ! $ move ! (13 ∷ 14 ∷ []) $ free1 ! $ move ! (11 ∷ 12 ∷ []) $ free1 ! $ move ! (9 ∷ 10 ∷ []) $ free1 ! $ move ! (7 ∷ 8 ∷ []) $ free1 ! $ move ! (5 ∷ 6 ∷ []) $ free1 ! $ free0 ! $
-          keep ! (0 ∷ 1 ∷ 2 ∷ 3 ∷ 4 ∷ []) $ by ! (exits (brief (n .row) (n .report)) (withDoors c (n .doors)) (turned-near e not-so) is-r)
+          keep ! (0 ∷ 1 ∷ 2 ∷ 3 ∷ 4 ∷ []) $ by ! (exits (brief (n .row) (n .report)) (withDoors c (n .doors)) (turned-near e not-so refl) is-r)
 
       -- the doors are read, and `answer` says whether they decide
       body-walk : Sq W (‵ (froom C′.mir l11 0) ∷ ‵ (fdies C′.mir l11) ∷ ‵ (froom tyBool l10 0) ∷ ‵ (fdies tyBool l10) ∷ ‵ (froom D′.mir l9 0) ∷ ‵ (fdies D′.mir l9) ∷ ‵ (froom O′.mir l8 0) ∷ ‵ (fdies O′.mir l8) ∷ ‵ (froom E′.mir l7 0) ∷ ‵ (fdies E′.mir l7)
-          ∷ ‵ (fat fullShare bytes-ref l6 0 pv) ∷ ‵ (fdies bytes-ref l6) ∷ ‵ (fat fullShare (tyInt w64) l5 0 (vint w64 allow)) ∷ ‵ (fdies (tyInt w64) l5) ∷ ‵ (fat fullShare (tyInt w64) l4 0 (vint w64 id)) ∷ ‵ (fdies (tyInt w64) l4) ∷ ‵ (fat fullShare (tyInt w64) l3 0 (vint w64 k)) ∷ ‵ (fdies (tyInt w64) l3)
-          ∷ ‵ (fat fullShare F′.mir l2 0 (only (found-vals f))) ∷ ‵ (fdies F′.mir l2) ∷ ‵ (fat fullShare conn-ref l1 0 (vptr b₀ o₀)) ∷ ‵ (fdies conn-ref l1) ∷ ‵ (froom B′.mir l0 0) ∷ ‵ (fdies B′.mir l0) ∷ (‵ (flft κ₀ q₀) ⊛ ‵ (flft κ₁ q₁) ⊛ ‵ ftrue) ∷ ‵ (owns (MutRef (named 0) κ₀ C.the-row ∷ F.the-row ∷ u64 ∷ u64 ∷ u64 ∷ ShrSlice (named 1) κ₁ u8 ∷ []) a at) ∷ []) (runs Cs Λ En (code.function .body) (atRet En Post))
+          ∷ ‵ (fat fullShare bytes-ref l6 0 pv) ∷ ‵ (fdies bytes-ref l6) ∷ ‵ (fat fullShare (tyInt w64) l5 0 (vint w64 allow)) ∷ ‵ (fdies (tyInt w64) l5) ∷ ‵ (fat fullShare (tyInt w64) l4 0 (vint w64 id)) ∷ ‵ (fdies (tyInt w64) l4) ∷ ‵ (fat fullShare K′.mir l3 0 (call-val k)) ∷ ‵ (fdies K′.mir l3)
+          ∷ ‵ (fat fullShare F′.mir l2 0 (only (found-vals f))) ∷ ‵ (fdies F′.mir l2) ∷ ‵ (fat fullShare conn-ref l1 0 (vptr b₀ o₀)) ∷ ‵ (fdies conn-ref l1) ∷ ‵ (froom B′.mir l0 0) ∷ ‵ (fdies B′.mir l0) ∷ (‵ (flft κ₀ q₀) ⊛ ‵ (flft κ₁ q₁) ⊛ ‵ ftrue) ∷ ‵ (owns (MutRef (named 0) κ₀ C.the-row ∷ F.the-row ∷ K ∷ u64 ∷ u64 ∷ ShrSlice (named 1) κ₁ u8 ∷ []) a at) ∷ []) (runs Cs Λ En (code.function .body) (atRet En Post))
       body-walk =
           move ! (25 ∷ []) $ fsplit ! $ move ! (1 ∷ []) $ fsplit ! $ drop ! $ fsplit ! $ drop ! $ fsplit ! $ drop ! $ fsplit ! $ drop ! $ fsplit ! $ move ! (1 ∷ []) $ drop ! $ move ! (26 ∷ []) $ split ! $ move ! (3 ∷ 0 ∷ []) $
           opens-conn ! tt b₀ o₀ γ₀ c (λ is-c.
@@ -258,14 +260,14 @@ module _ {M : Type 1} (𝓤 : URA M) (H : Heap 𝓤) (A : Atoms 𝓤) (W : Given
           (λ not-so. skips ! $ exec ! Cs Λ En m.t-5 (atRet En Post) $ forget ! 8 refl $ forget ! 10 refl $
           near-walk n is-c (subst (Is E.the-row n) (LL.tells E.the-type E′.the-laws n _ is-n) is-n) e (aside-no (n .aside) not-so)))))))
 
-    walk : Is (ShrSlice (named 1) κ₁ u8) piece (pv ∷ []) → ent 𝓤 (onEntry 𝓤 H A self.signature κs qs a at) (WpFn 𝓤 H Cs Λ code.function (vptr b₀ o₀ ∷ only (found-vals f) ∷ vint w64 k ∷ vint w64 id ∷ vint w64 allow ∷ pv ∷ []) Post)
+    walk : Is (ShrSlice (named 1) κ₁ u8) piece (pv ∷ []) → ent 𝓤 (onEntry 𝓤 H A self.signature κs qs a at) (WpFn 𝓤 H Cs Λ code.function (vptr b₀ o₀ ∷ only (found-vals f) ∷ call-val k ∷ vint w64 id ∷ vint w64 allow ∷ pv ∷ []) Post)
     walk p =
-        qed W ((‵ (flft κ₀ q₀) ⊛ ‵ (flft κ₁ q₁) ⊛ ‵ ftrue) ∷ ‵ (owns (MutRef (named 0) κ₀ C.the-row ∷ F.the-row ∷ u64 ∷ u64 ∷ u64 ∷ ShrSlice (named 1) κ₁ u8 ∷ []) a at) ∷ []) ∵
-        enter ! Cs Λ code.function (vptr b₀ o₀ ∷ only (found-vals f) ∷ vint w64 k ∷ vint w64 id ∷ vint w64 allow ∷ pv ∷ []) _ $
+        qed W ((‵ (flft κ₀ q₀) ⊛ ‵ (flft κ₁ q₁) ⊛ ‵ ftrue) ∷ ‵ (owns (MutRef (named 0) κ₀ C.the-row ∷ F.the-row ∷ K ∷ u64 ∷ u64 ∷ ShrSlice (named 1) κ₁ u8 ∷ []) a at) ∷ []) ∵
+        enter ! Cs Λ code.function (vptr b₀ o₀ ∷ only (found-vals f) ∷ call-val k ∷ vint w64 id ∷ vint w64 allow ∷ pv ∷ []) _ $
         alloc1 ! (λ l0. alloc1 ! (λ l1. alloc1 ! (λ l2. alloc1 ! (λ l3. alloc1 ! (λ l4. alloc1 ! (λ l5. alloc1 ! (λ l6. alloc1 ! (λ l7. alloc1 ! (λ l8. alloc1 ! (λ l9. alloc1 ! (λ l10. alloc1 ! (λ l11. alloc0 ! $ params1 ! $
         pass1 ! (init ! 20 refl (tt, tt)) $
         pass1 ! (init ! 18 refl (LL.lawful F.the-type F′.the-laws 𝓤 H A W .typed f _ is-f .0)) $
-        pass1 ! (init ! 16 refl (tt, record { fits = k-fits })) $
+        pass1 ! (init ! 16 refl (call-typed 𝓤 H A W k refl)) $
         pass1 ! (init ! 14 refl (tt, record { fits = id-fits })) $
         pass1 ! (init ! 12 refl (tt, record { fits = allow-fits })) $
         pass1 ! (init ! 10 refl (shr-slice-lawful 𝓤 H A W (named 1) κ₁ u8 .typed piece (pv ∷ []) p .0)) $
@@ -274,15 +276,15 @@ module _ {M : Type 1} (𝓤 : URA M) (H : Heap 𝓤) (A : Atoms 𝓤) (W : Given
 
 module _ {M : Type 1} (𝓤 : URA M) (H : Heap 𝓤) (A : Atoms 𝓤) (W : Given 𝓤 H A) (at-mem : Memory → SProp 𝓤) (run : Routine → Fun 𝓤) where
   walks : (Cs : Calls 𝓤 H) (Λ : Loops 𝓤 H) → FmC 𝓤 H (W .laws) Cs → Triple 𝓤 (Cs #connection·answer) (Answer 𝓤 H A at-mem run) → Triple 𝓤 (Cs #connection·decide) (Decide 𝓤 H A at-mem run) → Walks 𝓤 H A self.ended stayed (WpFn 𝓤 H Cs Λ code.function) (self.clauses 𝓤 H A at-mem run)
-  walks Cs Λ fm k₁ k₂ = walked 𝓤 H A self.ended stayed (self.clauses 𝓤 H A at-mem run) (WpFn 𝓤 H Cs Λ code.function) (λ κs. (ptr-vals, (found-vals, (uint-vals w64, (uint-vals w64, (uint-vals w64, (slice-vals, tt)))))))
-      (λ κs. (mut-tells (named 0) (κs .0) C.the-row, (LL.tells F.the-type F′.the-laws, (uint-tells w64, (uint-tells w64, (uint-tells w64, (shr-slice-tells (named 1) (κs .1 .0) u8, tt)))))))
+  walks Cs Λ fm k₁ k₂ = walked 𝓤 H A self.ended stayed (self.clauses 𝓤 H A at-mem run) (WpFn 𝓤 H Cs Λ code.function) (λ κs. (ptr-vals, (found-vals, (call-vals, (uint-vals w64, (uint-vals w64, (slice-vals, tt)))))))
+      (λ κs. (mut-tells (named 0) (κs .0) C.the-row, (LL.tells F.the-type F′.the-laws, (call-tells, (uint-tells w64, (uint-tells w64, (shr-slice-tells (named 1) (κs .1 .0) u8, tt)))))))
       (λ κs qs bounds a g are. via 𝓤 _ (fst∗ 𝓤 _ (emp 𝓤))
       (walk 𝓤 H A W at-mem run (κs .0) (κs .1 .0) (qs .0) (qs .1 .0) (a .0 .ptr .0) (a .0 .ptr .1) (a .0 .name) (a .0 .now) (a .1 .0) (a .1 .1 .0) (a .1 .1 .1 .0) (a .1 .1 .1 .1 .0) (a .1 .1 .1 .1 .1 .0)
-      (are .1 .1 .0 .1) (are .1 .1 .1 .0 .1) (are .1 .1 .1 .1 .0 .1) (are .1 .0) Cs Λ fm k₁ k₂ (are .1 .1 .1 .1 .1 .0)))
+      (are .1 .1 .1 .0 .1) (are .1 .1 .1 .1 .0 .1) (are .1 .0) Cs Λ fm k₁ k₂ (are .1 .1 .1 .1 .1 .0)))
 
   meets : (𝓣 : Tables 𝓤 H) → Triple 𝓤 (𝓣 .C #connection·answer) (Answer 𝓤 H A at-mem run) → Triple 𝓤 (𝓣 .C #connection·decide) (Decide 𝓤 H A at-mem run) → Meets 𝓤 H A self.signature (WpFn 𝓤 H (𝓣 .C) (𝓣 .Λ) code.function) (self.spec 𝓤 H A at-mem run)
   meets 𝓣 k₁ k₂ =
-      walk-meets 𝓤 H A self.ended stayed W (goes-ref 𝓤 H A W 2 0 tt (plain (λ _. C.the-row)), (goes-none 𝓤 H A W 2 (λ _. F.the-row) yes (λ κs x f. refl), (goes-none 𝓤 H A W 2 (λ _. u64) yes (λ κs x f. refl), (goes-none 𝓤 H A W 2 (λ _. u64) yes (λ κs x f. refl), (goes-none 𝓤 H A W 2 (λ _. u64) yes (λ κs x f. refl), (goes-none-slice 𝓤 H A W 2 (1 ∷ []) tt (plain (λ _. u8)) yes, tt)))))) (self.clauses 𝓤 H A at-mem run)
+      walk-meets 𝓤 H A self.ended stayed W (goes-ref 𝓤 H A W 2 0 tt (plain (λ _. C.the-row)), (goes-none 𝓤 H A W 2 (λ _. F.the-row) yes (λ κs x f. refl), (goes-none 𝓤 H A W 2 (λ _. K) yes (λ κs x f. refl), (goes-none 𝓤 H A W 2 (λ _. u64) yes (λ κs x f. refl), (goes-none 𝓤 H A W 2 (λ _. u64) yes (λ κs x f. refl), (goes-none-slice 𝓤 H A W 2 (1 ∷ []) tt (plain (λ _. u8)) yes, tt)))))) (self.clauses 𝓤 H A at-mem run)
       (WpFn 𝓤 H (𝓣 .C) (𝓣 .Λ) code.function) (WpFn-mono 𝓤 H (W .laws) 𝓣 code.function) (walks (𝓣 .C) (𝓣 .Λ) (fmOf 𝓤 H (W .laws) 𝓣) k₁ k₂)
 
 pub settle-spec : {M : Type 1} → stated.statement M

@@ -43,6 +43,7 @@ use denote.Triple.Table.{entered, cited}
 use denote.Triple.Walked.{says, Stays, stay-none, stay-none-slice, gave-ref, gave-slice, walkOf, goes-none, goes-none-slice, goes-gave-ref, goes-gave-slice, Walks, ends-at, walked, walk-meets}
 use denote.Exit.{yes}
 use Rattle.record.specs.declared.Record.{Record}
+use Rattle.connection.specs.declared.Call.{Call}
 use Rattle.connection.specs.declared.Connection.{Connection}
 use Rattle.connection.specs.declared.Found.{Found}
 use Rattle.connection.specs.declared.Brief.{Brief}
@@ -56,7 +57,7 @@ use Rattle.connection.proofs.Brief.Laws as B′
 use Rattle.connection.proofs.Report as N
 use Rattle.connection.proofs.Report.Laws as N′
 use Rattle.calls.specs.Lent.{Stepped}
-use Rattle.calls.proofs.Laws.{R, vals, rec-makes}
+use Rattle.calls.proofs.Laws.{R, vals, rec-makes, K, call-vals, call-val, call-tells, is-call, call-makes, call-typed}
 use Rattle.calls.proofs.Share.{Shared, lends-shared, shared-back}
 use Rattle.calls.proofs.seek as seek
 use Rattle.calls.proofs.seek.Symbol as seek-def
@@ -76,7 +77,7 @@ use Rattle.calls.proofs.step.Statement as stated
 use Rattle.calls.proofs.step.Code as code
 
 abbrev stayed : Stays (step.ended .signature .params) (step.ended .kept)
-stayed = (gave-ref (0 ∷ []) tt (plain (λ _. C.the-row)), (gave-slice (1 ∷ []) tt (plain (λ _. R)), (stay-none (λ _. u64) yes, (stay-none (λ _. u64) yes, (stay-none (λ _. u64) yes, (stay-none-slice (2 ∷ []) tt (plain (λ _. u8)) yes, tt))))))
+stayed = (gave-ref (0 ∷ []) tt (plain (λ _. C.the-row)), (gave-slice (1 ∷ []) tt (plain (λ _. R)), (stay-none (λ _. K) yes, (stay-none (λ _. u64) yes, (stay-none (λ _. u64) yes, (stay-none-slice (2 ∷ []) tt (plain (λ _. u8)) yes, tt))))))
 
 module _ {M : Type 1} (𝓤 : URA M) (H : Heap 𝓤) (A : Atoms 𝓤) (at-mem : Memory → SProp 𝓤) (run : Routine → Fun 𝓤) where
   -- the contracts that the proof cites
@@ -92,7 +93,7 @@ module _ {M : Type 1} (𝓤 : URA M) (H : Heap 𝓤) (A : Atoms 𝓤) (at-mem : 
 abbrev found-vals : Found → List Val
 found-vals = LL.vals F.the-type F′.the-laws
 
-module _ {M : Type 1} (𝓤 : URA M) (H : Heap 𝓤) (A : Atoms 𝓤) (W : Given 𝓤 H A) (at-mem : Memory → SProp 𝓤) (run : Routine → Fun 𝓤) (κ₀ κ₁ κ₂ : Lft) (q₀ q₁ q₂ : Share) (b₀ o₀ : ℕ) (γ₀ : GName) (c : Connection) (b o : ℕ) (γ : GName) (ys : List Record) (k id allow : ℕ) (piece : RefT (List ℕ)) (k-fits : k < 2 ^ 64) (id-fits : id < 2 ^ 64) (allow-fits : allow < 2 ^ 64) where
+module _ {M : Type 1} (𝓤 : URA M) (H : Heap 𝓤) (A : Atoms 𝓤) (W : Given 𝓤 H A) (at-mem : Memory → SProp 𝓤) (run : Routine → Fun 𝓤) (κ₀ κ₁ κ₂ : Lft) (q₀ q₁ q₂ : Share) (b₀ o₀ : ℕ) (γ₀ : GName) (c : Connection) (b o : ℕ) (γ : GName) (ys : List Record) (k : Call) (id allow : ℕ) (piece : RefT (List ℕ)) (id-fits : id < 2 ^ 64) (allow-fits : allow < 2 ^ 64) where
   abbrev κs : Lfts 3
   κs = (κ₀, (κ₁, (κ₂, tt)))
 
@@ -106,7 +107,7 @@ module _ {M : Type 1} (𝓤 : URA M) (H : Heap 𝓤) (A : Atoms 𝓤) (W : Given
   x δ = record { ptr = (b, o); name = δ; now = ys }
 
   abbrev Arg : Type 0
-  Arg = RefT Connection × (RefT (List Record) × (ℕ × (ℕ × (ℕ × (RefT (List ℕ) × Unit {0})))))
+  Arg = RefT Connection × (RefT (List Record) × (Call × (ℕ × (ℕ × (RefT (List ℕ) × Unit {0})))))
 
   abbrev a : Arg
   a = (cr, (x γ, (k, (id, (allow, (piece, tt))))))
@@ -118,7 +119,7 @@ module _ {M : Type 1} (𝓤 : URA M) (H : Heap 𝓤) (A : Atoms 𝓤) (W : Given
   pv = sliceVal (piece .ptr) (length (piece .now))
 
   abbrev at : List Val × (List Val × (List Val × (List Val × (List Val × (List Val × Unit {0})))))
-  at = (vptr b₀ o₀ ∷ [], (v ∷ [], (vint w64 k ∷ [], (vint w64 id ∷ [], (vint w64 allow ∷ [], (pv ∷ [], tt))))))
+  at = (vptr b₀ o₀ ∷ [], (v ∷ [], (call-val k ∷ [], (vint w64 id ∷ [], (vint w64 allow ∷ [], (pv ∷ [], tt))))))
 
   abbrev Post : Val → SProp 𝓤
   Post = walkOf 𝓤 H A step.ended stayed (step.clauses 𝓤 H A at-mem run) .post ((κs, qs, tt, a, at), tt)
@@ -128,11 +129,11 @@ module _ {M : Type 1} (𝓤 : URA M) (H : Heap 𝓤) (A : Atoms 𝓤) (W : Given
 
   -- the call of `seek`, for a lifetime ν, under the name δ
   abbrev to-seek : ℕ → GName → Seek 𝓤 H A at-mem run .Ghost
-  to-seek ν δ = (((ν ∷ [], tt), (fullShare, tt), tt, (x δ, (k, (id, tt))), (v ∷ [], (vint w64 k ∷ [], (vint w64 id ∷ [], tt)))), tt)
+  to-seek ν δ = (((ν ∷ [], tt), (fullShare, tt), tt, (x δ, (k, (id, tt))), (v ∷ [], (call-val k ∷ [], (vint w64 id ∷ [], tt)))), tt)
 
   goes-seek : (ν : ℕ) (δ : GName) → ent 𝓤 (⋆ 𝓤 H A (‵ (flft (ν ∷ []) fullShare) ∷ ‵ (ShrSlice (named 0) (ν ∷ []) R .own (x δ) (v ∷ [])) ∷ [])) (Seek 𝓤 H A at-mem run .pre (to-seek ν δ))
   goes-seek ν δ = qed W (‵ (flft (ν ∷ []) fullShare) ∷ ‵ (ShrSlice (named 0) (ν ∷ []) R .own (x δ) (v ∷ [])) ∷ []) ∵
-      nothing ! $ owned ! u64 (Is u64) (uint-makes 𝓤 H A W w64) id _ (refl, id-fits) $ fjoin ! $ owned ! u64 (Is u64) (uint-makes 𝓤 H A W w64) k _ (refl, k-fits) $ fjoin ! $ move ! (2 ∷ 0 ∷ []) $ fjoin ! $ nothing ! $ move ! (2 ∷ 0 ∷ []) $ join ! $ join ! $ frame ! $ done !
+      nothing ! $ owned ! u64 (Is u64) (uint-makes 𝓤 H A W w64) id _ (refl, id-fits) $ fjoin ! $ owned ! K (Is K) (call-makes 𝓤 H A) k _ (is-call k) $ fjoin ! $ move ! (2 ∷ 0 ∷ []) $ fjoin ! $ nothing ! $ move ! (2 ∷ 0 ∷ []) $ join ! $ join ! $ frame ! $ done !
 
   seek-said : (ν : ℕ) (δ : GName) (f : Found) → ent 𝓤 (ensured 𝓤 H A seek.ended (seek.clauses 𝓤 H A at-mem run) (ν ∷ [], tt) (x δ, (k, (id, tt))) tt f) (fact 𝓤 (FoundIn k id ys f))
   seek-said ν δ f = exE 𝓤 _ (λ ws. snd∗ 𝓤 (sem 𝓤 H A (lasts seek.ended (ν ∷ [], tt) (x δ, (k, (id, tt))) ws)) (fact 𝓤 (FoundIn k id ys f)))
@@ -145,17 +146,17 @@ module _ {M : Type 1} (𝓤 : URA M) (H : Heap 𝓤) (A : Atoms 𝓤) (W : Given
   Tokens = ‵ (flft κ₀ q₀) ⊛ ‵ (flft κ₂ q₂) ⊛ ‵ ftrue
 
   abbrev Args : Type 0
-  Args = RefT Connection × (Found × (ℕ × (ℕ × (ℕ × (RefT (List ℕ) × Unit {0})))))
+  Args = RefT Connection × (Found × (Call × (ℕ × (ℕ × (RefT (List ℕ) × Unit {0})))))
 
   abbrev args : Found → Args
   args f = (cr, (f, (k, (id, (allow, (piece, tt))))))
 
   abbrev to-settle : Found → Settle 𝓤 H A at-mem run .Ghost
-  to-settle f = (((κ₀, (κ₂, tt)), (q₀, (q₂, tt)), tt, args f, (vptr b₀ o₀ ∷ [], (found-vals f, (vint w64 k ∷ [], (vint w64 id ∷ [], (vint w64 allow ∷ [], (pv ∷ [], tt))))))), tt)
+  to-settle f = (((κ₀, (κ₂, tt)), (q₀, (q₂, tt)), tt, args f, (vptr b₀ o₀ ∷ [], (found-vals f, (call-val k ∷ [], (vint w64 id ∷ [], (vint w64 allow ∷ [], (pv ∷ [], tt))))))), tt)
 
   goes-settle : (f : Found) → Is F.the-row f (found-vals f) → ent 𝓤 (⋆ 𝓤 H A (Lent ∷ Tokens ∷ [])) (Settle 𝓤 H A at-mem run .pre (to-settle f))
   goes-settle f is-f = qed W (Lent ∷ Tokens ∷ []) ∵
-      split ! $ nothing ! $ move ! (2 ∷ 0 ∷ []) $ fjoin ! $ owned ! u64 (Is u64) (uint-makes 𝓤 H A W w64) allow _ (refl, allow-fits) $ fjoin ! $ owned ! u64 (Is u64) (uint-makes 𝓤 H A W w64) id _ (refl, id-fits) $ fjoin ! $ owned ! u64 (Is u64) (uint-makes 𝓤 H A W w64) k _ (refl, k-fits) $ fjoin ! $ owned ! F.the-row (Is F.the-row) (LL.makes F.the-type F′.the-plain 𝓤 H A) f _ is-f $ fjoin ! $
+      split ! $ nothing ! $ move ! (2 ∷ 0 ∷ []) $ fjoin ! $ owned ! u64 (Is u64) (uint-makes 𝓤 H A W w64) allow _ (refl, allow-fits) $ fjoin ! $ owned ! u64 (Is u64) (uint-makes 𝓤 H A W w64) id _ (refl, id-fits) $ fjoin ! $ owned ! K (Is K) (call-makes 𝓤 H A) k _ (is-call k) $ fjoin ! $ owned ! F.the-row (Is F.the-row) (LL.makes F.the-type F′.the-plain 𝓤 H A) f _ is-f $ fjoin ! $
       move ! (1 ∷ 0 ∷ []) $ fjoin ! $ move ! (1 ∷ 0 ∷ []) $ join ! $ frame ! $ done !
 
   -- the connection that it leaves, and what it promises of it
@@ -181,18 +182,18 @@ module _ {M : Type 1} (𝓤 : URA M) (H : Heap 𝓤) (A : Atoms 𝓤) (W : Given
       says ! e $
       split ! $ move ! (1 ∷ []) $ drop ! $ move ! (2 ∷ []) $ split ! $ move ! (2 ∷ 1 ∷ []) $ join ! $ move ! (1 ∷ 0 ∷ []) $ join ! $ frame ! $
       -- [row's last list; conn's last value; what piece owns]
-      nothing ! $ move ! (3 ∷ 0 ∷ []) $ fjoin ! $ owned ! u64 (Is u64) (uint-makes 𝓤 H A W w64) allow _ (refl, allow-fits) $ fjoin ! $ owned ! u64 (Is u64) (uint-makes 𝓤 H A W w64) id _ (refl, id-fits) $ fjoin ! $ owned ! u64 (Is u64) (uint-makes 𝓤 H A W w64) k _ (refl, k-fits) $ fjoin ! $ move ! (1 ∷ 0 ∷ []) $ fjoin ! $ move ! (1 ∷ 0 ∷ []) $ fjoin ! $ frame ! $
+      nothing ! $ move ! (3 ∷ 0 ∷ []) $ fjoin ! $ owned ! u64 (Is u64) (uint-makes 𝓤 H A W w64) allow _ (refl, allow-fits) $ fjoin ! $ owned ! u64 (Is u64) (uint-makes 𝓤 H A W w64) id _ (refl, id-fits) $ fjoin ! $ owned ! K (Is K) (call-makes 𝓤 H A) k _ (is-call k) $ fjoin ! $ move ! (1 ∷ 0 ∷ []) $ fjoin ! $ move ! (1 ∷ 0 ∷ []) $ fjoin ! $ frame ! $
       owned ! N.the-row (Is N.the-row) (LL.makes N.the-type N′.the-plain 𝓤 H A) (t .report) _ is $ done !
 
   module _ (Cs : Calls 𝓤 H) (Λ : Loops 𝓤 H) (fm : FmC 𝓤 H (W .laws) Cs) (known-seek : Triple 𝓤 (Cs #calls·seek) (Seek 𝓤 H A at-mem run)) (known-settle : Triple 𝓤 (Cs #calls·settle) (Settle 𝓤 H A at-mem run)) (known-store : Triple 𝓤 (Cs #calls·store) (Store 𝓤 H A at-mem run)) where
-    walk : Is (MutSlice (named 1) κ₁ R) (x γ) (v ∷ []) → Is (ShrSlice (named 2) κ₂ u8) piece (pv ∷ []) → ent 𝓤 (onEntry 𝓤 H A step.signature κs qs a at) (WpFn 𝓤 H Cs Λ code.function (vptr b₀ o₀ ∷ v ∷ vint w64 k ∷ vint w64 id ∷ vint w64 allow ∷ pv ∷ []) Post)
+    walk : Is (MutSlice (named 1) κ₁ R) (x γ) (v ∷ []) → Is (ShrSlice (named 2) κ₂ u8) piece (pv ∷ []) → ent 𝓤 (onEntry 𝓤 H A step.signature κs qs a at) (WpFn 𝓤 H Cs Λ code.function (vptr b₀ o₀ ∷ v ∷ call-val k ∷ vint w64 id ∷ vint w64 allow ∷ pv ∷ []) Post)
     walk p p′ =
-        qed W ((‵ (flft κ₀ q₀) ⊛ ‵ (flft κ₁ q₁) ⊛ ‵ (flft κ₂ q₂) ⊛ ‵ ftrue) ∷ ‵ (owns (MutRef (named 0) κ₀ C.the-row ∷ MutSlice (named 1) κ₁ R ∷ u64 ∷ u64 ∷ u64 ∷ ShrSlice (named 2) κ₂ u8 ∷ []) a at) ∷ []) ∵
-        enter ! Cs Λ code.function (vptr b₀ o₀ ∷ v ∷ vint w64 k ∷ vint w64 id ∷ vint w64 allow ∷ pv ∷ []) _ $
+        qed W ((‵ (flft κ₀ q₀) ⊛ ‵ (flft κ₁ q₁) ⊛ ‵ (flft κ₂ q₂) ⊛ ‵ ftrue) ∷ ‵ (owns (MutRef (named 0) κ₀ C.the-row ∷ MutSlice (named 1) κ₁ R ∷ K ∷ u64 ∷ u64 ∷ ShrSlice (named 2) κ₂ u8 ∷ []) a at) ∷ []) ∵
+        enter ! Cs Λ code.function (vptr b₀ o₀ ∷ v ∷ call-val k ∷ vint w64 id ∷ vint w64 allow ∷ pv ∷ []) _ $
         alloc1 ! (λ l0. alloc1 ! (λ l1. alloc1 ! (λ l2. alloc1 ! (λ l3. alloc1 ! (λ l4. alloc1 ! (λ l5. alloc1 ! (λ l6. alloc1 ! (λ l7. alloc1 ! (λ l8. alloc1 ! (λ l9. alloc1 ! (λ l10. alloc1 ! (λ l11. alloc1 ! (λ l12. alloc1 ! (λ l13. alloc1 ! (λ l14. alloc0 ! $ params1 ! $
         pass1 ! (init ! 26 refl (tt, tt)) $
         pass1 ! (init ! 24 refl (mut-slice-lawful 𝓤 H A W (named 1) κ₁ R .typed (x γ) (v ∷ []) p .0)) $
-        pass1 ! (init ! 22 refl (tt, record { fits = k-fits })) $
+        pass1 ! (init ! 22 refl (call-typed 𝓤 H A W k refl)) $
         pass1 ! (init ! 20 refl (tt, record { fits = id-fits })) $
         pass1 ! (init ! 18 refl (tt, record { fits = allow-fits })) $
         pass1 ! (init ! 16 refl (shr-slice-lawful 𝓤 H A W (named 2) κ₂ u8 .typed piece (pv ∷ []) p′ .0)) $
@@ -265,11 +266,11 @@ module _ {M : Type 1} (𝓤 : URA M) (H : Heap 𝓤) (A : Atoms 𝓤) (W : Given
 module _ {M : Type 1} (𝓤 : URA M) (H : Heap 𝓤) (A : Atoms 𝓤) (W : Given 𝓤 H A) (at-mem : Memory → SProp 𝓤) (run : Routine → Fun 𝓤) where
   step-walks : (Cs : Calls 𝓤 H) (Λ : Loops 𝓤 H) → FmC 𝓤 H (W .laws) Cs → Triple 𝓤 (Cs #calls·seek) (Seek 𝓤 H A at-mem run) → Triple 𝓤 (Cs #calls·settle) (Settle 𝓤 H A at-mem run) → Triple 𝓤 (Cs #calls·store) (Store 𝓤 H A at-mem run)
       → Walks 𝓤 H A step.ended stayed (WpFn 𝓤 H Cs Λ code.function) (step.clauses 𝓤 H A at-mem run)
-  step-walks Cs Λ fm k₁ k₂ k₃ = walked 𝓤 H A step.ended stayed (step.clauses 𝓤 H A at-mem run) (WpFn 𝓤 H Cs Λ code.function) (λ κs. (ptr-vals, (slice-vals, (uint-vals w64, (uint-vals w64, (uint-vals w64, (slice-vals, tt)))))))
-      (λ κs. (mut-tells (named 0) (κs .0) C.the-row, (mut-slice-tells (named 1) (κs .1 .0) R, (uint-tells w64, (uint-tells w64, (uint-tells w64, (shr-slice-tells (named 2) (κs .1 .1 .0) u8, tt)))))))
+  step-walks Cs Λ fm k₁ k₂ k₃ = walked 𝓤 H A step.ended stayed (step.clauses 𝓤 H A at-mem run) (WpFn 𝓤 H Cs Λ code.function) (λ κs. (ptr-vals, (slice-vals, (call-vals, (uint-vals w64, (uint-vals w64, (slice-vals, tt)))))))
+      (λ κs. (mut-tells (named 0) (κs .0) C.the-row, (mut-slice-tells (named 1) (κs .1 .0) R, (call-tells, (uint-tells w64, (uint-tells w64, (shr-slice-tells (named 2) (κs .1 .1 .0) u8, tt)))))))
       (λ κs qs bounds a g are. via 𝓤 _ (fst∗ 𝓤 _ (emp 𝓤))
       (walk 𝓤 H A W at-mem run (κs .0) (κs .1 .0) (κs .1 .1 .0) (qs .0) (qs .1 .0) (qs .1 .1 .0) (a .0 .ptr .0) (a .0 .ptr .1) (a .0 .name) (a .0 .now) (a .1 .0 .ptr .0) (a .1 .0 .ptr .1) (a .1 .0 .name) (a .1 .0 .now) (a .1 .1 .0) (a .1 .1 .1 .0) (a .1 .1 .1 .1 .0) (a .1 .1 .1 .1 .1 .0)
-      (are .1 .1 .0 .1) (are .1 .1 .1 .0 .1) (are .1 .1 .1 .1 .0 .1) Cs Λ fm k₁ k₂ k₃ (are .1 .0) (are .1 .1 .1 .1 .1 .0)))
+      (are .1 .1 .1 .0 .1) (are .1 .1 .1 .1 .0 .1) Cs Λ fm k₁ k₂ k₃ (are .1 .0) (are .1 .1 .1 .1 .1 .0)))
 
 step-meets : {M : Type 1} (𝓤 : URA M) (H : Heap 𝓤) (A : Atoms 𝓤) (W : Given 𝓤 H A) (at-mem : Memory → SProp 𝓤) (run : Routine → Fun 𝓤) (𝓣 : Tables 𝓤 H)
     → Triple 𝓤 (𝓣 .C #calls·seek) (Seek 𝓤 H A at-mem run) → Triple 𝓤 (𝓣 .C #calls·settle) (Settle 𝓤 H A at-mem run) → Triple 𝓤 (𝓣 .C #calls·store) (Store 𝓤 H A at-mem run)
@@ -280,7 +281,7 @@ step-meets 𝓤 H A W at-mem run 𝓣 k₁ k₂ k₃ =
       (
         goes-gave-slice 𝓤 H A W 3 1 tt (plain (λ _. R)),
         (
-          goes-none 𝓤 H A W 3 (λ _. u64) yes (λ κs x f. refl),
+          goes-none 𝓤 H A W 3 (λ _. K) yes (λ κs x f. refl),
           (
             goes-none 𝓤 H A W 3 (λ _. u64) yes (λ κs x f. refl),
             (

@@ -35,6 +35,7 @@ use denote.Slice.{ShrSlice, sliceTy, sliceVal, slice-vals, shr-slice-tells, shr-
 use denote.Signature.{plain}
 use denote.Steps.{only, owned, peeks, heard, nothing}
 use denote.Struct.Field.{array-field}
+use denote.Enum.Laws as EL
 use denote.Struct.Laws as LL
 use borrow.Struct.Items.{made-array}
 use denote.Triple.Entry.{onEntry}
@@ -48,7 +49,10 @@ use denote.Exit.{yes}
 use Rattle.record.specs.declared.Record.{Record}
 use Rattle.record.proofs.Record as T
 use Rattle.record.proofs.Record.Laws as T′
+use Rattle.connection.specs.declared.Call.{Call}
 use Rattle.connection.specs.declared.Connection.{Connection}
+use Rattle.connection.proofs.Call as K
+use Rattle.connection.proofs.Call.Laws as K′
 use Rattle.connection.proofs.Connection as C
 use Rattle.connection.proofs.Connection.Laws as C′
 use Rattle.connection.specs.declared.Report.{Report}
@@ -70,7 +74,10 @@ use Rattle.faces.proofs.drive.Statement as stated
 use Rattle.faces.proofs.drive.Code as code
 
 abbrev stayed : Stays (self.ended .signature .params) (self.ended .kept)
-stayed = (stay-none (λ _. C.the-row) yes, (stay-none (λ _. Rows) yes, (stay-none (λ _. usize) yes, (stay-none (λ _. u64) yes, (stay-none (λ _. u64) yes, (stay-none (λ _. u64) yes, (stay-none-slice (0 ∷ []) tt (plain (λ _. u8)) yes, tt)))))))
+stayed = (stay-none (λ _. C.the-row) yes, (stay-none (λ _. Rows) yes, (stay-none (λ _. usize) yes, (stay-none (λ _. K.the-row) yes, (stay-none (λ _. u64) yes, (stay-none (λ _. u64) yes, (stay-none-slice (0 ∷ []) tt (plain (λ _. u8)) yes, tt)))))))
+
+abbrev call-vals : Call → List Val
+call-vals = EL.vals K.the-type K′.the-laws
 
 abbrev slice : Ty
 slice = sliceTy (tyRef erased mut (pointee (R .written)))
@@ -79,9 +86,9 @@ slice = sliceTy (tyRef erased mut (pointee (R .written)))
 abbrev CallC : {M : Type 1} (𝓤 : URA M) (H : Heap 𝓤) (A : Atoms 𝓤) (at-mem : Memory → SProp 𝓤) (run : Routine → Fun 𝓤) → Contract 𝓤
 CallC 𝓤 H A at-mem run = tripleOf 𝓤 H A callee.signature (callee.spec 𝓤 H A at-mem run)
 
-module _ {M : Type 1} (𝓤 : URA M) (H : Heap 𝓤) (A : Atoms 𝓤) (W : Given 𝓤 H A) (at-mem : Memory → SProp 𝓤) (run : Routine → Fun 𝓤) (κ : Lft) (q : Share) (c : Connection) (rs : List Record) (n call id allow : ℕ) (piece : RefT (List ℕ)) (is-c : Is C.the-row c (conn-vals c)) (is-rs : Is Rows rs (rows-vals rs)) (n-fits : n < 2 ^ 64) (call-fits : call < 2 ^ 64) (id-fits : id < 2 ^ 64) (allow-fits : allow < 2 ^ 64) (within : n ≤ 32) where
+module _ {M : Type 1} (𝓤 : URA M) (H : Heap 𝓤) (A : Atoms 𝓤) (W : Given 𝓤 H A) (at-mem : Memory → SProp 𝓤) (run : Routine → Fun 𝓤) (κ : Lft) (q : Share) (c : Connection) (rs : List Record) (n : ℕ) (call : Call) (id allow : ℕ) (piece : RefT (List ℕ)) (is-c : Is C.the-row c (conn-vals c)) (is-rs : Is Rows rs (rows-vals rs)) (n-fits : n < 2 ^ 64) (is-call : Is K.the-row call (call-vals call)) (id-fits : id < 2 ^ 64) (allow-fits : allow < 2 ^ 64) (within : n ≤ 32) where
   abbrev Arg : Type 0
-  Arg = Connection × (List Record × (ℕ × (ℕ × (ℕ × (ℕ × (RefT (List ℕ) × Unit {0}))))))
+  Arg = Connection × (List Record × (ℕ × (Call × (ℕ × (ℕ × (RefT (List ℕ) × Unit {0}))))))
 
   abbrev a : Arg
   a = (c, (rs, (n, (call, (id, (allow, (piece, tt)))))))
@@ -93,18 +100,18 @@ module _ {M : Type 1} (𝓤 : URA M) (H : Heap 𝓤) (A : Atoms 𝓤) (W : Given
   OwnPiece = ShrSlice (named 0) κ u8 .own piece (pv ∷ [])
 
   abbrev at : List Val × (List Val × (List Val × (List Val × (List Val × (List Val × (List Val × Unit {0}))))))
-  at = (conn-vals c, (rows-vals rs, (vint w64 n ∷ [], (vint w64 call ∷ [], (vint w64 id ∷ [], (vint w64 allow ∷ [], (pv ∷ [], tt)))))))
+  at = (conn-vals c, (rows-vals rs, (vint w64 n ∷ [], (call-vals call, (vint w64 id ∷ [], (vint w64 allow ∷ [], (pv ∷ [], tt)))))))
 
   abbrev Post : Val → SProp 𝓤
   Post = walkOf 𝓤 H A self.ended stayed (self.clauses 𝓤 H A at-mem run) .post (((κ, tt), (q, tt), tt, a, at), tt)
 
   module _ (ν ν′ lc lr : ℕ) (δ δ′ : GName) where
     abbrev to-call : CallC 𝓤 H A at-mem run .Ghost
-    to-call = (((ν ∷ [], (ν′ ∷ [], (κ, tt))), (fullShare, (fullShare, (q, tt))), tt, (cref 𝓤 H A W c lc δ, (rref 𝓤 H A W n rs is-rs within lr δ′, (call, (id, (allow, (piece, tt)))))), (vptr lc 0 ∷ [], (sliceVal (lr, 0) (length (ys 𝓤 H A W n rs is-rs within)) ∷ [], (vint w64 call ∷ [], (vint w64 id ∷ [], (vint w64 allow ∷ [], (pv ∷ [], tt))))))), tt)
+    to-call = (((ν ∷ [], (ν′ ∷ [], (κ, tt))), (fullShare, (fullShare, (q, tt))), tt, (cref 𝓤 H A W c lc δ, (rref 𝓤 H A W n rs is-rs within lr δ′, (call, (id, (allow, (piece, tt)))))), (vptr lc 0 ∷ [], (sliceVal (lr, 0) (length (ys 𝓤 H A W n rs is-rs within)) ∷ [], (call-vals call, (vint w64 id ∷ [], (vint w64 allow ∷ [], (pv ∷ [], tt))))))), tt)
 
     goes-call : ent 𝓤 (⋆ 𝓤 H A ((‵ (flft (ν ∷ []) fullShare) ⊛ ‵ (flft (ν′ ∷ []) fullShare) ⊛ ‵ (flft κ q)) ∷ (‵ (MutRef (named 0) (ν ∷ []) C.the-row .own (cref 𝓤 H A W c lc δ) (vptr lc 0 ∷ [])) ⊛ ‵ (Row 𝓤 H A W n rs is-rs within ν′ lr δ′) ⊛ ‵ OwnPiece) ∷ [])) (CallC 𝓤 H A at-mem run .pre to-call)
     goes-call = qed W ((‵ (flft (ν ∷ []) fullShare) ⊛ ‵ (flft (ν′ ∷ []) fullShare) ⊛ ‵ (flft κ q)) ∷ (‵ (MutRef (named 0) (ν ∷ []) C.the-row .own (cref 𝓤 H A W c lc δ) (vptr lc 0 ∷ [])) ⊛ ‵ (Row 𝓤 H A W n rs is-rs within ν′ lr δ′) ⊛ ‵ OwnPiece) ∷ []) ∵
-        move ! (1 ∷ []) $ split ! $ move ! (1 ∷ []) $ split ! $ move ! (1 ∷ []) $ nothing ! $ move ! (1 ∷ 0 ∷ []) $ fjoin ! $ owned ! u64 (Is u64) (uint-makes 𝓤 H A W w64) allow _ (refl, allow-fits) $ fjoin ! $ owned ! u64 (Is u64) (uint-makes 𝓤 H A W w64) id _ (refl, id-fits) $ fjoin ! $ owned ! u64 (Is u64) (uint-makes 𝓤 H A W w64) call _ (refl, call-fits) $ fjoin ! $ move ! (1 ∷ 0 ∷ []) $ fjoin ! $ move ! (1 ∷ 0 ∷ []) $ fjoin ! $
+        move ! (1 ∷ []) $ split ! $ move ! (1 ∷ []) $ split ! $ move ! (1 ∷ []) $ nothing ! $ move ! (1 ∷ 0 ∷ []) $ fjoin ! $ owned ! u64 (Is u64) (uint-makes 𝓤 H A W w64) allow _ (refl, allow-fits) $ fjoin ! $ owned ! u64 (Is u64) (uint-makes 𝓤 H A W w64) id _ (refl, id-fits) $ fjoin ! $ owned ! K.the-row (Is K.the-row) (EL.makes K.the-type K′.the-plain 𝓤 H A) call _ is-call $ fjoin ! $ move ! (1 ∷ 0 ∷ []) $ fjoin ! $ move ! (1 ∷ 0 ∷ []) $ fjoin ! $
         move ! (1 ∷ []) $ split ! $ move ! (1 ∷ []) $ split ! $ move ! (1 ∷ []) $ nothing ! $ move ! (1 ∷ 0 ∷ []) $ join ! $ move ! (1 ∷ 0 ∷ []) $ join ! $ move ! (1 ∷ 0 ∷ []) $ join ! $ move ! (0 ∷ 1 ∷ []) $ join ! $ frame ! $ done !
 
   -- the rows as a field of a struct: there an array of records is as the array of their tuples
@@ -127,18 +134,18 @@ module _ {M : Type 1} (𝓤 : URA M) (H : Heap 𝓤) (A : Atoms 𝓤) (W : Given
       let e′ = subst (λ (zs : List Record). Stepped c (take n rs) call id allow (piece .now) (ws .0) zs r) (sym (take-at (ws .1 .0) (from-on n rs) n k)) e in
       qed W ((‵ (flft κ q) ⊛ ‵ ftrue) ∷ ‵ OwnPiece ∷ []) ∵
       suffices ! _ (ends-at 𝓤 H A self.ended stayed (self.clauses 𝓤 H A at-mem run) W (((κ, tt), (q, tt), tt, a, at), tt) (driven-val ws r) (driven ws r) (tt, (tt, (tt, (tt, (tt, (tt, (tt, tt))))))) (tt, (tt, (tt, (tt, (tt, (tt, (tt, tt)))))))) $ says ! (e′, behind-row n _ (ws .1 .0) rs k (omega arith)) $ frame ! $
-      nothing ! $ move ! (1 ∷ 0 ∷ []) $ fjoin ! $ owned ! u64 (Is u64) (uint-makes 𝓤 H A W w64) allow _ (refl, allow-fits) $ fjoin ! $ owned ! u64 (Is u64) (uint-makes 𝓤 H A W w64) id _ (refl, id-fits) $ fjoin ! $ owned ! u64 (Is u64) (uint-makes 𝓤 H A W w64) call _ (refl, call-fits) $ fjoin ! $ owned ! usize (Is usize) (uint-makes 𝓤 H A W w64) n _ (refl, n-fits) $ fjoin ! $ owned ! Rows (Is Rows) (rows-makes 𝓤 H A W) rs _ is-rs $ fjoin ! $
+      nothing ! $ move ! (1 ∷ 0 ∷ []) $ fjoin ! $ owned ! u64 (Is u64) (uint-makes 𝓤 H A W w64) allow _ (refl, allow-fits) $ fjoin ! $ owned ! u64 (Is u64) (uint-makes 𝓤 H A W w64) id _ (refl, id-fits) $ fjoin ! $ owned ! K.the-row (Is K.the-row) (EL.makes K.the-type K′.the-plain 𝓤 H A) call _ is-call $ fjoin ! $ owned ! usize (Is usize) (uint-makes 𝓤 H A W w64) n _ (refl, n-fits) $ fjoin ! $ owned ! Rows (Is Rows) (rows-makes 𝓤 H A W) rs _ is-rs $ fjoin ! $
       owned ! C.the-row (Is C.the-row) (conn-makes 𝓤 H A) c _ is-c $ fjoin ! $ frame ! $ owned ! D.the-row (Is D.the-row) (LL.makes D.the-type D′.the-plain 𝓤 H A) (driven ws r) _ is $ done !
 
   module _ (Cs : Calls 𝓤 H) (Λ : Loops 𝓤 H) (fm : FmC 𝓤 H (W .laws) Cs) (known : Triple 𝓤 (Cs #callee) (CallC 𝓤 H A at-mem run)) where
-    walk : Is (ShrSlice (named 0) κ u8) piece (pv ∷ []) → ent 𝓤 (onEntry 𝓤 H A self.signature (κ, tt) (q, tt) a at) (WpFn 𝓤 H Cs Λ code.function (conn-val c ∷ rows-val rs ∷ vint w64 n ∷ vint w64 call ∷ vint w64 id ∷ vint w64 allow ∷ pv ∷ []) Post)
+    walk : Is (ShrSlice (named 0) κ u8) piece (pv ∷ []) → ent 𝓤 (onEntry 𝓤 H A self.signature (κ, tt) (q, tt) a at) (WpFn 𝓤 H Cs Λ code.function (conn-val c ∷ rows-val rs ∷ vint w64 n ∷ only (call-vals call) ∷ vint w64 id ∷ vint w64 allow ∷ pv ∷ []) Post)
     walk p =
-        qed W ((‵ (flft κ q) ⊛ ‵ ftrue) ∷ ‵ (owns (C.the-row ∷ Rows ∷ usize ∷ u64 ∷ u64 ∷ u64 ∷ ShrSlice (named 0) κ u8 ∷ []) a at) ∷ []) ∵ enter ! Cs Λ code.function (conn-val c ∷ rows-val rs ∷ vint w64 n ∷ vint w64 call ∷ vint w64 id ∷ vint w64 allow ∷ pv ∷ []) _ $
+        qed W ((‵ (flft κ q) ⊛ ‵ ftrue) ∷ ‵ (owns (C.the-row ∷ Rows ∷ usize ∷ K.the-row ∷ u64 ∷ u64 ∷ ShrSlice (named 0) κ u8 ∷ []) a at) ∷ []) ∵ enter ! Cs Λ code.function (conn-val c ∷ rows-val rs ∷ vint w64 n ∷ only (call-vals call) ∷ vint w64 id ∷ vint w64 allow ∷ pv ∷ []) _ $
         alloc1 ! (λ l0. alloc1 ! (λ l1. alloc1 ! (λ l2. alloc1 ! (λ l3. alloc1 ! (λ l4. alloc1 ! (λ l5. alloc1 ! (λ l6. alloc1 ! (λ l7. alloc1 ! (λ l8. alloc1 ! (λ l9. alloc1 ! (λ l10. alloc1 ! (λ l11. alloc1 ! (λ l12. alloc1 ! (λ l13. alloc1 ! (λ l14. alloc1 ! (λ l15. alloc0 ! $ params1 ! $
         pass1 ! (init ! 28 refl (conn-typed 𝓤 H A W c is-c)) $
         pass1 ! (init ! 26 refl (rows-typed 𝓤 H A W rs is-rs)) $
         pass1 ! (init ! 24 refl (tt, record { fits = n-fits })) $
-        pass1 ! (init ! 22 refl (tt, record { fits = call-fits })) $
+        pass1 ! (init ! 22 refl (EL.lawful K.the-type K′.the-laws 𝓤 H A W tt .typed call _ is-call .0)) $
         pass1 ! (init ! 20 refl (tt, record { fits = id-fits })) $
         pass1 ! (init ! 18 refl (tt, record { fits = allow-fits })) $
         pass1 ! (init ! 16 refl (shr-slice-lawful 𝓤 H A W (named 0) κ u8 .typed piece (pv ∷ []) p .0)) $
@@ -243,13 +250,13 @@ module _ {M : Type 1} (𝓤 : URA M) (H : Heap 𝓤) (A : Atoms 𝓤) (W : Given
 
 module _ {M : Type 1} (𝓤 : URA M) (H : Heap 𝓤) (A : Atoms 𝓤) (W : Given 𝓤 H A) (at-mem : Memory → SProp 𝓤) (run : Routine → Fun 𝓤) where
   walks : (Cs : Calls 𝓤 H) (Λ : Loops 𝓤 H) → FmC 𝓤 H (W .laws) Cs → Triple 𝓤 (Cs #callee) (CallC 𝓤 H A at-mem run) → Walks 𝓤 H A self.ended stayed (WpFn 𝓤 H Cs Λ code.function) (self.clauses 𝓤 H A at-mem run)
-  walks Cs Λ fm known = walked 𝓤 H A self.ended stayed (self.clauses 𝓤 H A at-mem run) (WpFn 𝓤 H Cs Λ code.function) (λ κs. (conn-vals, (rows-vals, (uint-vals w64, (uint-vals w64, (uint-vals w64, (uint-vals w64, (slice-vals, tt))))))))
-      (λ κs. (LL.tells C.the-type C′.the-laws, (rows-tells, (uint-tells w64, (uint-tells w64, (uint-tells w64, (uint-tells w64, (shr-slice-tells (named 0) (κs .0) u8, tt))))))))
-      (λ κs qs bounds a g are. needs 𝓤 _ _ (λ within. walk 𝓤 H A W at-mem run (κs .0) (qs .0) (a .0) (a .1 .0) (a .1 .1 .0) (a .1 .1 .1 .0) (a .1 .1 .1 .1 .0) (a .1 .1 .1 .1 .1 .0) (a .1 .1 .1 .1 .1 .1 .0) (are .0) (are .1 .0) (are .1 .1 .0 .1) (are .1 .1 .1 .0 .1) (are .1 .1 .1 .1 .0 .1) (are .1 .1 .1 .1 .1 .0 .1) within Cs Λ fm known (are .1 .1 .1 .1 .1 .1 .0)))
+  walks Cs Λ fm known = walked 𝓤 H A self.ended stayed (self.clauses 𝓤 H A at-mem run) (WpFn 𝓤 H Cs Λ code.function) (λ κs. (conn-vals, (rows-vals, (uint-vals w64, (call-vals, (uint-vals w64, (uint-vals w64, (slice-vals, tt))))))))
+      (λ κs. (LL.tells C.the-type C′.the-laws, (rows-tells, (uint-tells w64, (EL.tells K.the-type K′.the-laws, (uint-tells w64, (uint-tells w64, (shr-slice-tells (named 0) (κs .0) u8, tt))))))))
+      (λ κs qs bounds a g are. needs 𝓤 _ _ (λ within. walk 𝓤 H A W at-mem run (κs .0) (qs .0) (a .0) (a .1 .0) (a .1 .1 .0) (a .1 .1 .1 .0) (a .1 .1 .1 .1 .0) (a .1 .1 .1 .1 .1 .0) (a .1 .1 .1 .1 .1 .1 .0) (are .0) (are .1 .0) (are .1 .1 .0 .1) (are .1 .1 .1 .0) (are .1 .1 .1 .1 .0 .1) (are .1 .1 .1 .1 .1 .0 .1) within Cs Λ fm known (are .1 .1 .1 .1 .1 .1 .0)))
 
   meets : (𝓣 : Tables 𝓤 H) → Triple 𝓤 (𝓣 .C #callee) (CallC 𝓤 H A at-mem run) → Meets 𝓤 H A self.signature (WpFn 𝓤 H (𝓣 .C) (𝓣 .Λ) code.function) (self.spec 𝓤 H A at-mem run)
   meets 𝓣 known =
-      walk-meets 𝓤 H A self.ended stayed W (goes-none 𝓤 H A W 1 (λ _. C.the-row) yes (λ κs x f. refl), (goes-none 𝓤 H A W 1 (λ _. Rows) yes (λ κs x f. refl), (goes-none 𝓤 H A W 1 (λ _. usize) yes (λ κs x f. refl), (goes-none 𝓤 H A W 1 (λ _. u64) yes (λ κs x f. refl), (goes-none 𝓤 H A W 1 (λ _. u64) yes (λ κs x f. refl), (goes-none 𝓤 H A W 1 (λ _. u64) yes (λ κs x f. refl), (goes-none-slice 𝓤 H A W 1 (0 ∷ []) tt (plain (λ _. u8)) yes, tt)))))))
+      walk-meets 𝓤 H A self.ended stayed W (goes-none 𝓤 H A W 1 (λ _. C.the-row) yes (λ κs x f. refl), (goes-none 𝓤 H A W 1 (λ _. Rows) yes (λ κs x f. refl), (goes-none 𝓤 H A W 1 (λ _. usize) yes (λ κs x f. refl), (goes-none 𝓤 H A W 1 (λ _. K.the-row) yes (λ κs x f. refl), (goes-none 𝓤 H A W 1 (λ _. u64) yes (λ κs x f. refl), (goes-none 𝓤 H A W 1 (λ _. u64) yes (λ κs x f. refl), (goes-none-slice 𝓤 H A W 1 (0 ∷ []) tt (plain (λ _. u8)) yes, tt)))))))
       (self.clauses 𝓤 H A at-mem run) (WpFn 𝓤 H (𝓣 .C) (𝓣 .Λ) code.function) (WpFn-mono 𝓤 H (W .laws) 𝓣 code.function) (walks (𝓣 .C) (𝓣 .Λ) (fmOf 𝓤 H (W .laws) 𝓣) known)
 
 pub drive-spec : {M : Type 1} → stated.statement M
