@@ -12,7 +12,7 @@ use Rattle.rules.specs.Text.{ascii, any, same}
 use Rattle.rules.specs.Numbers.{codeNumber}
 use Rattle.rules.specs.Block.{Section, Lines, unreadable, readable, lines}
 use Rattle.rules.specs.Section as rules
-use Rattle.rules.specs.Section.{Reason, reasonNumber, reasonNumber as at, codeOf, Check, Judgement, refused, sound, Head, isEmpty, begins, holds, isUpload, uploads, uploading, decimal, decimalFrom, named, has, valueOf, methodOf, statedIn, unless, firstBroken, goodPath, size, size-limit, length-limit, size-check, bytes-check, unknown-check, repeated-check, late-check, in-trailers-check, connection-check, te-check, method-check, no-method-check, repeated-length-check, length-in-trailers-check, digits-check, length-above-check, repeated-host-check, connect-check, present-check, scheme-check, path-check, authority-check, empty-check, differ-check, at-check, length-check, upload-check, header-checks, trailer-checks, header-section}
+use Rattle.rules.specs.Section.{Reason, reasonNumber as at, codeOf, Check, Judgement, refused, sound, Head, isEmpty, begins, holds, isUpload, uploads, uploading, decimal, decimalFrom, named, has, valueOf, methodOf, statedIn, unless, firstBroken, goodPath, size, size-limit, length-limit, size-check, bytes-check, unknown-check, repeated-check, late-check, in-trailers-check, connection-check, te-check, method-check, no-method-check, repeated-length-check, length-in-trailers-check, digits-check, length-above-check, repeated-host-check, connect-check, present-check, scheme-check, path-check, authority-check, empty-check, differ-check, at-check, length-check, upload-check, header-checks, trailer-checks, header-section}
 use Rattle.fields.specs.Laws.{empty-is}
 use Rattle.fields.specs.Walk.{part, isReadable, held}
 use Rattle.fields.specs.Lines.{held-is}
@@ -353,7 +353,7 @@ module _ (s : Section) where
     trailers-sound e = by-first′ (trailer-first s ∙ ap (told checks) (sym e) ∙ told-none n h)
 
   -- an answer is a refusal whose number names its reason, or it is sound
-  pub header-by-cases : (P : HeaderAnswer → Judgement Head → Type 0) → ((r : Reason) → reasonAt (reasonNumber r) ≡ r → P (header.Refused (reasonNumber r)) (refused r))
+  pub header-by-cases : (P : HeaderAnswer → Judgement Head → Type 0) → ((r : Reason) → reasonAt (at r) ≡ r → P (header.Refused (at r)) (refused r))
       → ((h : Head) → P (headerBy s (sound h)) (sound h)) → P (headerAnswer (readable s)) (header-section s)
   unfolding headerAnswer header-section headerBy unless
   header-by-cases P p q = go (firstBroken header-checks s) refl
@@ -362,7 +362,7 @@ module _ (s : Section) where
       go none e = q (says s)
       go (some r) e = p r (told-back (lowest (headerRow s)) r (sym (header-first s) ∙ e))
 
-  pub trailers-by-cases : (P : TrailerAnswer → Judgement (Unit {0}) → Type 0) → ((r : Reason) → reasonAt (reasonNumber r) ≡ r → P (trailer.Refused (reasonNumber r)) (refused r))
+  pub trailers-by-cases : (P : TrailerAnswer → Judgement (Unit {0}) → Type 0) → ((r : Reason) → reasonAt (at r) ≡ r → P (trailer.Refused (at r)) (refused r))
       → P trailer.Sound (sound tt) → P (trailerAnswer (readable s)) (rules.trailers s)
   unfolding trailerAnswer rules.trailers trailerBy unless
   trailers-by-cases P p q = go (firstBroken trailer-checks s) refl
@@ -379,22 +379,15 @@ module _ (s : Section) where
   unfolding trailerNumber judgedNumber
   trailer-number = trailers-by-cases (λ a j. trailerNumber a ≡ judgedNumber j) (λ r e. ap (λ x. codeNumber (codeOf x)) e) refl
 
-module _ (x : Lines) where
-  pub header-unread : isReadable x ≡ false → header.Unreadable ≡ headerAnswer x
-  unfolding headerAnswer
-  header-unread e = by x e
-    where
-      by : (y : Lines) → isReadable y ≡ false → header.Unreadable ≡ headerAnswer y
-      by (unreadable f) e = refl
-      by (readable s) e = let z : _≡_ {A = ℕ} 0 1 = cc in absurd (omega arith)
+pub header-unread : (x : Lines) → isReadable x ≡ false → header.Unreadable ≡ headerAnswer x
+unfolding headerAnswer
+header-unread (unreadable f) e = refl
+header-unread (readable s) e = let z : _≡_ {A = ℕ} 0 1 = cc in absurd (omega arith)
 
-  pub trailers-unread : isReadable x ≡ false → trailer.Unreadable ≡ trailerAnswer x
-  unfolding trailerAnswer
-  trailers-unread e = by x e
-    where
-      by : (y : Lines) → isReadable y ≡ false → trailer.Unreadable ≡ trailerAnswer y
-      by (unreadable f) e = refl
-      by (readable s) e = let z : _≡_ {A = ℕ} 0 1 = cc in absurd (omega arith)
+pub trailers-unread : (x : Lines) → isReadable x ≡ false → trailer.Unreadable ≡ trailerAnswer x
+unfolding trailerAnswer
+trailers-unread (unreadable f) e = refl
+trailers-unread (readable s) e = let z : _≡_ {A = ℕ} 0 1 = cc in absurd (omega arith)
 
 -- the bytes that a sound answer names are the method
 pub method-named : (block : List ℕ) (s : Section) (h : Head) {from to : ℕ} {t : Stated} → lines block ≡ readable s → header-section s ≡ sound h

@@ -559,7 +559,7 @@ pub enum Stated {
     Length(u64),
 }
 
-// A sound header section says where in the block its method begins and ends, and the length that it states.
+// Refused with the number of the reason (rules::reasons); or sound, with where in the block the method begins and ends, and the length that is stated.
 pub enum HeaderAnswer {
     Unreadable,
     Refused(usize),
