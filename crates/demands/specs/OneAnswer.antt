@@ -25,9 +25,6 @@ use Rattle.rules.specs.Writer.{Write}
 use Rattle.control.specs.declared.settings.Judged.{Judged}
 use Rattle.control.specs.declared.settings.Single.{Single}
 use Rattle.control.specs.Answers.{judgedIs, judged-one, singleIs, single-one}
-use Rattle.section.specs.declared.HeaderAnswer.{HeaderAnswer}
-use Rattle.section.specs.declared.TrailerAnswer.{TrailerAnswer}
-use Rattle.section.specs.Answer.{readHeader, readTrailers, one-header-answer, one-trailer-answer}
 use Rattle.frames.specs.declared.Cells.{Cells}
 use Rattle.frames.specs.Uses.{a-place}
 use Rattle.frames.specs.End.{Ends}
@@ -218,12 +215,6 @@ one-judged e f = read-alike judgedIs judged-one e f
 pub one-single : {b : _} {x y : Single} → singleIs x ≡ b → singleIs y ≡ b → x ≡ y
 one-single e f = read-alike singleIs single-one e f
 
-pub one-header-section : (block : List ℕ) {b : _} {x y : HeaderAnswer} → readHeader block x ≡ b → readHeader block y ≡ b → x ≡ y
-one-header-section block e f = read-alike (readHeader block) (one-header-answer block) e f
-
-pub one-trailers : {b : _} {x y : TrailerAnswer} → readTrailers x ≡ b → readTrailers y ≡ b → x ≡ y
-one-trailers e f = read-alike readTrailers one-trailer-answer e f
-
 -- ---- tests
 
 pub one-decided : {A : Type 0} (b c : Bool) → Decides A b → Decides A c → b ≡ c
@@ -331,8 +322,8 @@ module _ (w : World) where
   abbrev of-section : List Function
   of-section =
       function section-code-is.name section-code.ended (section-code.clauses (w .𝓤) (w .H) (w .𝓖 .A) (w .𝓜 .mem) (w .𝓡 .run)) (λ κs a g r q ws vs. equal)
-      ∷ function section-header-section-is.name section-header-section.ended (section-header-section.clauses (w .𝓤) (w .H) (w .𝓖 .A) (w .𝓜 .mem) (w .𝓡 .run)) (λ κs a g r q ws vs. facts (λ x y. (one-header-section (now (a .0)) x y, refl)))
-      ∷ function section-trailers-is.name section-trailers.ended (section-trailers.clauses (w .𝓤) (w .H) (w .𝓖 .A) (w .𝓜 .mem) (w .𝓡 .run)) (λ κs a g r q ws vs. facts (λ x y. (one-trailers x y, refl)))
+      ∷ function section-header-section-is.name section-header-section.ended (section-header-section.clauses (w .𝓤) (w .H) (w .𝓖 .A) (w .𝓜 .mem) (w .𝓡 .run)) (λ κs a g r q ws vs. equal)
+      ∷ function section-trailers-is.name section-trailers.ended (section-trailers.clauses (w .𝓤) (w .H) (w .𝓖 .A) (w .𝓜 .mem) (w .𝓡 .run)) (λ κs a g r q ws vs. equal)
       ∷ []
 
   abbrev of-streams : List Function

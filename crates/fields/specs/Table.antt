@@ -1,9 +1,9 @@
--- The rule of the table of byte classes, proved at all of its entries by one test that is computed. Assumes nothing.
-use Prim.Native.Nat.{ℕ, zero, suc, _+_, _<_}
+-- A rule proved at all entries of a list by one test that is computed; and so that of the table of byte classes. Assumes nothing.
+use Prim.Native.Nat.{ℕ, zero, suc, _+_, _≤_, _<_}
 use mathlib.Core.Path.{_≡_, refl, _∙_, subst, sym}
 use mathlib.Core.Bool.{Bool, true, false, not, _&&_, Bool·beq}
 use mathlib.Core.List.{List, [], _∷_}
-use native.Mathlib.Nat.{add-zero, zero-add, add-suc, suc-add, le-of-suc-le-suc, not-suc-le-zero}
+use native.Mathlib.Nat.{add-zero, zero-add, add-suc, suc-add}
 use native.Mathlib.Omega.{arith}
 use lib.Dec.{T, eqb, eqb→eq}
 use lib.Bits.{bitAnd}
@@ -44,27 +44,32 @@ right-in k x t Token = same-bool _ _ (and-left (agrees k x Token) _ (and-right (
 right-in k x t Value = same-bool _ _ (and-left (agrees k x Value) _ (and-right (agrees k x Token) _ (and-right (agrees k x Name) _ t)))
 right-in k x t Digit = same-bool _ _ (and-right (agrees k x Value) _ (and-right (agrees k x Token) _ (and-right (agrees k x Name) _ t)))
 
--- every entry is right, the bytes counted from k
-unfoldable pub rightFrom : (k : ℕ) → List ℕ → Bool
-rightFrom k [] = true
-rightFrom k (x ∷ xs) = right k x && rightFrom (suc k) xs
+-- a test passes at each place of a list, counted from k
+unfoldable pub eachFrom : {A : Type 0} → (ℕ → A → Bool) → ℕ → List A → Bool
+eachFrom test k [] = true
+eachFrom test k (x ∷ xs) = test k x && eachFrom test (suc k) xs
 
 -- the one test of the table: 256 entries, each right
 unfoldable pub allRight : List ℕ → Bool
-allRight xs = eqb (length xs) 256 && rightFrom 0 xs
+allRight xs = eqb (length xs) 256 && eachFrom right 0 xs
 
-from : (xs : List ℕ) (k : ℕ) → T (rightFrom k xs) → (i : ℕ) → i < length xs → T (right (k + i) (getD xs i 0))
-unfolding rightFrom
-from [] k t i h = absurd (not-suc-le-zero h)
-from (x ∷ xs) k t zero h = subst (λ (m : ℕ). T (right m x)) (sym (add-zero k)) (and-left (right k x) _ t)
-from (x ∷ xs) k t (suc i) h =
-    subst (λ (m : ℕ). T (right m (getD xs i 0))) (suc-add k i ∙ sym (add-suc k i))
-    (from xs (suc k) (and-right (right k x) _ t) i (le-of-suc-le-suc h))
+module _ {A : Type 0} (test : ℕ → A → Bool) (d : A) where
+  from : (xs : List A) (k : ℕ) → T (eachFrom test k xs) → (i : ℕ) → (length xs ≤ i → T (test (k + i) d)) → T (test (k + i) (getD xs i d))
+  unfolding eachFrom
+  from [] k t i h = h (omega arith)
+  from (x ∷ xs) k t zero h = subst (λ (m : ℕ). T (test m x)) (sym (add-zero k)) (and-left (test k x) _ t)
+  from (x ∷ xs) k t (suc i) h =
+      let e : suc k + i ≡ k + suc i = suc-add k i ∙ sym (add-suc k i) in
+      subst (λ (m : ℕ). T (test m (getD xs i d))) e
+      (from xs (suc k) (and-right (test k x) _ t) i (λ past. subst (λ (m : ℕ). T (test m d)) (sym e) (h (omega arith))))
+
+  -- then it passes at each number, if past the list it passes the default
+  pub each-at : (xs : List A) → T (eachFrom test 0 xs) → (i : ℕ) → (length xs ≤ i → T (test i d)) → T (test i (getD xs i d))
+  each-at xs t i h = subst (λ (m : ℕ). T (test m (getD xs i d))) (zero-add i) (from xs 0 t i (λ past. subst (λ (m : ℕ). T (test m d)) (sym (zero-add i)) (h past)))
 
 -- a table that passes the test is right at each byte
 pub right-at : (xs : List ℕ) → T (allRight xs) → (b : ℕ) → b < 256 → T (right b (getD xs b 0))
 unfolding allRight
 right-at xs t b h =
     let long : length xs ≡ 256 = eqb→eq (length xs) 256 (and-left (eqb (length xs) 256) _ t) in
-    let at : T (right (0 + b) (getD xs b 0)) = from xs 0 (and-right (eqb (length xs) 256) _ t) b (omega arith) in
-    subst (λ (m : ℕ). T (right m (getD xs b 0))) (zero-add b) at
+    each-at right 0 xs (and-right (eqb (length xs) 256) _ t) b (λ past. absurd (omega arith))

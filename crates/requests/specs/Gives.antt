@@ -23,7 +23,8 @@ use Rattle.frames.specs.Uses.{placeOf, Stands, a-place, any-set}
 use Rattle.frames.specs.Answers.{modeState, stateAt, stateOf, StandsIn, Sane}
 use Rattle.frames.specs.Apart.{message}
 use Rattle.requests.specs.declared.given.Given.{Given}
-use Rattle.requests.specs.Taken.{answer, headedAs, trailedAs, headerOf, trailerOf, givenOf, given-header, given-trailers, given-undue, Says, header-says, trailer-says}
+use Rattle.section.specs.Request.{headerOf, trailerOf}
+use Rattle.requests.specs.Taken.{answer, headedAs, trailedAs, givenOf, given-header, given-trailers, given-undue, Says, header-says, trailer-says}
 use Rattle.record.specs.Kinds.{REQUEST}
 use Rattle.record.specs.declared.Record.{Record}
 use Rattle.record.specs.Row.{recordOf, requestRecord}

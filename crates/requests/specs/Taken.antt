@@ -8,7 +8,7 @@ use mathlib.Core.Option.{Option, none, some}
 use lib.Dec.{eqb, ltb}
 use borrow.Author.Tests.{lt-ltb, le-ltb, eq-eqb, ne-eqb}
 use Rattle.rules.specs.Numbers.{ACCEPTED, NO-SECTION, UNREADABLE, FRAME-UNEXPECTED, codeNumber}
-use Rattle.rules.specs.Block.{Section, Lines, unreadable, readable, lines}
+use Rattle.rules.specs.Block.{Section, readable, lines}
 use Rattle.rules.specs.Reading.{header-section, trailers, Next, stop, go}
 use Rattle.rules.specs.Message.{Message, opening, body, trailed, heads, trails}
 use Rattle.rules.specs.Request.{Header, Trailer, document, codeOf, next-of, headed-by, trailed-by, given}
@@ -16,15 +16,14 @@ use Rattle.rules.specs.Request as request
 use Rattle.meaning.specs.Machine.{State, between}
 use Rattle.varint.specs.ByByte.{prog, fresh-good}
 use Rattle.rules.specs.Section.{codeOf as section-code}
-use Rattle.section.specs.declared.Reason.{Reason}
 use Rattle.section.specs.declared.Stated.{Stated}
 use Rattle.section.specs.declared.HeaderAnswer.{HeaderAnswer}
 use Rattle.section.specs.declared.HeaderAnswer.the-variants as header
 use Rattle.section.specs.declared.TrailerAnswer.{TrailerAnswer}
 use Rattle.section.specs.declared.TrailerAnswer.the-variants as trailer
-use Rattle.section.specs.Checks.{reasonOf}
-use Rattle.section.specs.Answer.{tellHeader, tellTrailers, readHeader, readTrailers, readStated}
-use Rattle.section.specs.Request.{stated-within, asHeader, asTrailer, header-is, header-unreadable, trailer-is, trailer-unreadable}
+use Rattle.section.specs.Checks.{reasonAt}
+use Rattle.section.specs.Answer.{headerAnswer, trailerAnswer, readStated}
+use Rattle.section.specs.Request.{asHeader, asTrailer, headerOf, trailerOf, header-is, trailer-is, stated-within}
 use Rattle.frames.specs.Modes.{IN-TYPE, HEADER-SECTION-DUE, TRAILERS-DUE, OPENING, BODY, TRAILED, modeOf}
 use Rattle.frames.specs.declared.Cells.{Cells}
 use Rattle.frames.specs.Both.{Place, of-request, of-control}
@@ -65,14 +64,6 @@ trailedAs c none = answer UNREADABLE c
 trailedAs c (some (request.Trailer.bad code)) = answer (codeNumber code) c
 trailedAs c (some request.Trailer.good) = inPlace (eqb (c .phase) BODY) c (trailedCells c)
 
-unfoldable pub headerOf : Lines → Option Header
-headerOf (unreadable f) = none
-headerOf (readable s) = some (document .header s)
-
-unfoldable pub trailerOf : Lines → Option Trailer
-trailerOf (unreadable f) = none
-trailerOf (readable s) = some (document .trailer s)
-
 -- none is due on a control stream, nor in any mode but two
 unfoldable pub givenOf : Cells → List ℕ → Given
 givenOf c block = elim (ltb TRAILED (c .phase)) [ true ↦ answer NO-SECTION c | false ↦ elim (eqb (c .mode) HEADER-SECTION-DUE) [ true ↦ headedAs c (headerOf (lines block)) | false ↦ elim (eqb (c .mode) TRAILERS-DUE) [ true ↦ trailedAs c (trailerOf (lines block)) | false ↦ answer NO-SECTION c ] ] ]
@@ -98,22 +89,6 @@ module _ (c : Cells) (block : List ℕ) where
     unfolding givenOf
     given-undue e f = let x = le-ltb TRAILED (c .phase) h in let y = ne-eqb (c .mode) HEADER-SECTION-DUE e in let z = ne-eqb (c .mode) TRAILERS-DUE f in rw (x, y, z, givenOf) refl
 
-  header-lines : (a : HeaderAnswer) → readHeader block a ≡ tellHeader (lines block) → (l : Lines) → lines block ≡ l → asHeader a ≡ headerOf l
-  unfolding headerOf
-  header-lines a met (unreadable f) e = header-unreadable block a met e
-  header-lines a met (readable s) e = header-is block a met s e
-
-  trailer-lines : (a : TrailerAnswer) → readTrailers a ≡ tellTrailers (lines block) → (l : Lines) → lines block ≡ l → asTrailer a ≡ trailerOf l
-  unfolding trailerOf
-  trailer-lines a met (unreadable f) e = trailer-unreadable block a met e
-  trailer-lines a met (readable s) e = trailer-is block a met s e
-
-  pub header-met : (a : HeaderAnswer) → readHeader block a ≡ tellHeader (lines block) → headedAs c (asHeader a) ≡ headedAs c (headerOf (lines block))
-  header-met a met = ap (headedAs c) (header-lines a met (lines block) refl)
-
-  pub trailer-met : (a : TrailerAnswer) → readTrailers a ≡ tellTrailers (lines block) → trailedAs c (asTrailer a) ≡ trailedAs c (trailerOf (lines block))
-  trailer-met a met = ap (trailedAs c) (trailer-lines a met (lines block) refl)
-
 in-place : (c next : Cells) (here : Bool) → here ≡ true → answer ACCEPTED next ≡ inPlace here c next
 unfolding inPlace
 in-place c next true e = refl
@@ -124,18 +99,18 @@ unfolding inPlace
 out-of-place c next false e = refl
 out-of-place c next true e = let z : _≡_ {A = ℕ} 0 1 = cc in absurd (omega arith)
 
-module _ (c : Cells) (block : List ℕ) (a : HeaderAnswer) (met : readHeader block a ≡ tellHeader (lines block)) where
+module _ (c : Cells) (block : List ℕ) (a : HeaderAnswer) (met : a ≡ headerAnswer (lines block)) where
   abbrev Headed : Given → Type 0
   Headed r = r ≡ headedAs c (headerOf (lines block))
 
   header-as : {b : HeaderAnswer} → a ≡ b → headedAs c (asHeader b) ≡ headedAs c (headerOf (lines block))
-  header-as e = ap (λ x. headedAs c (asHeader x)) (sym e) ∙ header-met c block a met
+  header-as e = ap (λ x. headedAs c (asHeader x)) (sym e ∙ met) ∙ ap (headedAs c) (header-is (lines block))
 
   pub header-unread : a ≡ header.Unreadable → Headed (answer UNREADABLE c)
   unfolding headedAs asHeader
   header-unread e = header-as e
 
-  pub header-refused : {r : Reason} {n : ℕ} → a ≡ header.Refused r → n ≡ codeNumber (section-code (reasonOf r)) → Headed (answer n c)
+  pub header-refused : {k n : ℕ} → a ≡ header.Refused k → n ≡ codeNumber (section-code (reasonAt k)) → Headed (answer n c)
   unfolding headedAs asHeader
   header-refused e f = ap (λ n. answer n c) f ∙ header-as e
 
@@ -148,18 +123,18 @@ module _ (c : Cells) (block : List ℕ) (a : HeaderAnswer) (met : readHeader blo
     unfolding headedAs asHeader
     header-late f = out-of-place c (bodyCells (readStated s)) (eqb (c .phase) OPENING) (ne-eqb (c .phase) OPENING f) ∙ header-as e
 
-module _ (c : Cells) (block : List ℕ) (a : TrailerAnswer) (met : readTrailers a ≡ tellTrailers (lines block)) where
+module _ (c : Cells) (block : List ℕ) (a : TrailerAnswer) (met : a ≡ trailerAnswer (lines block)) where
   abbrev Trailed : Given → Type 0
   Trailed r = r ≡ trailedAs c (trailerOf (lines block))
 
   trailer-as : {b : TrailerAnswer} → a ≡ b → trailedAs c (asTrailer b) ≡ trailedAs c (trailerOf (lines block))
-  trailer-as e = ap (λ x. trailedAs c (asTrailer x)) (sym e) ∙ trailer-met c block a met
+  trailer-as e = ap (λ x. trailedAs c (asTrailer x)) (sym e ∙ met) ∙ ap (trailedAs c) (trailer-is (lines block))
 
   pub trailer-unread : a ≡ trailer.Unreadable → Trailed (answer UNREADABLE c)
   unfolding trailedAs asTrailer
   trailer-unread e = trailer-as e
 
-  pub trailer-refused : {r : Reason} {n : ℕ} → a ≡ trailer.Refused r → n ≡ codeNumber (section-code (reasonOf r)) → Trailed (answer n c)
+  pub trailer-refused : {k n : ℕ} → a ≡ trailer.Refused k → n ≡ codeNumber (section-code (reasonAt k)) → Trailed (answer n c)
   unfolding trailedAs asTrailer
   trailer-refused e f = ap (λ n. answer n c) f ∙ trailer-as e
 

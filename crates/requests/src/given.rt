@@ -6,7 +6,8 @@ use section::TrailerAnswer;
 ghost use mathlib.Core.Path.{_≡_};
 ghost use Rattle.rules.specs.Block.{lines};
 ghost use Rattle.section.specs.Answer.{readStated};
-ghost use Rattle.requests.specs.Taken.{cellsAt, bodyCells, headedAs, headerOf, trailedAs, trailerOf, givenOf};
+ghost use Rattle.section.specs.Request.{headerOf, trailerOf};
+ghost use Rattle.requests.specs.Taken.{cellsAt, bodyCells, headedAs, trailedAs, givenOf};
 
 // The number, and where the stream is then.
 #[repr(C)]

@@ -120,6 +120,34 @@ pub data Reason : Type 0 where
   length-past-limit : Reason
   no-length : Reason
 
+-- its number: the place of its check in document 01's order (`section/Checks.checks`)
+abbrev pub reasonNumber : Reason → ℕ
+reasonNumber too-large = 0
+reasonNumber bad-bytes = 1
+reasonNumber unknown-pseudo = 2
+reasonNumber repeated-pseudo = 3
+reasonNumber late-pseudo = 4
+reasonNumber pseudo-in-trailers = 5
+reasonNumber connection-field = 6
+reasonNumber other-te = 7
+reasonNumber bad-method = 8
+reasonNumber no-method = 9
+reasonNumber repeated-length = 10
+reasonNumber length-in-trailers = 11
+reasonNumber no-digits = 12
+reasonNumber length-above = 13
+reasonNumber repeated-host = 14
+reasonNumber connect = 15
+reasonNumber no-scheme-or-path = 16
+reasonNumber other-scheme = 17
+reasonNumber bad-path = 18
+reasonNumber no-authority = 19
+reasonNumber empty-authority = 20
+reasonNumber authorities-differ = 21
+reasonNumber at-in-authority = 22
+reasonNumber length-past-limit = 23
+reasonNumber no-length = 24
+
 pub record Check : Type 0 where
   pub reason : Reason
   pub broken : Section → Bool

@@ -5,13 +5,11 @@ use mathlib.Core.List.{List, [], _∷_}
 use mathlib.Core.Bool.{Bool, true, false, cond, _||_, _&&_}
 use mathlib.Core.Option.{Option, none, some}
 use native.Mathlib.Omega.{arith}
-use lib.Dec.{ltb, leb·suc-zero, leb·suc-suc}
+use lib.Dec.{ltb, eqb, eqb→eq, leb·suc-zero, leb·suc-suc}
 use borrow.Author.Tests.{lt-ltb}
 use lib.ListN.{length, getD}
-use Rattle.rules.specs.Section as rules
-use Rattle.rules.specs.Section.{Check, size-check, bytes-check, unknown-check, repeated-check, late-check, in-trailers-check, connection-check, te-check, method-check, no-method-check, repeated-length-check, length-in-trailers-check, digits-check, length-above-check, repeated-host-check, connect-check, present-check, scheme-check, path-check, authority-check, empty-check, differ-check, at-check, length-check, upload-check}
-use Rattle.section.specs.declared.Reason.{Reason}
-use Rattle.section.specs.declared.Reason.the-variants.{TooLarge, BadBytes, UnknownPseudo, RepeatedPseudo, LatePseudo, PseudoInTrailers, ConnectionField, OtherTe, BadMethod, NoMethod, RepeatedLength, LengthInTrailers, NoDigits, LengthAbove, RepeatedHost, Connect, NoSchemeOrPath, OtherScheme, BadPath, NoAuthority, EmptyAuthority, AuthoritiesDiffer, AtInAuthority, LengthPastLimit, NoLength}
+use Rattle.fields.specs.Table.{eachFrom, each-at}
+use Rattle.rules.specs.Section.{Reason, reasonNumber, Check, size-check, bytes-check, unknown-check, repeated-check, late-check, in-trailers-check, connection-check, te-check, method-check, no-method-check, repeated-length-check, length-in-trailers-check, digits-check, length-above-check, repeated-host-check, connect-check, present-check, scheme-check, path-check, authority-check, empty-check, differ-check, at-check, length-check, upload-check}
 
 -- of header sections and of trailers, in one list
 unfoldable pub checks : List Check
@@ -36,37 +34,9 @@ checks =
 abbrev pub unbroken : ℕ
 unbroken = 25
 
--- a reason's number: the place of its check
-abbrev pub at : Reason → ℕ
-at TooLarge = 0
-at BadBytes = 1
-at UnknownPseudo = 2
-at RepeatedPseudo = 3
-at LatePseudo = 4
-at PseudoInTrailers = 5
-at ConnectionField = 6
-at OtherTe = 7
-at BadMethod = 8
-at NoMethod = 9
-at RepeatedLength = 10
-at LengthInTrailers = 11
-at NoDigits = 12
-at LengthAbove = 13
-at RepeatedHost = 14
-at Connect = 15
-at NoSchemeOrPath = 16
-at OtherScheme = 17
-at BadPath = 18
-at NoAuthority = 19
-at EmptyAuthority = 20
-at AuthoritiesDiffer = 21
-at AtInAuthority = 22
-at LengthPastLimit = 23
-at NoLength = 24
-
--- the rules' name of a reason
-unfoldable pub reasonOf : Reason → rules.Reason
-reasonOf r = getD checks (at r) size-check .reason
+-- the reason that a number names; of a number past the last, the first
+unfoldable pub reasonAt : ℕ → Reason
+reasonAt n = getD checks n size-check .reason
 
 -- ---- the lowest of a row of tests
 
@@ -130,13 +100,13 @@ and-then bs i u e h free f = push bs i u e h f ∙ ap lowest (fill-is i u bs fre
 
 -- ---- what a number says
 
-unfoldable pub told : List Check → ℕ → Option rules.Reason
+unfoldable pub told : List Check → ℕ → Option Reason
 told [] n = none
 told (c ∷ cs) zero = some (c .reason)
 told (c ∷ cs) (suc n) = told cs n
 
 -- the first that is broken, by a row of what each says
-unfoldable pub firstIn : List Check → List Bool → Option rules.Reason
+unfoldable pub firstIn : List Check → List Bool → Option Reason
 firstIn [] bs = none
 firstIn (c ∷ cs) [] = none
 firstIn (c ∷ cs) (b ∷ bs) = elim b [ true ↦ some (c .reason) | false ↦ firstIn cs bs ]
@@ -160,10 +130,28 @@ told-out [] n h = refl
 told-out (c ∷ cs) zero h = absurd (omega arith)
 told-out (c ∷ cs) (suc n) h = told-out cs n (omega arith)
 
-pub told-reason : (r : Reason) (n : ℕ) → at r ≡ n → n < unbroken → told checks n ≡ some (reasonOf r)
-unfolding reasonOf checks
-told-reason r n e h = told-in checks n size-check h ∙ ap (λ (m : ℕ). some (getD checks m size-check .reason)) (sym e)
+in-told : (cs : List Check) (n : ℕ) (d : Check) (r : Reason) → told cs n ≡ some r → (n < length cs) × (getD cs n d .reason ≡ r)
+unfolding told
+in-told [] n d r e = let z : _≡_ {A = ℕ} 0 1 = cc in absurd (omega arith)
+in-told (c ∷ cs) zero d r e = (omega arith, cc)
+in-told (c ∷ cs) (suc n) d r e = let h = in-told cs n d r e in (omega (arith, h .0), h .1)
+
+pub told-reason : (n : ℕ) → n < unbroken → told checks n ≡ some (reasonAt n)
+unfolding reasonAt checks
+told-reason n h = told-in checks n size-check h
 
 pub told-none : (n : ℕ) → unbroken ≤ n → told checks n ≡ none
 unfolding checks
 told-none n h = told-out checks n h
+
+-- each check is in its reason's place, by one test of them all
+pub number-at : (n : ℕ) → n < unbroken → reasonNumber (reasonAt n) ≡ n
+unfolding eachFrom reasonAt checks size-check bytes-check unknown-check repeated-check late-check in-trailers-check connection-check te-check method-check no-method-check repeated-length-check length-in-trailers-check digits-check length-above-check repeated-host-check connect-check present-check scheme-check path-check authority-check empty-check differ-check at-check length-check upload-check
+number-at n h = eqb→eq _ n (each-at (λ k c. eqb (reasonNumber (c .reason)) k) size-check checks tt n (λ past. absurd (omega arith)))
+
+-- so the number of a reason that is told names it
+pub told-back : (n : ℕ) (r : Reason) → told checks n ≡ some r → reasonAt (reasonNumber r) ≡ r
+unfolding reasonAt checks
+told-back n r e =
+    let h = in-told checks n size-check r e in
+    ap (λ x. reasonAt (reasonNumber x)) (sym (h .1)) ∙ ap reasonAt (number-at n (h .0)) ∙ h .1

@@ -12,14 +12,14 @@ use Rattle.rules.specs.Text.{ascii, any, all, same}
 use Rattle.rules.specs.Integers.{largest}
 use Rattle.rules.specs.Classes.{isToken, isDigit}
 use Rattle.rules.specs.Block.{Line, Section, lines}
-use Rattle.rules.specs.Section.{isEmpty, begins, named, lineWith, has, repeated, valueOf, methodOf, decimal, decimalFrom, pseudo-fields, connection-fields, isPseudo, lineSize, size, badName, badValue, pseudoBehindPlain, bytes-check, unknown-check, repeated-check, late-check, connection-check, te-check, method-check, repeated-length-check, digits-check, length-above-check, repeated-host-check}
+use Rattle.rules.specs.Section as rules
+use Rattle.rules.specs.Section.{reasonNumber as at, isEmpty, begins, named, lineWith, has, repeated, valueOf, methodOf, decimal, decimalFrom, pseudo-fields, connection-fields, isPseudo, lineSize, size, badName, badValue, pseudoBehindPlain, bytes-check, unknown-check, repeated-check, late-check, connection-check, te-check, method-check, repeated-length-check, digits-check, length-above-check, repeated-host-check}
 use Rattle.fields.specs.Bytes.{badNameBytes, badValueBytes}
 use Rattle.fields.specs.Decimal.{capped, past, capped-plus}
 use Rattle.fields.specs.Walk.{held, isReadable}
-use Rattle.section.specs.declared.Reason.the-variants.{BadBytes, UnknownPseudo, RepeatedPseudo, LatePseudo, ConnectionField, OtherTe, BadMethod, RepeatedLength, NoDigits, LengthAbove, RepeatedHost}
 use Rattle.section.specs.declared.Facts.{Facts}
 use Rattle.section.specs.declared.Walked.{Walked}
-use Rattle.section.specs.Checks.{unbroken, at, lowest, lowerOf, put, push}
+use Rattle.section.specs.Checks.{unbroken, lowest, lowerOf, put, push}
 use Rattle.section.specs.Names.{method, scheme, authority, path, host, content-length, te, connection, unknown, plain, by-kind, pseudoName, nameAt, isOneName, nameOf, ten, text-told, connection-told, pseudo-told, unknown-told}
 use Rattle.section.specs.Finding.{first, valueFrom, valueTo, fromOf, toOf}
 
@@ -99,7 +99,7 @@ abbrev pub otherTe : List ℕ → Bool
 otherTe v = not (same v (ascii "trailers"))
 
 abbrev knownFirst : Facts → (k : ℕ) → ℕ
-knownFirst f k = lowerOf (lowerOf (f .first) (at RepeatedPseudo) (thereAt f k)) (at LatePseudo) (f .plain)
+knownFirst f k = lowerOf (lowerOf (f .first) (at rules.repeated-pseudo) (thereAt f k)) (at rules.late-pseudo) (f .plain)
 
 -- a request pseudo-field
 unfoldable pub knownBy : (k : ℕ) → Facts → (from to : ℕ) → Facts
@@ -112,18 +112,18 @@ plainBy f n = facts (f .size) n (f .pseudo) true (f .stated) (f .from) (f .to)
 unfoldable pub noteBy : (k : ℕ) → Facts → (value : List ℕ) (from to : ℕ) → Facts
 noteBy k f v a b =
     cond (eqb k method)
-    (facts (f .size) (lowerOf (knownFirst f method) (at BadMethod) (badMethod v)) true (f .plain) (f .stated) (fromWith f method a) (toWith f method b))
+    (facts (f .size) (lowerOf (knownFirst f method) (at rules.bad-method) (badMethod v)) true (f .plain) (f .stated) (fromWith f method a) (toWith f method b))
     (cond (ltb k host) (knownBy k f a b)
     (cond (eqb k host)
-    (facts (f .size) (lowerOf (f .first) (at RepeatedHost) (thereAt f host)) (f .pseudo) true (f .stated) (fromWith f host a) (toWith f host b))
+    (facts (f .size) (lowerOf (f .first) (at rules.repeated-host) (thereAt f host)) (f .pseudo) true (f .stated) (fromWith f host a) (toWith f host b))
     (cond (eqb k content-length)
     (facts (f .size)
-    (lowerOf (lowerOf (lowerOf (f .first) (at RepeatedLength) (thereAt f content-length)) (at NoDigits) (noDigits v)) (at LengthAbove) (ltb largest (capped (decimal v))))
+    (lowerOf (lowerOf (lowerOf (f .first) (at rules.repeated-length) (thereAt f content-length)) (at rules.no-digits) (noDigits v)) (at rules.length-above) (ltb largest (capped (decimal v))))
     (f .pseudo) true (keptOf (getD (f .to) content-length 0) (f .stated) (capped (decimal v))) (fromWith f content-length a) (toWith f content-length b))
-    (cond (eqb k te) (plainBy f (lowerOf (f .first) (at OtherTe) (otherTe v)))
-    (cond (eqb k connection) (plainBy f (lowerOf (f .first) (at ConnectionField) true))
+    (cond (eqb k te) (plainBy f (lowerOf (f .first) (at rules.other-te) (otherTe v)))
+    (cond (eqb k connection) (plainBy f (lowerOf (f .first) (at rules.connection-field) true))
     (cond (eqb k unknown)
-    (facts (f .size) (lowerOf (lowerOf (f .first) (at UnknownPseudo) true) (at LatePseudo) (f .plain)) true (f .plain) (f .stated) (f .from) (f .to))
+    (facts (f .size) (lowerOf (lowerOf (f .first) (at rules.unknown-pseudo) true) (at rules.late-pseudo) (f .plain)) true (f .plain) (f .stated) (f .from) (f .to))
     (plainBy f (f .first))))))))
 
 -- the kind that was found is the name's
@@ -132,7 +132,7 @@ of-kind f v a b e p = p ∙ sym (ap (λ (x : ℕ). noteBy x f v a b) e)
 
 -- its bytes and its size too
 abbrev withBytes : Facts → (name value : List ℕ) → (size : ℕ) → Facts
-withBytes g n v z = facts z (lowerOf (g .first) (at BadBytes) (badNameBytes n || badValueBytes v)) (g .pseudo) (g .plain) (g .stated) (g .from) (g .to)
+withBytes g n v z = facts z (lowerOf (g .first) (at rules.bad-bytes) (badNameBytes n || badValueBytes v)) (g .pseudo) (g .plain) (g .stated) (g .from) (g .to)
 
 unfoldable pub lineStep : Facts → (name value : List ℕ) (from to : ℕ) → Facts
 lineStep f n v a b = withBytes (noteBy (nameOf n) f v a b) n v (capped (f .size + (length n + length v + 32)))
@@ -381,20 +381,20 @@ module _ (s : Section) (l : Line) where
   abbrev bad : Bool
   bad = badNameBytes (l .name) || badValueBytes (l .value)
 
-  bad-too : {n : ℕ} (bs : List Bool) → n ≡ lowest bs → 1 < length bs → lowerOf n (at BadBytes) bad ≡ lowest (put (at BadBytes) bad bs)
-  bad-too bs e h = push bs (at BadBytes) bad e h refl
+  bad-too : {n : ℕ} (bs : List Bool) → n ≡ lowest bs → 1 < length bs → lowerOf n (at rules.bad-bytes) bad ≡ lowest (put (at rules.bad-bytes) bad bs)
+  bad-too bs e h = push bs (at rules.bad-bytes) bad e h refl
 
   -- a request pseudo-field
   known-row : (u : Bool) → List Bool
-  known-row u = put (at LatePseudo) (any isPlain s) (put (at RepeatedPseudo) u (rowOf s))
+  known-row u = put (at rules.late-pseudo) (any isPlain s) (put (at rules.repeated-pseudo) u (rowOf s))
 
-  known : (u : Bool) {t : Bool} → t ≡ u → lowerOf (lowerOf (lowest (rowOf s)) (at RepeatedPseudo) t) (at LatePseudo) (any isPlain s) ≡ lowest (known-row u)
+  known : (u : Bool) {t : Bool} → t ≡ u → lowerOf (lowerOf (lowest (rowOf s)) (at rules.repeated-pseudo) t) (at rules.late-pseudo) (any isPlain s) ≡ lowest (known-row u)
   unfolding rowOf put known-row
-  known u e = push _ (at LatePseudo) (any isPlain s) (push (rowOf s) (at RepeatedPseudo) u refl (lit< tt) e) (lit< tt) refl
+  known u e = push _ (at rules.late-pseudo) (any isPlain s) (push (rowOf s) (at rules.repeated-pseudo) u refl (lit< tt) e) (lit< tt) refl
 
   step-method : Steps method
   unfolding factsOf noteBy rowOf put known-row badNameBytes badValueBytes badName badValue isPseudo
-  step-method = same-facts (bad-too _ (push _ (at BadMethod) (badMethod (l .value)) (known _ (there-or (nameAt method) s)) (lit< tt) refl) (lit< tt)) refl
+  step-method = same-facts (bad-too _ (push _ (at rules.bad-method) (badMethod (l .value)) (known _ (there-or (nameAt method) s)) (lit< tt) refl) (lit< tt)) refl
 
   step-scheme : Steps scheme
   unfolding factsOf noteBy knownBy rowOf put known-row badNameBytes badValueBytes badName badValue isPseudo
@@ -410,15 +410,15 @@ module _ (s : Section) (l : Line) where
 
   step-host : Steps host
   unfolding factsOf noteBy rowOf put badNameBytes badValueBytes badName badValue isPseudo
-  step-host = same-facts (bad-too _ (push (rowOf s) (at RepeatedHost) _ refl (lit< tt) (there-is (nameAt host) s)) (lit< tt)) refl
+  step-host = same-facts (bad-too _ (push (rowOf s) (at rules.repeated-host) _ refl (lit< tt) (there-is (nameAt host) s)) (lit< tt)) refl
 
   step-length : Steps content-length
   unfolding factsOf noteBy rowOf put badNameBytes badValueBytes badName badValue isPseudo largest
   step-length =
       same-facts
       (bad-too _
-      (push _ (at LengthAbove) (aboveLargest (l .value))
-      (push _ (at NoDigits) (noDigits (l .value)) (push (rowOf s) (at RepeatedLength) _ refl (lit< tt) (there-is (nameAt content-length) s)) (lit< tt) refl)
+      (push _ (at rules.length-above) (aboveLargest (l .value))
+      (push _ (at rules.no-digits) (noDigits (l .value)) (push (rowOf s) (at rules.repeated-length) _ refl (lit< tt) (there-is (nameAt content-length) s)) (lit< tt) refl)
       (lit< tt)
       (past largest (decimal (l .value)) (lit< tt)))
       (lit< tt))
@@ -426,15 +426,15 @@ module _ (s : Section) (l : Line) where
 
   step-te : Steps te
   unfolding factsOf noteBy plainBy rowOf put badNameBytes badValueBytes badName badValue isPseudo
-  step-te = same-facts (bad-too _ (push (rowOf s) (at OtherTe) (otherTe (l .value)) refl (lit< tt) refl) (lit< tt)) refl
+  step-te = same-facts (bad-too _ (push (rowOf s) (at rules.other-te) (otherTe (l .value)) refl (lit< tt) refl) (lit< tt)) refl
 
   step-connection : Steps connection
   unfolding factsOf noteBy plainBy rowOf put badNameBytes badValueBytes badName badValue isPseudo
-  step-connection = same-facts (bad-too _ (push (rowOf s) (at ConnectionField) true refl (lit< tt) refl) (lit< tt)) refl
+  step-connection = same-facts (bad-too _ (push (rowOf s) (at rules.connection-field) true refl (lit< tt) refl) (lit< tt)) refl
 
   step-unknown : Steps unknown
   unfolding factsOf noteBy rowOf put badNameBytes badValueBytes badName badValue isPseudo
-  step-unknown = same-facts (bad-too _ (push _ (at LatePseudo) (any isPlain s) (push (rowOf s) (at UnknownPseudo) true refl (lit< tt) refl) (lit< tt) refl) (lit< tt)) refl
+  step-unknown = same-facts (bad-too _ (push _ (at rules.late-pseudo) (any isPlain s) (push (rowOf s) (at rules.unknown-pseudo) true refl (lit< tt) refl) (lit< tt) refl) (lit< tt)) refl
 
   step-plain : Steps plain
   unfolding factsOf noteBy plainBy rowOf put badNameBytes badValueBytes badName badValue isPseudo

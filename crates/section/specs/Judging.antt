@@ -9,24 +9,26 @@ use lib.Dec.{ltb, eqb, lit<}
 use lib.ListN.{length, getD}
 use borrow.Author.Tests.{ltb-false}
 use Rattle.rules.specs.Text.{ascii, any, same}
-use Rattle.rules.specs.Block.{Section, Lines, readable}
-use Rattle.rules.specs.Block as block
+use Rattle.rules.specs.Numbers.{codeNumber}
+use Rattle.rules.specs.Block.{Section, Lines, unreadable, readable, lines}
 use Rattle.rules.specs.Section as rules
-use Rattle.rules.specs.Section.{Check, refused, sound, isEmpty, begins, holds, isUpload, uploads, uploading, decimal, decimalFrom, named, has, valueOf, methodOf, statedIn, unless, firstBroken, goodPath, size, size-limit, length-limit, size-check, bytes-check, unknown-check, repeated-check, late-check, in-trailers-check, connection-check, te-check, method-check, no-method-check, repeated-length-check, length-in-trailers-check, digits-check, length-above-check, repeated-host-check, connect-check, present-check, scheme-check, path-check, authority-check, empty-check, differ-check, at-check, length-check, upload-check, header-checks, trailer-checks, header-section}
+use Rattle.rules.specs.Section.{Reason, reasonNumber as at, codeOf, Check, Judgement, refused, sound, Head, isEmpty, begins, holds, isUpload, uploads, uploading, decimal, decimalFrom, named, has, valueOf, methodOf, statedIn, unless, firstBroken, goodPath, size, size-limit, length-limit, size-check, bytes-check, unknown-check, repeated-check, late-check, in-trailers-check, connection-check, te-check, method-check, no-method-check, repeated-length-check, length-in-trailers-check, digits-check, length-above-check, repeated-host-check, connect-check, present-check, scheme-check, path-check, authority-check, empty-check, differ-check, at-check, length-check, upload-check, header-checks, trailer-checks, header-section}
 use Rattle.fields.specs.Laws.{empty-is}
-use Rattle.fields.specs.Walk.{isReadable, held}
+use Rattle.fields.specs.Walk.{part, isReadable, held}
+use Rattle.fields.specs.Lines.{held-is}
 use Rattle.fields.specs.Decimal.{capped, capped-below, past}
-use Rattle.section.specs.declared.Reason.{Reason}
-use Rattle.section.specs.declared.Reason.the-variants.{TooLarge, PseudoInTrailers, NoMethod, LengthInTrailers, Connect, NoSchemeOrPath, OtherScheme, BadPath, NoAuthority, EmptyAuthority, AuthoritiesDiffer, AtInAuthority, LengthPastLimit, NoLength}
 use Rattle.section.specs.declared.Facts.{Facts}
 use Rattle.section.specs.declared.Stated.{Stated}
+use Rattle.section.specs.declared.HeaderAnswer.{HeaderAnswer}
 use Rattle.section.specs.declared.HeaderAnswer.the-variants as header
-use Rattle.section.specs.Checks.{checks, unbroken, at, reasonOf, lowest, lowerOf, fill, and-then, told, firstIn, first-told, told-reason, told-none}
+use Rattle.section.specs.declared.TrailerAnswer.{TrailerAnswer}
+use Rattle.section.specs.declared.TrailerAnswer.the-variants as trailer
+use Rattle.section.specs.Checks.{checks, unbroken, reasonAt, lowest, lowerOf, fill, and-then, told, firstIn, first-told, told-reason, told-none, number-at, told-back}
 use Rattle.section.specs.Names.{method, scheme, authority, path, host, content-length, nameAt}
 use Rattle.section.specs.Finding.{first, toOf}
-use Rattle.section.specs.Facts.{rowOf, factsOf, toIn, thereAt, valueAt, there-is, somewhere}
+use Rattle.section.specs.Facts.{rowOf, factsOf, fromIn, toIn, thereAt, valueAt, there-is, somewhere}
 use Rattle.section.specs.Places.{bytes-are, holds-by}
-use Rattle.section.specs.Answer.{methodName, lengthName, Told, unreadable, judged, Headed, methodLine, at-method, says, headOf, placed-in, tellHeader, tellTrailers, readStated, readHeader}
+use Rattle.section.specs.Answer.{methodName, lengthName, methodLine, statedOf, headerBy, headerAnswer, trailerBy, trailerAnswer, judgedNumber, headerNumber, trailerNumber}
 
 -- ---- what each check says, in its place
 
@@ -70,10 +72,10 @@ byPlaces f =
     lowerOf
     (lowerOf
     (lowerOf
-    (lowerOf (f .first) (at TooLarge) (ltb size-limit (f .size)))
-    (at NoMethod) (absent f method))
-    (at NoSchemeOrPath) (not (thereAt f scheme && thereAt f path)))
-    (at LengthPastLimit) (ltb length-limit (f .stated))
+    (lowerOf (f .first) (at rules.too-large) (ltb size-limit (f .size)))
+    (at rules.no-method) (absent f method))
+    (at rules.no-scheme-or-path) (not (thereAt f scheme && thereAt f path)))
+    (at rules.length-past-limit) (ltb length-limit (f .stated))
 
 unfoldable pub isHttp : List ℕ → Bool
 isHttp v = same v (ascii "http") || same v (ascii "https")
@@ -89,23 +91,23 @@ byRequest m h p t n =
     lowerOf
     (lowerOf
     (lowerOf
-    (lowerOf n (at Connect) (same (ascii "CONNECT") m))
-    (at OtherScheme) (not (isHttp h)))
-    (at BadPath) (not (isPath p m)))
-    (at NoLength) (sendsContent m && not t)
+    (lowerOf n (at rules.connect) (same (ascii "CONNECT") m))
+    (at rules.other-scheme) (not (isHttp h)))
+    (at rules.bad-path) (not (isPath p m)))
+    (at rules.no-length) (sendsContent m && not t)
 
 unfoldable pub byAuthority : (authority : List ℕ) (given : Bool) (host : List ℕ) (hosted : Bool) (first : ℕ) → ℕ
 byAuthority a ta h th n =
     lowerOf
     (lowerOf
     (lowerOf
-    (lowerOf n (at NoAuthority) (not (ta || th)))
-    (at EmptyAuthority) ((ta && eqb (length a) 0) || (th && eqb (length h) 0)))
-    (at AuthoritiesDiffer) ((ta && th) && not (same a h)))
-    (at AtInAuthority) (any (eqb 0x40) a)
+    (lowerOf n (at rules.no-authority) (not (ta || th)))
+    (at rules.empty-authority) ((ta && eqb (length a) 0) || (th && eqb (length h) 0)))
+    (at rules.authorities-differ) ((ta && th) && not (same a h)))
+    (at rules.at-in-authority) (any (eqb 0x40) a)
 
 unfoldable pub byTrailers : Facts → ℕ
-byTrailers f = lowerOf (lowerOf (lowerOf (f .first) (at TooLarge) (ltb size-limit (f .size))) (at PseudoInTrailers) (f .pseudo)) (at LengthInTrailers) (not (absent f content-length))
+byTrailers f = lowerOf (lowerOf (lowerOf (f .first) (at rules.too-large) (ltb size-limit (f .size))) (at rules.pseudo-in-trailers) (f .pseudo)) (at rules.length-in-trailers) (not (absent f content-length))
 
 -- ---- a name is there where it has a value
 
@@ -216,18 +218,18 @@ module _ (s : Section) where
       ≡ lowest (headerRow s)
   unfolding byAuthority byRequest byPlaces headerRow rowOf fill
   header-lowest =
-      and-then _ (at AtInAuthority) (at-check .broken s)
-      (and-then _ (at AuthoritiesDiffer) (differ-check .broken s)
-      (and-then _ (at EmptyAuthority) (empty-check .broken s)
-      (and-then _ (at NoAuthority) (authority-check .broken s)
-      (and-then _ (at NoLength) (upload-check .broken s)
-      (and-then _ (at BadPath) (path-check .broken s)
-      (and-then _ (at OtherScheme) (scheme-check .broken s)
-      (and-then _ (at Connect) (connect-check .broken s)
-      (and-then _ (at LengthPastLimit) (length-check .broken s)
-      (and-then _ (at NoSchemeOrPath) (present-check .broken s)
-      (and-then _ (at NoMethod) (no-method-check .broken s)
-      (and-then (rowOf s) (at TooLarge) (size-check .broken s) first-is
+      and-then _ (at rules.at-in-authority) (at-check .broken s)
+      (and-then _ (at rules.authorities-differ) (differ-check .broken s)
+      (and-then _ (at rules.empty-authority) (empty-check .broken s)
+      (and-then _ (at rules.no-authority) (authority-check .broken s)
+      (and-then _ (at rules.no-length) (upload-check .broken s)
+      (and-then _ (at rules.bad-path) (path-check .broken s)
+      (and-then _ (at rules.other-scheme) (scheme-check .broken s)
+      (and-then _ (at rules.connect) (connect-check .broken s)
+      (and-then _ (at rules.length-past-limit) (length-check .broken s)
+      (and-then _ (at rules.no-scheme-or-path) (present-check .broken s)
+      (and-then _ (at rules.no-method) (no-method-check .broken s)
+      (and-then (rowOf s) (at rules.too-large) (size-check .broken s) first-is
       (lit< tt) refl large)
       (lit< tt) refl no-method)
       (lit< tt) refl no-place)
@@ -252,9 +254,9 @@ module _ (s : Section) where
   trailer-lowest : byTrailers (factsOf s) ≡ lowest (trailerRow s)
   unfolding byTrailers trailerRow rowOf fill
   trailer-lowest =
-      and-then _ (at LengthInTrailers) (length-in-trailers-check .broken s)
-      (and-then _ (at PseudoInTrailers) (in-trailers-check .broken s)
-      (and-then (rowOf s) (at TooLarge) (size-check .broken s) first-is (lit< tt) refl large)
+      and-then _ (at rules.length-in-trailers) (length-in-trailers-check .broken s)
+      (and-then _ (at rules.pseudo-in-trailers) (in-trailers-check .broken s)
+      (and-then (rowOf s) (at rules.too-large) (size-check .broken s) first-is (lit< tt) refl large)
       (lit< tt) refl in-trailers)
       (lit< tt) refl stated-there
 
@@ -263,58 +265,9 @@ module _ (s : Section) where
   unfolding firstBroken header-checks checks headerRow firstIn
   header-first = first-told checks (headerRow s) refl
 
-  trailer-first : firstBroken trailer-checks s ≡ told checks (lowest (trailerRow s))
+  trailer-first : firstBroken trailer-checks s ≡ told checks (byTrailers (factsOf s))
   unfolding firstBroken trailer-checks checks trailerRow firstIn
-  trailer-first = first-told checks (trailerRow s) refl
-
-  module _ (n : ℕ) (r : Reason) (is : at r ≡ n) (h : n < unbroken) where
-    pub header-broken : n ≡ lowest (headerRow s) → firstBroken header-checks s ≡ some (reasonOf r)
-    header-broken e = header-first ∙ ap (told checks) (sym e) ∙ told-reason r n is h
-
-    pub trailer-broken : n ≡ byTrailers (factsOf s) → firstBroken trailer-checks s ≡ some (reasonOf r)
-    trailer-broken e = trailer-first ∙ ap (told checks) (sym (e ∙ trailer-lowest)) ∙ told-reason r n is h
-
-  pub header-unbroken : (n : ℕ) → n ≡ lowest (headerRow s) → unbroken ≤ n → firstBroken header-checks s ≡ none
-  header-unbroken n e h = header-first ∙ ap (told checks) (sym e) ∙ told-none n h
-
-  pub trailer-unbroken : (n : ℕ) → n ≡ byTrailers (factsOf s) → unbroken ≤ n → firstBroken trailer-checks s ≡ none
-  trailer-unbroken n e h = trailer-first ∙ ap (told checks) (sym (e ∙ trailer-lowest)) ∙ told-none n h
-
--- ---- the rules' side
-
-module _ (x : Lines) where
-  pub header-unread : isReadable x ≡ false → tellHeader x ≡ unreadable
-  unfolding tellHeader
-  header-unread e = by x e
-    where
-      by : (y : Lines) → isReadable y ≡ false → tellHeader y ≡ unreadable
-      by (block.unreadable f) e = refl
-      by (readable s) e = let z : _≡_ {A = ℕ} 0 1 = cc in absurd (omega arith)
-
-  pub trailers-unread : isReadable x ≡ false → tellTrailers x ≡ unreadable
-  unfolding tellTrailers
-  trailers-unread e = by x e
-    where
-      by : (y : Lines) → isReadable y ≡ false → tellTrailers y ≡ unreadable
-      by (block.unreadable f) e = refl
-      by (readable s) e = let z : _≡_ {A = ℕ} 0 1 = cc in absurd (omega arith)
-
-module _ (s : Section) where
-  pub header-refused : (r : rules.Reason) → firstBroken header-checks s ≡ some r → tellHeader (readable s) ≡ judged (refused r)
-  unfolding tellHeader header-section unless placed-in
-  header-refused r e = ap (λ o. judged (placed-in s (unless o (says s)))) e
-
-  pub header-sound : firstBroken header-checks s ≡ none → tellHeader (readable s) ≡ judged (sound (headOf s))
-  unfolding tellHeader header-section unless placed-in headOf
-  header-sound e = ap (λ o. judged (placed-in s (unless o (says s)))) e
-
-  pub trailers-refused : (r : rules.Reason) → firstBroken trailer-checks s ≡ some r → tellTrailers (readable s) ≡ judged (refused r)
-  unfolding tellTrailers rules.trailers unless
-  trailers-refused r e = ap (λ o. judged (unless o tt)) e
-
-  pub trailers-sound : firstBroken trailer-checks s ≡ none → tellTrailers (readable s) ≡ judged (sound tt)
-  unfolding tellTrailers rules.trailers unless
-  trailers-sound e = ap (λ o. judged (unless o tt)) e
+  trailer-first = first-told checks (trailerRow s) refl ∙ ap (told checks) (sym trailer-lowest)
 
   -- where no check is broken, each one passed
   passed : (cs : List Check) (i : ℕ) (d : Check) → i < length cs → firstBroken cs s ≡ none → getD cs i d .broken s ≡ false
@@ -322,12 +275,12 @@ module _ (s : Section) where
   passed [] i d h e = absurd (omega arith)
   passed (c ∷ cs) zero d h e = go (c .broken s) e
     where
-      go : (t : Bool) → _≡_ {A = Option rules.Reason} (elim t [ true ↦ some (c .reason) | false ↦ firstBroken cs s ]) none → t ≡ false
+      go : (t : Bool) → _≡_ {A = Option Reason} (elim t [ true ↦ some (c .reason) | false ↦ firstBroken cs s ]) none → t ≡ false
       go true f = let z : _≡_ {A = ℕ} 0 1 = cc in absurd (omega arith)
       go false f = refl
   passed (c ∷ cs) (suc i) d h e = passed cs i d (omega arith) (go (c .broken s) e)
     where
-      go : (t : Bool) → _≡_ {A = Option rules.Reason} (elim t [ true ↦ some (c .reason) | false ↦ firstBroken cs s ]) none → firstBroken cs s ≡ none
+      go : (t : Bool) → _≡_ {A = Option Reason} (elim t [ true ↦ some (c .reason) | false ↦ firstBroken cs s ]) none → firstBroken cs s ≡ none
       go true f = let z : _≡_ {A = ℕ} 0 1 = cc in absurd (omega arith)
       go false f = f
 
@@ -347,8 +300,6 @@ module _ (s : Section) where
       by none t = let z : _≡_ {A = ℕ} 0 1 = cc in absurd (omega arith)
       by (some v) t = (decimal v, refl)
 
--- ---- the answer's side
-
 -- the length that a section states, within the limit, is reported as it is
 unfoldable pub statedBy : Facts → Option ℕ
 statedBy f = cond (absent f content-length) none (some (f .stated))
@@ -362,22 +313,94 @@ stated-is s e = rw (value-is lengthName s) (go (valueOf lengthName s) e)
     go none e = refl
     go (some v) e = let h = ltb-false length-limit (decimal v) e in ap some (capped-below (decimal v) (omega arith))
 
-same-head : {m m′ : List ℕ} {o o′ : Option ℕ} {f f′ t t′ : ℕ} → m ≡ m′ → o ≡ o′ → f ≡ f′ → t ≡ t′
-    → _≡_ {A = Told Headed} (judged (sound (record { head = record { method = m; stated = o }; from = f; to = t })))
-    (judged (sound (record { head = record { method = m′; stated = o′ }; from = f′; to = t′ })))
-same-head {m′} {o} {o′} {f} {f′} {t} p q r e =
-    ap (λ x. judged (sound (record { head = record { method = x; stated = o }; from = f; to = t }))) p
-    ∙ ap (λ x. judged (sound (record { head = record { method = m′; stated = x }; from = f; to = t }))) q
-    ∙ ap (λ x. judged (sound (record { head = record { method = m′; stated = o′ }; from = x; to = t }))) r
-    ∙ ap (λ x. judged (sound (record { head = record { method = m′; stated = o′ }; from = f′; to = x }))) e
+-- ---- the answer is the rules' own
 
-pub sound-reads : (block : List ℕ) (f : Facts) (t : Stated) → f ≡ factsOf (held block) → readStated t ≡ statedBy f → length-check .broken (held block) ≡ false
-    → readHeader block (header.Sound (getD (f .from) method 0) (getD (f .to) method 0) t) ≡ judged (sound (headOf (held block)))
-unfolding readHeader headOf at-method methodLine factsOf
-sound-reads block f t is e within =
-    ap (λ (g : Facts). readHeader block (header.Sound (getD (g .from) method 0) (getD (g .to) method 0) t)) is
-    ∙ go (e ∙ ap statedBy is ∙ stated-is (held block) within)
+-- what a sound header section says
+abbrev pub says : Section → Head
+says s = record { method = methodOf (valueOf methodName s); stated = statedIn (valueOf lengthName s) }
+
+module _ (s : Section) where
+  by-first : {o : Option Reason} → firstBroken header-checks s ≡ o → headerBy s (unless o (says s)) ≡ headerAnswer (readable s)
+  unfolding headerAnswer header-section
+  by-first e = sym (ap (λ x. headerBy s (unless x (says s))) e)
+
+  by-first′ : {o : Option Reason} → firstBroken trailer-checks s ≡ o → trailerBy (unless o tt) ≡ trailerAnswer (readable s)
+  unfolding trailerAnswer rules.trailers
+  by-first′ e = sym (ap (λ x. trailerBy (unless x tt)) e)
+
+  module _ (n : ℕ) (h : n < unbroken) where
+    pub header-refused : n ≡ lowest (headerRow s) → header.Refused n ≡ headerAnswer (readable s)
+    unfolding headerBy unless
+    header-refused e = ap header.Refused (sym (number-at n h)) ∙ by-first (header-first s ∙ ap (told checks) (sym e) ∙ told-reason n h)
+
+    pub trailers-refused : n ≡ byTrailers (factsOf s) → trailer.Refused n ≡ trailerAnswer (readable s)
+    unfolding trailerBy unless
+    trailers-refused e = ap trailer.Refused (sym (number-at n h)) ∙ by-first′ (trailer-first s ∙ ap (told checks) (sym e) ∙ told-reason n h)
+
+  module _ (n : ℕ) (h : unbroken ≤ n) where
+    pub header-sound : n ≡ lowest (headerRow s) → (f : Facts) → f ≡ factsOf s → {t : Stated} → t ≡ statedOf (statedBy f)
+        → header.Sound (getD (f .from) method 0) (getD (f .to) method 0) t ≡ headerAnswer (readable s)
+    unfolding headerBy unless methodLine factsOf
+    header-sound e f is states =
+        let none-broken = header-first s ∙ ap (told checks) (sym e) ∙ told-none n h in
+        ap (header.Sound (getD (f .from) method 0) (getD (f .to) method 0)) states
+        ∙ ap (λ (g : Facts). header.Sound (getD (g .from) method 0) (getD (g .to) method 0) (statedOf (statedBy g))) is
+        ∙ ap (λ o. header.Sound (getD (factsOf s .from) method 0) (getD (factsOf s .to) method 0) (statedOf o)) (stated-is s (length-passed s none-broken))
+        ∙ by-first none-broken
+
+    pub trailers-sound : n ≡ byTrailers (factsOf s) → trailer.Sound ≡ trailerAnswer (readable s)
+    unfolding trailerBy unless
+    trailers-sound e = by-first′ (trailer-first s ∙ ap (told checks) (sym e) ∙ told-none n h)
+
+  -- an answer is a refusal whose number names its reason, or it is sound
+  pub header-by-cases : (P : HeaderAnswer → Judgement Head → Type 0) → ((r : Reason) → reasonAt (at r) ≡ r → P (header.Refused (at r)) (refused r))
+      → ((h : Head) → P (headerBy s (sound h)) (sound h)) → P (headerAnswer (readable s)) (header-section s)
+  unfolding headerAnswer header-section headerBy unless
+  header-by-cases P p q = go (firstBroken header-checks s) refl
+    where
+      go : (o : Option Reason) → firstBroken header-checks s ≡ o → P (headerBy s (unless o (says s))) (unless o (says s))
+      go none e = q (says s)
+      go (some r) e = p r (told-back (lowest (headerRow s)) r (sym (header-first s) ∙ e))
+
+  pub trailers-by-cases : (P : TrailerAnswer → Judgement (Unit {0}) → Type 0) → ((r : Reason) → reasonAt (at r) ≡ r → P (trailer.Refused (at r)) (refused r))
+      → P trailer.Sound (sound tt) → P (trailerAnswer (readable s)) (rules.trailers s)
+  unfolding trailerAnswer rules.trailers trailerBy unless
+  trailers-by-cases P p q = go (firstBroken trailer-checks s) refl
+    where
+      go : (o : Option Reason) → firstBroken trailer-checks s ≡ o → P (trailerBy (unless o tt)) (unless o tt)
+      go none e = q
+      go (some r) e = p r (told-back (byTrailers (factsOf s)) r (sym (trailer-first s) ∙ e))
+
+  pub header-number : headerNumber (headerAnswer (readable s)) ≡ judgedNumber (header-section s)
+  unfolding headerNumber judgedNumber headerBy
+  header-number = header-by-cases (λ a j. headerNumber a ≡ judgedNumber j) (λ r e. ap (λ x. codeNumber (codeOf x)) e) (λ h. refl)
+
+  pub trailer-number : trailerNumber (trailerAnswer (readable s)) ≡ judgedNumber (rules.trailers s)
+  unfolding trailerNumber judgedNumber
+  trailer-number = trailers-by-cases (λ a j. trailerNumber a ≡ judgedNumber j) (λ r e. ap (λ x. codeNumber (codeOf x)) e) refl
+
+pub header-unread : (x : Lines) → isReadable x ≡ false → header.Unreadable ≡ headerAnswer x
+unfolding headerAnswer
+header-unread (unreadable f) e = refl
+header-unread (readable s) e = let z : _≡_ {A = ℕ} 0 1 = cc in absurd (omega arith)
+
+pub trailers-unread : (x : Lines) → isReadable x ≡ false → trailer.Unreadable ≡ trailerAnswer x
+unfolding trailerAnswer
+trailers-unread (unreadable f) e = refl
+trailers-unread (readable s) e = let z : _≡_ {A = ℕ} 0 1 = cc in absurd (omega arith)
+
+-- the bytes that a sound answer names are the method
+pub method-named : (block : List ℕ) (s : Section) (h : Head) {from to : ℕ} {t : Stated} → lines block ≡ readable s → header-section s ≡ sound h
+    → headerAnswer (lines block) ≡ header.Sound from to t → part from to block ≡ h .method
+unfolding headerAnswer headerBy methodLine header-section unless
+method-named block s h {from} {to} {t} e f g =
+    let a : header.Sound (fromIn s methodName) (toIn s methodName) (statedOf (h .stated)) ≡ header.Sound from to t = sym (ap headerAnswer e ∙ ap (headerBy s) f) ∙ g in
+    let b : fromIn s methodName ≡ from = cc in
+    let c : toIn s methodName ≡ to = cc in
+    let there : readable s ≡ readable (held block) = sym e ∙ held-is block (ap isReadable e) in
+    let d : s ≡ held block = cc in
+    rw (← b, ← c, d) (bytes-are methodName block ∙ ap (λ x. methodOf (valueOf methodName x)) (sym d) ∙ go (firstBroken header-checks s) f)
   where
-    go : readStated t ≡ statedIn (valueOf lengthName (held block))
-        → readHeader block (header.Sound (getD (factsOf (held block) .from) method 0) (getD (factsOf (held block) .to) method 0) t) ≡ judged (sound (headOf (held block)))
-    go states = same-head (bytes-are methodName block) states refl refl
+    go : (o : Option Reason) → _≡_ {A = Judgement Head} (unless o (says s)) (sound h) → says s .method ≡ h .method
+    go none q = cc
+    go (some r) q = let z : _≡_ {A = ℕ} 0 1 = cc in absurd (omega arith)

@@ -7,84 +7,48 @@ use mathlib.Core.Bool.{true, false}
 use native.Mathlib.Omega.{arith}
 use lib.Dec.{ltb}
 use borrow.Author.Tests.{ltb-false}
-use Rattle.rules.specs.Block.{Section, unreadable, readable, lines}
+use Rattle.rules.specs.Block.{Section, Lines, unreadable, readable}
 use Rattle.rules.specs.Section as rules
-use Rattle.rules.specs.Section.{Judgement, refused, sound, Head, header-section, codeOf, holds, uploading, length-limit, decimal, statedIn, firstBroken, header-checks, unless, valueOf, length-check}
+use Rattle.rules.specs.Section.{header-section, codeOf, holds, uploading, length-limit, decimal, statedIn, firstBroken, header-checks, unless, valueOf, length-check}
 use Rattle.rules.specs.Request.{Header, Trailer, header-by, trailer-by, document}
 use Rattle.rules.specs.Request as request
 use Rattle.section.specs.declared.HeaderAnswer.{HeaderAnswer}
 use Rattle.section.specs.declared.HeaderAnswer.the-variants as header
 use Rattle.section.specs.declared.TrailerAnswer.{TrailerAnswer}
 use Rattle.section.specs.declared.TrailerAnswer.the-variants as trailer
-use Rattle.section.specs.Checks.{reasonOf}
-use Rattle.section.specs.Answer.{lengthName, Told, judged, Headed, at-method, placed-in, tellHeader, tellTrailers, readStated, readHeader, readTrailers, says}
-use Rattle.section.specs.Judging.{length-passed, upload-states}
-use Rattle.section.specs.Answer as answer
+use Rattle.section.specs.Checks.{reasonAt}
+use Rattle.section.specs.Answer.{lengthName, headerBy, headerAnswer, trailerAnswer, readStated, stated-read}
+use Rattle.section.specs.Judging.{says, header-by-cases, trailers-by-cases, length-passed, upload-states}
 
 -- none where the block is unreadable
 unfoldable pub asHeader : HeaderAnswer → Option Header
 asHeader header.Unreadable = none
-asHeader (header.Refused r) = some (request.Header.bad (codeOf (reasonOf r)))
+asHeader (header.Refused n) = some (request.Header.bad (codeOf (reasonAt n)))
 asHeader (header.Sound method end s) = some (request.Header.good (readStated s))
 
 unfoldable pub asTrailer : TrailerAnswer → Option Trailer
 asTrailer trailer.Unreadable = none
-asTrailer (trailer.Refused r) = some (request.Trailer.bad (codeOf (reasonOf r)))
+asTrailer (trailer.Refused n) = some (request.Trailer.bad (codeOf (reasonAt n)))
 asTrailer trailer.Sound = some request.Trailer.good
 
--- ---- header sections
+unfoldable pub headerOf : Lines → Option Header
+headerOf (unreadable f) = none
+headerOf (readable s) = some (document .header s)
 
-by-told : Told Headed → Option Header
-by-told answer.unreadable = none
-by-told (judged (refused r)) = some (request.Header.bad (codeOf r))
-by-told (judged (sound h)) = some (request.Header.good (h .head .stated))
+unfoldable pub trailerOf : Lines → Option Trailer
+trailerOf (unreadable f) = none
+trailerOf (readable s) = some (document .trailer s)
 
-as-read : (block : List ℕ) (a : HeaderAnswer) → asHeader a ≡ by-told (readHeader block a)
-unfolding asHeader by-told readHeader
-as-read block header.Unreadable = refl
-as-read block (header.Refused r) = refl
-as-read block (header.Sound method end s) = refl
+pub header-is : (l : Lines) → asHeader (headerAnswer l) ≡ headerOf l
+unfolding asHeader headerAnswer headerBy headerOf document header-by
+header-is (unreadable f) = refl
+header-is (readable s) =
+    header-by-cases s (λ a j. asHeader a ≡ some (header-by j)) (λ r e. ap (λ x. some (request.Header.bad (codeOf x))) e) (λ h. ap (λ o. some (request.Header.good o)) (stated-read (h .stated)))
 
-as-judged : (s : Section) (j : Judgement Head) → by-told (judged (placed-in s j)) ≡ some (header-by j)
-unfolding by-told placed-in at-method header-by
-as-judged s (refused r) = refl
-as-judged s (sound h) = refl
-
-module _ (block : List ℕ) (a : HeaderAnswer) (met : readHeader block a ≡ tellHeader (lines block)) where
-  pub header-is : (s : Section) → lines block ≡ readable s → asHeader a ≡ some (document .header s)
-  unfolding tellHeader document
-  header-is s e = as-read block a ∙ ap by-told (met ∙ ap tellHeader e) ∙ as-judged s (header-section s)
-
-  pub header-unreadable : {f : _} → lines block ≡ unreadable f → asHeader a ≡ none
-  unfolding tellHeader by-told
-  header-unreadable e = as-read block a ∙ ap by-told (met ∙ ap tellHeader e)
-
--- ---- trailers
-
-by-told′ : Told (Unit {0}) → Option Trailer
-by-told′ answer.unreadable = none
-by-told′ (judged (refused r)) = some (request.Trailer.bad (codeOf r))
-by-told′ (judged (sound u)) = some request.Trailer.good
-
-as-read′ : (a : TrailerAnswer) → asTrailer a ≡ by-told′ (readTrailers a)
-unfolding asTrailer by-told′ readTrailers
-as-read′ trailer.Unreadable = refl
-as-read′ (trailer.Refused r) = refl
-as-read′ trailer.Sound = refl
-
-as-judged′ : (j : Judgement (Unit {0})) → by-told′ (judged j) ≡ some (trailer-by j)
-unfolding by-told′ trailer-by
-as-judged′ (refused r) = refl
-as-judged′ (sound u) = refl
-
-module _ (block : List ℕ) (a : TrailerAnswer) (met : readTrailers a ≡ tellTrailers (lines block)) where
-  pub trailer-is : (s : Section) → lines block ≡ readable s → asTrailer a ≡ some (document .trailer s)
-  unfolding tellTrailers document
-  trailer-is s e = as-read′ a ∙ ap by-told′ (met ∙ ap tellTrailers e) ∙ as-judged′ (rules.trailers s)
-
-  pub trailer-unreadable : {f : _} → lines block ≡ unreadable f → asTrailer a ≡ none
-  unfolding tellTrailers by-told′
-  trailer-unreadable e = as-read′ a ∙ ap by-told′ (met ∙ ap tellTrailers e)
+pub trailer-is : (l : Lines) → asTrailer (trailerAnswer l) ≡ trailerOf l
+unfolding asTrailer trailerAnswer trailerOf document trailer-by
+trailer-is (unreadable f) = refl
+trailer-is (readable s) = trailers-by-cases s (λ a j. asTrailer a ≡ some (trailer-by j)) (λ r e. ap (λ x. some (request.Trailer.bad (codeOf x))) e) refl
 
 -- ---- a length that is stated is within the limit
 

@@ -16,88 +16,26 @@ ghost use Rattle.fields.specs.Bytes.{isIn};
 ghost use Rattle.fields.specs.Table.{allRight};
 ghost use Rattle.fields.specs.Walk.{held};
 ghost use Rattle.fields.specs.Decimal.{capped};
-ghost use Rattle.section.specs.Checks.{unbroken, at, reasonOf, lowerOf, lowest};
+ghost use Rattle.section.specs.Checks.{reasonAt, lowerOf, lowest};
 ghost use Rattle.section.specs.Names.{method, host, content-length, te, unknown, otherName, oneName, ofSeven, ofTen, longName, nameOf};
 ghost use Rattle.section.specs.Facts.{noFacts, keptOf, keepAt, knownBy, plainBy, noteBy, lineStep, factsOf, valueAt, Walks};
 ghost use Rattle.section.specs.Judging.{headerRow, byPlaces, isHttp, isPath, sendsContent, byRequest, byAuthority, byTrailers, statedBy};
-ghost use Rattle.section.specs.Answer.{readStated, readHeader, tellHeader, readTrailers, tellTrailers};
+ghost use Rattle.section.specs.Answer.{statedOf, headerAnswer, trailerAnswer};
 
 // ---- reasons
-
-// Why a section is refused. A reason's number is its check's place in document 01's order.
-pub enum Reason {
-    TooLarge = 0,
-    BadBytes = 1,
-    UnknownPseudo = 2,
-    RepeatedPseudo = 3,
-    LatePseudo = 4,
-    PseudoInTrailers = 5,
-    ConnectionField = 6,
-    OtherTe = 7,
-    BadMethod = 8,
-    NoMethod = 9,
-    RepeatedLength = 10,
-    LengthInTrailers = 11,
-    NoDigits = 12,
-    LengthAbove = 13,
-    RepeatedHost = 14,
-    Connect = 15,
-    NoSchemeOrPath = 16,
-    OtherScheme = 17,
-    BadPath = 18,
-    NoAuthority = 19,
-    EmptyAuthority = 20,
-    AuthoritiesDiffer = 21,
-    AtInAuthority = 22,
-    LengthPastLimit = 23,
-    NoLength = 24,
-}
 
 // No check is broken.
 const NONE: usize = 25;
 
-// The reason of a number.
-fn why(n: usize) -> Reason
-    requires { ⌜ n < unbroken ⌝ }
-    ensures { λ r. ⌜ at r ≡ n ⌝ }
-{
-    match n {
-        0 => Reason::TooLarge,
-        1 => Reason::BadBytes,
-        2 => Reason::UnknownPseudo,
-        3 => Reason::RepeatedPseudo,
-        4 => Reason::LatePseudo,
-        5 => Reason::PseudoInTrailers,
-        6 => Reason::ConnectionField,
-        7 => Reason::OtherTe,
-        8 => Reason::BadMethod,
-        9 => Reason::NoMethod,
-        10 => Reason::RepeatedLength,
-        11 => Reason::LengthInTrailers,
-        12 => Reason::NoDigits,
-        13 => Reason::LengthAbove,
-        14 => Reason::RepeatedHost,
-        15 => Reason::Connect,
-        16 => Reason::NoSchemeOrPath,
-        17 => Reason::OtherScheme,
-        18 => Reason::BadPath,
-        19 => Reason::NoAuthority,
-        20 => Reason::EmptyAuthority,
-        21 => Reason::AuthoritiesDiffer,
-        22 => Reason::AtInAuthority,
-        23 => Reason::LengthPastLimit,
-        _ => Reason::NoLength,
-    }
-}
-
 // The code of a refusal.
-pub fn code(reason: Reason) -> u64
-    ensures { λ r. ⌜ r ≡ codeNumber (codeOf (reasonOf reason)) ⌝ }
+pub fn code(reason: usize) -> u64
+    ensures { λ r. ⌜ r ≡ codeNumber (codeOf (reasonAt reason)) ⌝ }
 {
     match reason {
-        Reason::Connect | Reason::OtherScheme | Reason::LengthPastLimit | Reason::NoLength => {
-            rules::REQUEST_REJECTED
-        }
+        rules::reasons::CONNECT
+        | rules::reasons::OTHER_SCHEME
+        | rules::reasons::LENGTH_PAST_LIMIT
+        | rules::reasons::NO_LENGTH => { rules::REQUEST_REJECTED }
         _ => rules::MESSAGE_ERROR,
     }
 }
@@ -287,8 +225,8 @@ fn known_line(f: Facts, k: usize, from: usize, to: usize) -> Facts
     requires { ⌜ k < 6 ⌝ }
     ensures { λ r. ⌜ r ≡ knownBy k f from to ⌝ }
 {
-    let n = lower(f.first, Reason::RepeatedPseudo as usize, f.to[k] != 0);
-    let first = lower(n, Reason::LatePseudo as usize, f.plain);
+    let n = lower(f.first, rules::reasons::REPEATED_PSEUDO, f.to[k] != 0);
+    let first = lower(n, rules::reasons::LATE_PSEUDO, f.plain);
     let mut g = keep(f, k, from, to);
     g.first = first;
     g.pseudo = true;
@@ -313,7 +251,7 @@ fn method_line<'a>(f: Facts, table: &'a [u8; 256], value: &'a [u8], from: usize,
     let mut g = known_line(f, METHOD, from, to);
     let first = lower(
         g.first,
-        Reason::BadMethod as usize,
+        rules::reasons::BAD_METHOD,
         not_all(table, value, Class::Token),
     );
     g.first = first;
@@ -333,7 +271,7 @@ fn plain_line(f: Facts, first: usize) -> Facts
 fn host_line(f: Facts, from: usize, to: usize) -> Facts
     ensures { λ r. ⌜ r ≡ noteBy host f [] from to ⌝ }
 {
-    let first = lower(f.first, Reason::RepeatedHost as usize, f.to[HOST] != 0);
+    let first = lower(f.first, rules::reasons::REPEATED_HOST, f.to[HOST] != 0);
     let mut g = keep(f, HOST, from, to);
     g.first = first;
     g.plain = true;
@@ -355,13 +293,13 @@ fn length_line<'a>(f: Facts, table: &'a [u8; 256], value: &'a [u8], from: usize,
 {
     let there = f.to[LENGTH];
     let number = fields::decimal_of(value);
-    let n = lower(f.first, Reason::RepeatedLength as usize, there != 0);
+    let n = lower(f.first, rules::reasons::REPEATED_LENGTH, there != 0);
     let n = lower(
         n,
-        Reason::NoDigits as usize,
+        rules::reasons::NO_DIGITS,
         not_all(table, value, Class::Digit),
     );
-    let first = lower(n, Reason::LengthAbove as usize, LARGEST < number);
+    let first = lower(n, rules::reasons::LENGTH_ABOVE, LARGEST < number);
     let stated = kept_number(there, f.stated, number);
     let mut g = keep(f, LENGTH, from, to);
     g.first = first;
@@ -375,7 +313,7 @@ fn te_line(f: Facts, value: &[u8]) -> Facts
 {
     let first = lower(
         f.first,
-        Reason::OtherTe as usize,
+        rules::reasons::OTHER_TE,
         !fields::same_bytes(value, b"trailers"),
     );
     plain_line(f, first)
@@ -384,8 +322,8 @@ fn te_line(f: Facts, value: &[u8]) -> Facts
 fn unknown_line(f: Facts) -> Facts
     ensures { λ r. ⌜ r ≡ noteBy unknown f [] 0 0 ⌝ }
 {
-    let n = lower(f.first, Reason::UnknownPseudo as usize, true);
-    let first = lower(n, Reason::LatePseudo as usize, f.plain);
+    let n = lower(f.first, rules::reasons::UNKNOWN_PSEUDO, true);
+    let first = lower(n, rules::reasons::LATE_PSEUDO, f.plain);
     let mut g = f;
     g.first = first;
     g.pseudo = true;
@@ -412,7 +350,7 @@ fn noted<'a>(
         LENGTH => length_line(f, table, value, from, to),
         TE => te_line(f, value),
         CONNECTION => {
-            let first = lower(f.first, Reason::ConnectionField as usize, true);
+            let first = lower(f.first, rules::reasons::CONNECTION_FIELD, true);
             plain_line(f, first)
         }
         UNKNOWN => unknown_line(f),
@@ -442,7 +380,7 @@ fn with_line<'a>(
     let size = held_below(f.size + (name.len() + value.len() + 32));
     let bad = fields::bad_line(table, name, value);
     let mut g = noted(f, table, name_of(name), value, from, to);
-    let first = lower(g.first, Reason::BadBytes as usize, bad);
+    let first = lower(g.first, rules::reasons::BAD_BYTES, bad);
     g.size = size;
     g.first = first;
     g
@@ -505,11 +443,15 @@ fn value_of(block: &[u8], f: Facts, k: usize) -> &[u8]
 fn places_fault(f: Facts) -> usize
     ensures { λ r. ⌜ r ≡ byPlaces f ⌝ }
 {
-    let n = lower(f.first, Reason::TooLarge as usize, SIZE_LIMIT < f.size);
-    let n = lower(n, Reason::NoMethod as usize, f.to[METHOD] == 0);
+    let n = lower(f.first, rules::reasons::TOO_LARGE, SIZE_LIMIT < f.size);
+    let n = lower(n, rules::reasons::NO_METHOD, f.to[METHOD] == 0);
     let two = both(f.to[SCHEME] != 0, f.to[PATH] != 0);
-    let n = lower(n, Reason::NoSchemeOrPath as usize, !two);
-    lower(n, Reason::LengthPastLimit as usize, LENGTH_LIMIT < f.stated)
+    let n = lower(n, rules::reasons::NO_SCHEME_OR_PATH, !two);
+    lower(
+        n,
+        rules::reasons::LENGTH_PAST_LIMIT,
+        LENGTH_LIMIT < f.stated,
+    )
 }
 
 fn is_http(scheme: &[u8]) -> bool
@@ -554,14 +496,14 @@ fn request_fault<'a>(
 {
     let n = lower(
         n,
-        Reason::Connect as usize,
+        rules::reasons::CONNECT,
         fields::same_bytes(b"CONNECT", method),
     );
-    let n = lower(n, Reason::OtherScheme as usize, !is_http(scheme));
-    let n = lower(n, Reason::BadPath as usize, !is_path(path, method));
+    let n = lower(n, rules::reasons::OTHER_SCHEME, !is_http(scheme));
+    let n = lower(n, rules::reasons::BAD_PATH, !is_path(path, method));
     lower(
         n,
-        Reason::NoLength as usize,
+        rules::reasons::NO_LENGTH,
         both(sends_content(method), !stated),
     )
 }
@@ -576,17 +518,17 @@ fn authority_fault<'a>(
 ) -> usize
     ensures { λ r. ⌜ r ≡ byAuthority (now (authority .entry)) given (now (host .entry)) hosted n ⌝ }
 {
-    let n = lower(n, Reason::NoAuthority as usize, !either(given, hosted));
+    let n = lower(n, rules::reasons::NO_AUTHORITY, !either(given, hosted));
     let empty = either(
         both(given, authority.len() == 0),
         both(hosted, host.len() == 0),
     );
-    let n = lower(n, Reason::EmptyAuthority as usize, empty);
+    let n = lower(n, rules::reasons::EMPTY_AUTHORITY, empty);
     let differ = both(both(given, hosted), !fields::same_bytes(authority, host));
-    let n = lower(n, Reason::AuthoritiesDiffer as usize, differ);
+    let n = lower(n, rules::reasons::AUTHORITIES_DIFFER, differ);
     lower(
         n,
-        Reason::AtInAuthority as usize,
+        rules::reasons::AT_IN_AUTHORITY,
         fields::has_byte(authority, b'@'),
     )
 }
@@ -617,10 +559,10 @@ pub enum Stated {
     Length(u64),
 }
 
-// A sound header section says where in the block its method begins and ends, and the length that it states.
+// Refused with the number of the reason (rules::reasons); or sound, with where in the block the method begins and ends, and the length that is stated.
 pub enum HeaderAnswer {
     Unreadable,
-    Refused(Reason),
+    Refused(usize),
     Sound {
         method: usize,
         end: usize,
@@ -629,7 +571,7 @@ pub enum HeaderAnswer {
 }
 
 fn stated_length(f: Facts) -> Stated
-    ensures { λ r. ⌜ readStated r ≡ statedBy f ⌝ }
+    ensures { λ r. ⌜ r ≡ statedOf (statedBy f) ⌝ }
 {
     if f.to[LENGTH] == 0 {
         return Stated::Nothing;
@@ -638,7 +580,7 @@ fn stated_length(f: Facts) -> Stated
 }
 
 pub fn header_section(block: &[u8]) -> HeaderAnswer
-    ensures { λ r. ⌜ readHeader (now (block .entry)) r ≡ tellHeader (lines (now (block .entry))) ⌝ }
+    ensures { λ r. ⌜ r ≡ headerAnswer (lines (now (block .entry))) ⌝ }
 {
     let walked = walk_lines(block);
     if !walked.readable {
@@ -647,7 +589,7 @@ pub fn header_section(block: &[u8]) -> HeaderAnswer
     let f = walked.facts;
     let n = header_fault(block, f);
     if n < NONE {
-        return HeaderAnswer::Refused(why(n));
+        return HeaderAnswer::Refused(n);
     }
     HeaderAnswer::Sound {
         method: f.from[METHOD],
@@ -660,20 +602,20 @@ pub fn header_section(block: &[u8]) -> HeaderAnswer
 
 pub enum TrailerAnswer {
     Unreadable,
-    Refused(Reason),
+    Refused(usize),
     Sound,
 }
 
 fn trailer_fault(f: Facts) -> usize
     ensures { λ r. ⌜ r ≡ byTrailers f ⌝ }
 {
-    let n = lower(f.first, Reason::TooLarge as usize, SIZE_LIMIT < f.size);
-    let n = lower(n, Reason::PseudoInTrailers as usize, f.pseudo);
-    lower(n, Reason::LengthInTrailers as usize, f.to[LENGTH] != 0)
+    let n = lower(f.first, rules::reasons::TOO_LARGE, SIZE_LIMIT < f.size);
+    let n = lower(n, rules::reasons::PSEUDO_IN_TRAILERS, f.pseudo);
+    lower(n, rules::reasons::LENGTH_IN_TRAILERS, f.to[LENGTH] != 0)
 }
 
 pub fn trailers(block: &[u8]) -> TrailerAnswer
-    ensures { λ r. ⌜ readTrailers r ≡ tellTrailers (lines (now (block .entry))) ⌝ }
+    ensures { λ r. ⌜ r ≡ trailerAnswer (lines (now (block .entry))) ⌝ }
 {
     let walked = walk_lines(block);
     if !walked.readable {
@@ -682,7 +624,7 @@ pub fn trailers(block: &[u8]) -> TrailerAnswer
     let f = walked.facts;
     let n = trailer_fault(f);
     if n < NONE {
-        return TrailerAnswer::Refused(why(n));
+        return TrailerAnswer::Refused(n);
     }
     TrailerAnswer::Sound
 }

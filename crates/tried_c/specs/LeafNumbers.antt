@@ -8,12 +8,13 @@ use lib.ListN.{set}
 use Rattle.rules.specs.Integers.{Int, cut, got}
 use Rattle.meaning.specs.NumberLaws.{Numbered, stops, goes}
 use Rattle.rules.specs.Control.{Settings}
-use Rattle.rules.specs.Section.{refused, sound}
 use Rattle.rules.specs.Writer.{Write}
 use Rattle.varint.specs.Write.{Meets, wroteOf, leftIn}
 use Rattle.varint.specs.declared.Wrote.{Wrote}
 use Rattle.varint.specs.declared.Wrote.the-variants.{Refused, Count}
-use Rattle.section.specs.Answer.{Told, unreadable, judged, Headed}
+use Rattle.section.specs.declared.HeaderAnswer.{HeaderAnswer}
+use Rattle.section.specs.declared.HeaderAnswer.the-variants as header
+use Rattle.section.specs.Answer.{readStated}
 
 -- ---- an optional number is two: whether it is there, and itself or 0
 
@@ -48,11 +49,11 @@ readOut (got value next rest) out = set (set out 0 value) 1 next
 
 -- ---- a header section
 
-unfoldable pub headerOut : Told Headed → List ℕ → List ℕ
-headerOut unreadable out = out
-headerOut (judged (refused reason)) out = out
-headerOut (judged (sound h)) out =
-    set (set (set (set out 0 (stated (h .head .stated))) 1 (valueOr0 (h .head .stated))) 2 (h .from)) 3 (h .to)
+unfoldable pub headerOut : HeaderAnswer → List ℕ → List ℕ
+headerOut header.Unreadable out = out
+headerOut (header.Refused reason) out = out
+headerOut (header.Sound method end length) out =
+    set (set (set (set out 0 (stated (readStated length))) 1 (valueOr0 (readStated length))) 2 method) 3 end
 
 -- ---- a write
 

@@ -15,7 +15,7 @@ ghost use Rattle.rules.specs.Control.{settings-of};
 ghost use Rattle.rules.specs.Writer.{write-integer, write-header, write-integer-frame, write-opening, write-goaway};
 ghost use Rattle.control.specs.Answers.{sizeIs};
 ghost use Rattle.rules.specs.Block.{lines};
-ghost use Rattle.section.specs.Answer.{readStated, tellHeader, tellTrailers, toldNumber};
+ghost use Rattle.section.specs.Answer.{readStated, headerAnswer, headerNumber, trailerAnswer, trailerNumber};
 ghost use Rattle.wire.specs.Goaway.{sentOf};
 ghost use Rattle.meaning.specs.NumberLaws.{numbered};
 ghost use Rattle.tried_c.specs.LeafNumbers.{stated, valueOr0, settingsNumber, settingsOut, readNumber, readOut, headerOut, wroteNumber, wroteOut, given, Written};
@@ -104,8 +104,8 @@ fn length_of(length: Stated) -> u64
 // 0, 6, or the code of a header section. out, where it is 0: whether a Content-Length is stated, which, and where the method begins and ends.
 #[no_mangle]
 pub extern "C" fn eist_header_section(block: &[u8], out: &mut [u64; 4]) -> u64
-    ensures { λ r. ⌜ r ≡ toldNumber (tellHeader (lines (now (block .entry)))) ⌝ }
-    ensures { λ _. ⌜ now (out .exit) ≡ headerOut (tellHeader (lines (now (block .entry)))) (now (out .entry)) ⌝ }
+    ensures { λ r. ⌜ r ≡ headerNumber (headerAnswer (lines (now (block .entry)))) ⌝ }
+    ensures { λ _. ⌜ now (out .exit) ≡ headerOut (headerAnswer (lines (now (block .entry)))) (now (out .entry)) ⌝ }
 {
     match section::header_section(block) {
         HeaderAnswer::Unreadable => 6,
@@ -127,7 +127,7 @@ pub extern "C" fn eist_header_section(block: &[u8], out: &mut [u64; 4]) -> u64
 // 0, 6, or the code of trailers.
 #[no_mangle]
 pub extern "C" fn eist_trailers(block: &[u8]) -> u64
-    ensures { λ r. ⌜ r ≡ toldNumber (tellTrailers (lines (now (block .entry)))) ⌝ }
+    ensures { λ r. ⌜ r ≡ trailerNumber (trailerAnswer (lines (now (block .entry)))) ⌝ }
 {
     match section::trailers(block) {
         TrailerAnswer::Unreadable => 6,

@@ -4,9 +4,6 @@ use borrow.Author.Needs.{needs}
 use Rattle.section.proofs.authority_fault.Statement.{statement}
 use Rattle.section.proofs.authority_fault.Tie as tie
 
-cast-lower : tie.Need-cast-lower
-cast-lower c = search needs
-
 either-requires : tie.Need-either-requires
 either-requires c κs = search needs
 
@@ -22,9 +19,6 @@ both-requires-2 c κs = search needs
 either-requires-2 : tie.Need-either-requires-2
 either-requires-2 c κs = search needs
 
-cast-lower-2 : tie.Need-cast-lower-2
-cast-lower-2 c = search needs
-
 lower-requires-2 : tie.Need-lower-requires-2
 lower-requires-2 c κs = search needs
 
@@ -37,14 +31,8 @@ same-bytes-requires c κs = search needs
 both-requires-4 : tie.Need-both-requires-4
 both-requires-4 c κs = search needs
 
-cast-lower-3 : tie.Need-cast-lower-3
-cast-lower-3 c = search needs
-
 lower-requires-3 : tie.Need-lower-requires-3
 lower-requires-3 c κs = search needs
-
-cast-lower-4 : tie.Need-cast-lower-4
-cast-lower-4 c = search needs
 
 has-byte-requires : tie.Need-has-byte-requires
 has-byte-requires c κs = search needs
@@ -60,20 +48,16 @@ pub authority-fault-spec : {M : Type 1} → statement M
 authority-fault-spec =
     tie.close
     (tie.spec
-    cast-lower
     either-requires
     lower-requires
     both-requires
     both-requires-2
     either-requires-2
-    cast-lower-2
     lower-requires-2
     both-requires-3
     same-bytes-requires
     both-requires-4
-    cast-lower-3
     lower-requires-3
-    cast-lower-4
     has-byte-requires
     lower-requires-4
     returns)

@@ -4,9 +4,6 @@ use borrow.Author.Needs.{needs}
 use Rattle.section.proofs.host_line.Statement.{statement}
 use Rattle.section.proofs.host_line.Tie as tie
 
-cast-lower : tie.Need-cast-lower
-cast-lower c = search needs
-
 element-copy-out-lower : tie.Need-element-copy-out-lower
 element-copy-out-lower c = search needs
 
@@ -22,4 +19,4 @@ returns c = rw (c .keep .ensures, c .before .lower .ensures)
 
 pub host-line-spec : {M : Type 1} → statement M
 host-line-spec =
-    tie.close (tie.spec cast-lower element-copy-out-lower lower-requires keep-requires returns)
+    tie.close (tie.spec element-copy-out-lower lower-requires keep-requires returns)

@@ -4,9 +4,6 @@ use borrow.Author.Needs.{needs}
 use Rattle.section.proofs.known_line.Statement.{statement}
 use Rattle.section.proofs.known_line.Tie as tie
 
-cast-lower : tie.Need-cast-lower
-cast-lower c = search needs
-
 mul-lower : tie.Need-mul-lower
 mul-lower c = search needs
 
@@ -15,9 +12,6 @@ element-copy-out-lower c = search needs
 
 lower-requires : tie.Need-lower-requires
 lower-requires c κs = search needs
-
-cast-lower-2 : tie.Need-cast-lower-2
-cast-lower-2 c = search needs
 
 lower-requires-2 : tie.Need-lower-requires-2
 lower-requires-2 c κs = search needs
@@ -33,11 +27,9 @@ pub known-line-spec : {M : Type 1} → statement M
 known-line-spec =
     tie.close
     (tie.spec
-    cast-lower
     mul-lower
     element-copy-out-lower
     lower-requires
-    cast-lower-2
     lower-requires-2
     keep-requires
     returns)

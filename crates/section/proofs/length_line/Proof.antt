@@ -11,23 +11,14 @@ element-copy-out-there c = search needs
 decimal-of-requires : tie.Need-decimal-of-requires
 decimal-of-requires c κs = search needs
 
-cast-lower : tie.Need-cast-lower
-cast-lower c = search needs
-
 lower-requires : tie.Need-lower-requires
 lower-requires c κs = search needs
-
-cast-lower-2 : tie.Need-cast-lower-2
-cast-lower-2 c = search needs
 
 not-all-requires : tie.Need-not-all-requires
 not-all-requires c κs = search needs
 
 lower-requires-2 : tie.Need-lower-requires-2
 lower-requires-2 c κs = search needs
-
-cast-lower-3 : tie.Need-cast-lower-3
-cast-lower-3 c = search needs
 
 lower-requires-3 : tie.Need-lower-requires-3
 lower-requires-3 c κs = search needs
@@ -48,12 +39,9 @@ length-line-spec =
     (tie.spec
     element-copy-out-there
     decimal-of-requires
-    cast-lower
     lower-requires
-    cast-lower-2
     not-all-requires
     lower-requires-2
-    cast-lower-3
     lower-requires-3
     kept-number-requires
     keep-requires

@@ -7,9 +7,6 @@ use Rattle.section.proofs.method_line.Tie as tie
 known-line-requires : tie.Need-known-line-requires
 known-line-requires c κs = search needs
 
-cast-lower : tie.Need-cast-lower
-cast-lower c = search needs
-
 not-all-requires : tie.Need-not-all-requires
 not-all-requires c κs = search needs
 
@@ -22,4 +19,4 @@ returns c = rw (c .lower .ensures, c .before .not-all .ensures, c .before .befor
 
 pub method-line-spec : {M : Type 1} → statement M
 method-line-spec =
-    tie.close (tie.spec known-line-requires cast-lower not-all-requires lower-requires returns)
+    tie.close (tie.spec known-line-requires not-all-requires lower-requires returns)

@@ -28,9 +28,6 @@ length-line-requires c κs = search needs
 te-line-requires : tie.Need-te-line-requires
 te-line-requires c κs = search needs
 
-cast-lower : tie.Need-cast-lower
-cast-lower c = search needs
-
 lower-requires : tie.Need-lower-requires
 lower-requires c κs = search needs
 
@@ -92,7 +89,6 @@ noted-spec =
     host-line-requires
     length-line-requires
     te-line-requires
-    cast-lower
     lower-requires
     plain-line-requires
     unknown-line-requires

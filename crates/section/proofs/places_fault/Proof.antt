@@ -5,14 +5,8 @@ use borrow.Author.Needs.{needs}
 use Rattle.section.proofs.places_fault.Statement.{statement}
 use Rattle.section.proofs.places_fault.Tie as tie
 
-cast-lower : tie.Need-cast-lower
-cast-lower c = search needs
-
 lower-requires : tie.Need-lower-requires
 lower-requires c κs = search needs
-
-cast-lower-2 : tie.Need-cast-lower-2
-cast-lower-2 c = search needs
 
 element-copy-out-lower : tie.Need-element-copy-out-lower
 element-copy-out-lower c = search needs
@@ -29,14 +23,8 @@ element-copy-out-both-2 c = search needs
 both-requires : tie.Need-both-requires
 both-requires c κs = search needs
 
-cast-lower-3 : tie.Need-cast-lower-3
-cast-lower-3 c = search needs
-
 lower-requires-3 : tie.Need-lower-requires-3
 lower-requires-3 c κs = search needs
-
-cast-lower-4 : tie.Need-cast-lower-4
-cast-lower-4 c = search needs
 
 lower-requires-4 : tie.Need-lower-requires-4
 lower-requires-4 c κs = search needs
@@ -49,16 +37,12 @@ pub places-fault-spec : {M : Type 1} → statement M
 places-fault-spec =
     tie.close
     (tie.spec
-    cast-lower
     lower-requires
-    cast-lower-2
     element-copy-out-lower
     lower-requires-2
     element-copy-out-both
     element-copy-out-both-2
     both-requires
-    cast-lower-3
     lower-requires-3
-    cast-lower-4
     lower-requires-4
     returns)

@@ -5,9 +5,6 @@ use borrow.Author.Needs.{needs}
 use Rattle.section.proofs.request_fault.Statement.{statement}
 use Rattle.section.proofs.request_fault.Tie as tie
 
-cast-lower : tie.Need-cast-lower
-cast-lower c = search needs
-
 slice-aggregate-same-bytes : tie.Need-slice-aggregate-same-bytes
 slice-aggregate-same-bytes c = search needs
 
@@ -17,26 +14,17 @@ same-bytes-requires c κs = search needs
 lower-requires : tie.Need-lower-requires
 lower-requires c κs = search needs
 
-cast-lower-2 : tie.Need-cast-lower-2
-cast-lower-2 c = search needs
-
 is-http-requires : tie.Need-is-http-requires
 is-http-requires c κs = search needs
 
 lower-requires-2 : tie.Need-lower-requires-2
 lower-requires-2 c κs = search needs
 
-cast-lower-3 : tie.Need-cast-lower-3
-cast-lower-3 c = search needs
-
 is-path-requires : tie.Need-is-path-requires
 is-path-requires c κs = search needs
 
 lower-requires-3 : tie.Need-lower-requires-3
 lower-requires-3 c κs = search needs
-
-cast-lower-4 : tie.Need-cast-lower-4
-cast-lower-4 c = search needs
 
 sends-content-requires : tie.Need-sends-content-requires
 sends-content-requires c κs = search needs
@@ -55,17 +43,13 @@ pub request-fault-spec : {M : Type 1} → statement M
 request-fault-spec =
     tie.close
     (tie.spec
-    cast-lower
     slice-aggregate-same-bytes
     same-bytes-requires
     lower-requires
-    cast-lower-2
     is-http-requires
     lower-requires-2
-    cast-lower-3
     is-path-requires
     lower-requires-3
-    cast-lower-4
     sends-content-requires
     both-requires
     lower-requires-4

@@ -1,6 +1,6 @@
 -- `section::stated_length` meets its contract. Assumes nothing.
 use Rattle.section.specs.Judging.{statedBy}
-use Rattle.section.specs.Answer.{readStated}
+use Rattle.section.specs.Answer.{statedOf}
 use borrow.Author.Tests.{eq-eqb, ne-eqb}
 use borrow.Author.Needs.{needs}
 use Rattle.section.proofs.stated_length.Statement.{statement}
@@ -10,11 +10,11 @@ element-copy-out-if1 : tie.Need-element-copy-out-if1
 element-copy-out-if1 c = search needs
 
 returns : tie.Need-returns
-unfolding statedBy readStated
+unfolding statedBy statedOf
 returns c = rw (eq-eqb _ _ (c .if1 .taken))
 
 returns-2 : tie.Need-returns-2
-unfolding statedBy readStated
+unfolding statedBy statedOf
 returns-2 c = rw (ne-eqb _ _ (c .if1 .left))
 
 pub stated-length-spec : {M : Type 1} → statement M

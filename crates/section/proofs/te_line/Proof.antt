@@ -5,9 +5,6 @@ use borrow.Author.Needs.{needs}
 use Rattle.section.proofs.te_line.Statement.{statement}
 use Rattle.section.proofs.te_line.Tie as tie
 
-cast-lower : tie.Need-cast-lower
-cast-lower c = search needs
-
 slice-aggregate-same-bytes : tie.Need-slice-aggregate-same-bytes
 slice-aggregate-same-bytes c = search needs
 
@@ -28,7 +25,6 @@ pub te-line-spec : {M : Type 1} → statement M
 te-line-spec =
     tie.close
     (tie.spec
-    cast-lower
     slice-aggregate-same-bytes
     same-bytes-requires
     lower-requires

@@ -4,14 +4,8 @@ use borrow.Author.Needs.{needs}
 use Rattle.section.proofs.unknown_line.Statement.{statement}
 use Rattle.section.proofs.unknown_line.Tie as tie
 
-cast-lower : tie.Need-cast-lower
-cast-lower c = search needs
-
 lower-requires : tie.Need-lower-requires
 lower-requires c κs = search needs
-
-cast-lower-2 : tie.Need-cast-lower-2
-cast-lower-2 c = search needs
 
 lower-requires-2 : tie.Need-lower-requires-2
 lower-requires-2 c κs = search needs
@@ -22,4 +16,4 @@ returns c = rw (c .lower2 .ensures, c .before .lower .ensures)
 
 pub unknown-line-spec : {M : Type 1} → statement M
 unknown-line-spec =
-    tie.close (tie.spec cast-lower lower-requires cast-lower-2 lower-requires-2 returns)
+    tie.close (tie.spec lower-requires lower-requires-2 returns)

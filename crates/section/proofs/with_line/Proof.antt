@@ -29,9 +29,6 @@ name-of-requires c κs = search needs
 noted-requires : tie.Need-noted-requires
 noted-requires c κs = (subst (λ (k : ℕ). k < 10) (sym (c .name-of .ensures)) (ten _), c .before .before .before .before .before .before .pre .1)
 
-cast-lower : tie.Need-cast-lower
-cast-lower c = search needs
-
 lower-requires : tie.Need-lower-requires
 lower-requires c κs = search needs
 
@@ -50,6 +47,5 @@ with-line-spec =
     bad-line-requires
     name-of-requires
     noted-requires
-    cast-lower
     lower-requires
     returns)

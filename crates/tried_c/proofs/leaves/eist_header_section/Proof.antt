@@ -1,6 +1,6 @@
--- `tried_c::leaves::eist_header_section` meets its contract: each answer reads as what is reported of the block. Assumes nothing.
+-- `tried_c::leaves::eist_header_section` meets its contract: each answer is what the rules say of the block. Assumes nothing.
 use borrow.Author.Needs.{needs}
-use Rattle.section.specs.Answer.{readHeader, toldNumber}
+use Rattle.section.specs.Answer.{headerNumber}
 use Rattle.tried_c.specs.LeafNumbers.{headerOut}
 use Rattle.tried_c.proofs.leaves.eist_header_section.Statement.{statement}
 use Rattle.tried_c.proofs.leaves.eist_header_section.Tie as tie
@@ -39,20 +39,20 @@ element-write-out-4 : tie.Need-element-write-out-4
 element-write-out-4 c = search needs
 
 returns : tie.Need-returns
-unfolding readHeader toldNumber headerOut
+unfolding headerNumber headerOut
 returns c =
     let e = rw (c .enum-told .given .1) at (c .before .before .header-section .ensures) in
     (rw (← e), rw (← e))
 
 returns-2 : tie.Need-returns-2
-unfolding readHeader toldNumber headerOut
+unfolding headerNumber headerOut
 returns-2 c =
     let found = c .before .before in
     let e = rw (found .reason .given .1) at (found .before .before .header-section .ensures) in
     (rw (← e) (c .code .ensures), rw (← e))
 
 returns-3 : tie.Need-returns-3
-unfolding readHeader toldNumber headerOut
+unfolding headerNumber headerOut
 returns-3 c =
     let found = c .before .before .before in
     let e = rw (found .method .given .1) at (found .before .before .header-section .ensures) in

@@ -1,6 +1,6 @@
--- `tried_c::leaves::eist_trailers` meets its contract: each answer reads as what is reported of the block. Assumes nothing.
+-- `tried_c::leaves::eist_trailers` meets its contract: each answer is what the rules say of the block. Assumes nothing.
 use borrow.Author.Needs.{needs}
-use Rattle.section.specs.Answer.{readTrailers, toldNumber}
+use Rattle.section.specs.Answer.{trailerNumber}
 use Rattle.tried_c.proofs.leaves.eist_trailers.Statement.{statement}
 use Rattle.tried_c.proofs.leaves.eist_trailers.Tie as tie
 
@@ -20,20 +20,20 @@ enum-told-2 : tie.Need-enum-told-2
 enum-told-2 c = search needs
 
 returns : tie.Need-returns
-unfolding readTrailers toldNumber
+unfolding trailerNumber
 returns c =
     let e = rw (c .enum-told .given .1) at (c .before .before .trailers .ensures) in
     rw (← e)
 
 returns-2 : tie.Need-returns-2
-unfolding readTrailers toldNumber
+unfolding trailerNumber
 returns-2 c =
     let found = c .before .before in
     let e = rw (found .reason .given .1) at (found .before .before .trailers .ensures) in
     rw (← e) (c .code .ensures)
 
 returns-3 : tie.Need-returns-3
-unfolding readTrailers toldNumber
+unfolding trailerNumber
 returns-3 c =
     let e = rw (c .enum-told2 .given .1) at (c .before .before .trailers .ensures) in
     rw (← e)
