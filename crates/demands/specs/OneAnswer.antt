@@ -2,6 +2,7 @@
 -- promise are equal. The exceptions are named too: below a record two feeds leave open numbers that say nothing (docs/DECISIONS, N9), and what may
 -- decline leaves open what it then answers. What is no part of the engine is in docs/PROOFS. Assumes nothing.
 use mathlib.Core.Path.{_≡_, refl, sym, ap, ap₂, _∙_}
+use mathlib.Core.Option.{Option, none, some}
 use Prim.Native.Nat.{ℕ}
 use mathlib.Core.List.{List, [], _∷_, _++_, map}
 use mathlib.Core.Bool.{Bool, true, false}
@@ -81,12 +82,19 @@ use Rattle.fields.proofs.begins_with as fields-begins-with
 use Rattle.fields.proofs.begins_with.Symbol as fields-begins-with-is
 use Rattle.fields.proofs.same_bytes as fields-same-bytes
 use Rattle.fields.proofs.same_bytes.Symbol as fields-same-bytes-is
+use Rattle.rules.specs.Bytes as bytes
+use Rattle.rules.specs.Bytes.{Fault, empty-name, capital, bad-in-name, bad-in-value, blank-at-end}
+use Rattle.fields.specs.declared.Spot.{Spot}
+use Rattle.fields.specs.declared.Spot.the-variants.{Nowhere, EmptyName, Capital, BadInName, BadInValue, BlankAtEnd}
+use Rattle.fields.specs.Spots.{spotOf}
 use Rattle.fields.proofs.any_outside as fields-any-outside
 use Rattle.fields.proofs.any_outside.Symbol as fields-any-outside-is
 use Rattle.fields.proofs.bad_line as fields-bad-line
 use Rattle.fields.proofs.bad_line.Symbol as fields-bad-line-is
 use Rattle.fields.proofs.decimal_of as fields-decimal-of
 use Rattle.fields.proofs.decimal_of.Symbol as fields-decimal-of-is
+use Rattle.fields.proofs.line_spot as fields-line-spot
+use Rattle.fields.proofs.line_spot.Symbol as fields-line-spot-is
 use Rattle.fields.proofs.line_at as fields-line-at
 use Rattle.fields.proofs.line_at.Symbol as fields-line-at-is
 use Rattle.fields.proofs.classes.Symbol as fields-classes-is
@@ -215,6 +223,29 @@ one-judged e f = read-alike judgedIs judged-one e f
 pub one-single : {b : _} {x y : Single} → singleIs x ≡ b → singleIs y ≡ b → x ≡ y
 one-single e f = read-alike singleIs single-one e f
 
+spotAs : Fault → (place : ℕ) → Spot
+spotAs empty-name p = EmptyName p
+spotAs capital p = Capital p
+spotAs bad-in-name p = BadInName p
+spotAs bad-in-value p = BadInValue p
+spotAs blank-at-end p = BlankAtEnd p
+
+spotBack : Option bytes.Spot → Spot
+spotBack none = Nowhere
+spotBack (some s) = spotAs (s .fault) (s .place)
+
+spot-back : (x : Spot) → spotBack (spotOf x) ≡ x
+unfolding spotBack spotAs
+spot-back Nowhere = refl
+spot-back (EmptyName p) = refl
+spot-back (Capital p) = refl
+spot-back (BadInName p) = refl
+spot-back (BadInValue p) = refl
+spot-back (BlankAtEnd p) = refl
+
+pub one-line-spot : {b : _} {x y : Spot} → spotOf x ≡ b → spotOf y ≡ b → x ≡ y
+one-line-spot e f = read-alike spotOf (λ x y q. sym (spot-back x) ∙ ap spotBack q ∙ spot-back y) e f
+
 -- ---- tests
 
 pub one-decided : {A : Type 0} (b c : Bool) → Decides A b → Decides A c → b ≡ c
@@ -316,6 +347,7 @@ module _ (w : World) where
       ∷ function fields-any-outside-is.name fields-any-outside.ended (fields-any-outside.clauses (w .𝓤) (w .H) (w .𝓖 .A) (w .𝓜 .mem) (w .𝓡 .run)) (λ κs a g r q ws vs. equal)
       ∷ function fields-bad-line-is.name fields-bad-line.ended (fields-bad-line.clauses (w .𝓤) (w .H) (w .𝓖 .A) (w .𝓜 .mem) (w .𝓡 .run)) (λ κs a g r q ws vs. equal)
       ∷ function fields-decimal-of-is.name fields-decimal-of.ended (fields-decimal-of.clauses (w .𝓤) (w .H) (w .𝓖 .A) (w .𝓜 .mem) (w .𝓡 .run)) (λ κs a g r q ws vs. equal)
+      ∷ function fields-line-spot-is.name fields-line-spot.ended (fields-line-spot.clauses (w .𝓤) (w .H) (w .𝓖 .A) (w .𝓜 .mem) (w .𝓡 .run)) (λ κs a g r q ws vs. facts (λ x y. (one-line-spot x y, refl)))
       ∷ function fields-line-at-is.name fields-line-at.ended (fields-line-at.clauses (w .𝓤) (w .H) (w .𝓖 .A) (w .𝓜 .mem) (w .𝓡 .run)) (λ κs a g r q ws vs. equal)
       ∷ []
 
@@ -416,7 +448,7 @@ module _ (w : World) where
   functions = of-varint ++ (of-ids ++ (of-wire ++ (of-settings ++ (of-fields ++ (of-section ++ (of-streams ++ (of-record ++ (of-given ++ (of-oneway ++ (of-control ++ (of-requests ++ (of-doors ++ (of-oneways ++ (of-connection ++ (of-board)))))))))))))))
 
   pub listed : _≡_ {A = List Name} (map (λ (f : Function). f .name) functions)
-      ("varint::fresh" ∷ "varint::read_step" ∷ "varint::ends" ∷ "varint::value" ∷ "varint::read" ∷ "varint::size" ∷ "varint::put" ∷ "varint::write" ∷ "wire::ids::is_request" ∷ "wire::write_header" ∷ "wire::write_integer_frame" ∷ "wire::write_opening" ∷ "wire::write_goaway" ∷ "control::settings::judge" ∷ "control::settings::only" ∷ "fields::has_byte" ∷ "fields::begins_with" ∷ "fields::same_bytes" ∷ "fields::any_outside" ∷ "fields::bad_line" ∷ "fields::decimal_of" ∷ "fields::line_at" ∷ "section::code" ∷ "section::header_section" ∷ "section::trailers" ∷ "frames::ruled" ∷ "frames::end" ∷ "record::cells_in" ∷ "record::free" ∷ "record::is_free" ∷ "record::read" ∷ "record::row" ∷ "record::write" ∷ "record::in_content" ∷ "requests::given::give" ∷ "oneway::close" ∷ "control::judge" ∷ "requests::reset" ∷ "requests::end" ∷ "requests::feed" ∷ "requests::give" ∷ "connection::doors::fresh" ∷ "connection::doors::open" ∷ "connection::doors::send_goaway" ∷ "oneway::calls::fresh" ∷ "oneway::calls::feed" ∷ "oneway::calls::give" ∷ "oneway::calls::close" ∷ "connection::fresh" ∷ "connection::wanted" ∷ "connection::answer" ∷ "connection::decide" ∷ "connection::begin" ∷ "connection::swept" ∷ "connection::say_goaway" ∷ "calls::step" ∷ "calls::eistulko_start" ∷ "calls::eistulko_open" ∷ "calls::eistulko_feed" ∷ "calls::eistulko_give" ∷ "calls::eistulko_end" ∷ "calls::eistulko_reset" ∷ "calls::eistulko_goaway" ∷ "calls::eistulko_write_header" ∷ "calls::eistulko_write_integer_frame" ∷ "calls::eistulko_write_opening" ∷ "calls::eistulko_connection_size" ∷ "calls::eistulko_record_size" ∷ "calls::eistulko_report_size" ∷ "calls::eistulko_written_size" ∷ [])
+      ("varint::fresh" ∷ "varint::read_step" ∷ "varint::ends" ∷ "varint::value" ∷ "varint::read" ∷ "varint::size" ∷ "varint::put" ∷ "varint::write" ∷ "wire::ids::is_request" ∷ "wire::write_header" ∷ "wire::write_integer_frame" ∷ "wire::write_opening" ∷ "wire::write_goaway" ∷ "control::settings::judge" ∷ "control::settings::only" ∷ "fields::has_byte" ∷ "fields::begins_with" ∷ "fields::same_bytes" ∷ "fields::any_outside" ∷ "fields::bad_line" ∷ "fields::decimal_of" ∷ "fields::line_spot" ∷ "fields::line_at" ∷ "section::code" ∷ "section::header_section" ∷ "section::trailers" ∷ "frames::ruled" ∷ "frames::end" ∷ "record::cells_in" ∷ "record::free" ∷ "record::is_free" ∷ "record::read" ∷ "record::row" ∷ "record::write" ∷ "record::in_content" ∷ "requests::given::give" ∷ "oneway::close" ∷ "control::judge" ∷ "requests::reset" ∷ "requests::end" ∷ "requests::feed" ∷ "requests::give" ∷ "connection::doors::fresh" ∷ "connection::doors::open" ∷ "connection::doors::send_goaway" ∷ "oneway::calls::fresh" ∷ "oneway::calls::feed" ∷ "oneway::calls::give" ∷ "oneway::calls::close" ∷ "connection::fresh" ∷ "connection::wanted" ∷ "connection::answer" ∷ "connection::decide" ∷ "connection::begin" ∷ "connection::swept" ∷ "connection::say_goaway" ∷ "calls::step" ∷ "calls::eistulko_start" ∷ "calls::eistulko_open" ∷ "calls::eistulko_feed" ∷ "calls::eistulko_give" ∷ "calls::eistulko_end" ∷ "calls::eistulko_reset" ∷ "calls::eistulko_goaway" ∷ "calls::eistulko_write_header" ∷ "calls::eistulko_write_integer_frame" ∷ "calls::eistulko_write_opening" ∷ "calls::eistulko_connection_size" ∷ "calls::eistulko_record_size" ∷ "calls::eistulko_report_size" ∷ "calls::eistulko_written_size" ∷ [])
   listed = refl
 
   -- ---- and those that do not
