@@ -5,6 +5,7 @@ use Prim.Native.Nat.{ℕ, zero, suc, _≤_}
 use native.Mathlib.Omega.{arith}
 use mathlib.Core.List.{List, [], _∷_, map}
 use lib.ListN.{length, getD, set, length-set, length-map}
+use Rattle.rules.specs.Numbers.{OTHER-ROW}
 use Rattle.rules.specs.Writer.{Write}
 use Rattle.record.specs.declared.Record.{Record}
 use Rattle.record.specs.Row.{free-record}
@@ -25,7 +26,7 @@ use Rattle.calls.specs.Rows.{set-past, set-other}
 
 -- ---- a call on one stream
 
-nine : {c : Connection} {f : Found} {call : Call} {id allow : ℕ} {piece : List ℕ} {t : Turn} → Turned c f call id allow piece t → (f .len ≡ 24 → ⊥) → t ≡ unaltered 9 c f
+nine : {c : Connection} {f : Found} {call : Call} {id allow : ℕ} {piece : List ℕ} {t : Turn} → Turned c f call id allow piece t → (f .len ≡ 24 → ⊥) → t ≡ unaltered OTHER-ROW c f
 nine (other-row n q) x = q
 nine (dead l n q) x = absurd (x l)
 nine (opens v e q) x = absurd (x (v .long))
@@ -66,9 +67,9 @@ module _ {c : Connection} {rows : List Record} {call : Call} {id allow : ℕ} {p
     length-stays = ap length (s .rows-left) ∙ length-set rows (s .found .at) (s .turn .row)
 
     -- A ROW OF ANOTHER LENGTH: 9, and nothing is altered
-    pub other-length : (length rows ≡ 24 → ⊥) → (c′ ≡ c) × (rows′ ≡ rows) × (r ≡ numbered 9)
+    pub other-length : (length rows ≡ 24 → ⊥) → (c′ ≡ c) × (rows′ ≡ rows) × (r ≡ numbered OTHER-ROW)
     other-length n =
-        let t : s .turn ≡ unaltered 9 c (s .found) = nine (s .turned) (λ e. n (sym (s .is-found .long) ∙ e)) in
+        let t : s .turn ≡ unaltered OTHER-ROW c (s .found) = nine (s .turned) (λ e. n (sym (s .is-found .long) ∙ e)) in
         (s .conn-left ∙ ap (λ u. u .conn) t, s .rows-left ∙ ap (λ u. set rows (s .found .at) (u .row)) t ∙ ap (set rows (s .found .at)) (s .is-found .row) ∙ set-same rows (s .found .at) free-record, s .answered ∙ ap (λ u. u .report) t)
 
     -- THE PAIR STAYS ONE

@@ -3,6 +3,8 @@ use mathlib.Core.Path.{_≡_, refl, ap, _∙_}
 use Prim.Native.Nat.{ℕ, _<_}
 use native.Mathlib.Omega.{arith}
 use mathlib.Core.List.{List}
+use Rattle.record.specs.Kinds.{REQUEST}
+use Rattle.rules.specs.Numbers.{NOT-OPEN}
 use Rattle.record.specs.Sound.{cellsIn}
 use Rattle.record.specs.Body.{contentIn}
 use Rattle.requests.specs.declared.Reply.{Reply}
@@ -27,10 +29,10 @@ pub record Briefly (code : ℕ) (f : Found) (allow : ℕ) (piece : List ℕ) (b 
   pub alters : b .report .number ≡ 0 → b .row ≡ contentIn (f .row) (cellsIn (b .row))  -- three numbers of the record
 
 module _ {code : ℕ} {f : Found} {allow : ℕ} {piece : List ℕ} where
-  pub briefly-not : {b : Brief} → b .report ≡ numbered 1 → Briefly code f allow piece b
-  briefly-not {b} q = let y : b .report .number ≡ 1 = ap (λ (x : Report). x .number) q in record { turns = λ z. absurd (omega arith); alters = λ z. absurd (omega arith) }
+  pub briefly-not : {b : Brief} → b .report ≡ numbered NOT-OPEN → Briefly code f allow piece b
+  briefly-not {b} q = let y : b .report .number ≡ NOT-OPEN = ap (λ (x : Report). x .number) q in record { turns = λ z. absurd (omega arith); alters = λ z. absurd (omega arith) }
 
-  pub briefly-so : f .len ≡ 24 → code ≡ 0 → f .at < 24 → f .row .kind ≡ 1 → {a : Reply} → (a .number ≡ 0 → Keeps (f .row) (fedAs (f .row) allow piece) a × (a .row ≡ contentIn (f .row) (cellsIn (a .row))))
+  pub briefly-so : f .len ≡ 24 → code ≡ 0 → f .at < 24 → f .row .kind ≡ REQUEST → {a : Reply} → (a .number ≡ 0 → Keeps (f .row) (fedAs (f .row) allow piece) a × (a .row ≡ contentIn (f .row) (cellsIn (a .row))))
       → Briefly code f allow piece (record { row = a .row; report = told (a .number) (a .event) (a .start) (a .len) (a .used) (a .heads) 0 })
   briefly-so l z w k {a} keeps = record {
     turns = λ y c id e.

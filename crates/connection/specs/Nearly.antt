@@ -4,6 +4,8 @@ use Prim.Native.Nat.{ℕ, _≤_, _<_}
 use native.Mathlib.Omega.{arith}
 use mathlib.Core.List.{List}
 use mathlib.Core.Bool.{Bool, true, false}
+use Rattle.record.specs.Kinds.{REQUEST}
+use Rattle.rules.specs.Numbers.{NOT-OPEN, OTHER-ROW}
 use Rattle.record.specs.Body.{said-no}
 use Rattle.requests.specs.declared.Reply.{Reply}
 use Rattle.connection.specs.declared.doors.Doors.{Doors}
@@ -29,7 +31,7 @@ pub record Aside (d : Doors) (f : Found) (call : Call) : Type 0 where
   pub own : Own
   pub on : call ≡ Call.On own
   pub within : f .at < 24
-  pub other : f .row .kind ≡ 1 → ⊥
+  pub other : f .row .kind ≡ REQUEST → ⊥
 
 -- nothing is said yet
 abbrev pub asks-aside : Doors → Found → Near
@@ -42,7 +44,7 @@ pub data Nearly (d : Doors) (f : Found) (call : Call) (id allow : ℕ) (piece : 
 -- ---- laws: a law for each way out
 
 module _ {d : Doors} {f : Found} {call : Call} {id allow : ℕ} {piece : List ℕ} {n : Near} where
-  pub near-other : (f .len ≡ 24 → ⊥) → n ≡ stays 9 d f → Nearly d f call id allow piece n
+  pub near-other : (f .len ≡ 24 → ⊥) → n ≡ stays OTHER-ROW d f → Nearly d f call id allow piece n
   near-other l q = here (ap (λ x. x .aside) q) (λ a. l (a .live .long)) (λ s. other-row l (ap (beside s) q))
 
   pub near-dead : f .len ≡ 24 → (d .code ≡ 0 → ⊥) → n ≡ stays (d .code) d f → Nearly d f call id allow piece n
@@ -53,13 +55,13 @@ module _ {d : Doors} {f : Found} {call : Call} {id allow : ℕ} {piece : List �
     near-opens e q = here (ap (λ x. x .aside) q) (λ a. open-not-on e (a .on)) (λ s. opens live e (ap (beside s) q))
 
     module _ {own : Own} (z : call ≡ Call.On own) where
-      pub near-past : 24 ≤ f .at → n ≡ stays 1 d f → Nearly d f call id allow piece n
+      pub near-past : 24 ≤ f .at → n ≡ stays NOT-OPEN d f → Nearly d f call id allow piece n
       near-past l q = here (ap (λ x. x .aside) q) (λ a. (let w = a .within in omega arith)) (λ s. past-row id allow live z l (ap (beside s) q))
 
-      pub near-request : f .at < 24 → {a : Reply} → f .row .kind ≡ 1 → Asks (f .row) own allow piece a → n ≡ replies d a → Nearly d f call id allow piece n
+      pub near-request : f .at < 24 → {a : Reply} → f .row .kind ≡ REQUEST → Asks (f .row) own allow piece a → n ≡ replies d a → Nearly d f call id allow piece n
       near-request w k m q = here (ap (λ x. x .aside) q) (λ a. a .other k) (λ s. on-request id allow live z w k m (ap (beside s) q))
 
-      pub near-aside : f .at < 24 → (f .row .kind ≡ 1 → ⊥) → {p : Report} → p ≡ numbered 0 → n ≡ record { aside = true; doors = d; row = f .row; report = p } → Nearly d f call id allow piece n
+      pub near-aside : f .at < 24 → (f .row .kind ≡ REQUEST → ⊥) → {p : Report} → p ≡ numbered 0 → n ≡ record { aside = true; doors = d; row = f .row; report = p } → Nearly d f call id allow piece n
       near-aside w k e q = aside (record { live = live; own = own; on = z; within = w; other = k }) (q ∙ ap (λ x. record { aside = true; doors = d; row = f .row; report = x }) e)
 
 -- ---- what a call comes to

@@ -4,6 +4,8 @@ use Prim.Native.Nat.{ℕ, _≤_, _<_}
 use native.Mathlib.Omega.{arith}
 use mathlib.Core.List.{List}
 use mathlib.Core.Logic.{_⊎_, inl, inr}
+use Rattle.record.specs.Kinds.{REQUEST}
+use Rattle.rules.specs.Numbers.{NOT-OPEN, OTHER-ROW}
 use Rattle.requests.specs.Reply.{Open, stateIn}
 use Rattle.connection.specs.declared.doors.Doors.{Doors}
 use Rattle.connection.specs.Goaway.{sends-one}
@@ -30,18 +32,18 @@ module _ (c : Connection) (f : Found) (call : Call) (id allow : ℕ) (piece : Li
   Taken = (f .at < 24) × (Open (f .row) ⊎ Heeds (f .row))
 
   abbrev OnStream : Own → Turn → Type 0
-  OnStream own t = ((f .row .kind ≡ 1) × (t ≡ replied c (requestAs own allow piece (f .row) (stateIn (f .row)))))
+  OnStream own t = ((f .row .kind ≡ REQUEST) × (t ≡ replied c (requestAs own allow piece (f .row) (stateIn (f .row)))))
       ⊎ ((2 ≤ f .row .kind) × (t ≡ overheard c (oneWayAs own allow piece (f .row) (sideIn c) (stateHere (f .row) (sideIn c)))))
 
   abbrev Living : Call → Turn → Type 0
   Living Call.Open t = t ≡ openedAt c f id
-  Living (Call.On own) t = ((Taken → ⊥) × (t ≡ unaltered 1 c f)) ⊎ (Taken × OnStream own t)
+  Living (Call.On own) t = ((Taken → ⊥) × (t ≡ unaltered NOT-OPEN c f)) ⊎ (Taken × OnStream own t)
 
   abbrev On24 : Turn → Type 0
   On24 t = ((c .doors .code ≡ 0 → ⊥) × (t ≡ unaltered (c .doors .code) c f)) ⊎ ((c .doors .code ≡ 0) × Living call t)
 
   abbrev Tested : Turn → Type 0
-  Tested t = ((f .len ≡ 24 → ⊥) × (t ≡ unaltered 9 c f)) ⊎ ((f .len ≡ 24) × On24 t)
+  Tested t = ((f .len ≡ 24 → ⊥) × (t ≡ unaltered OTHER-ROW c f)) ⊎ ((f .len ≡ 24) × On24 t)
 
   tested : {t : Turn} → Turned c f call id allow piece t → Tested t
   tested (other-row n q) = inl (n, q)

@@ -222,7 +222,7 @@ first-is-one-way id r e = rw e refl
 module _ {c : Connection} {rows : List Record} (p : Paired c rows) (id : ℕ) where
   -- the next ID of a kind is no stream's
   not-taken : ((id % 4 ≡ 0) × (id ≡ c .doors .requests)) ⊎ ((id % 4 ≡ 2) × (id ≡ c .doors .oneways)) → (j : ℕ) → (at rows j .kind ≡ FREE → ⊥) → at rows j .id ≡ id → ⊥
-  not-taken w j n e = by (ℕ-discrete (at rows j .kind) 1) w
+  not-taken w j n e = by (ℕ-discrete (at rows j .kind) REQUEST) w
     where
       above : (k : ℕ) → (k ≡ 0 → ⊥) → (k ≡ 1 → ⊥) → 2 ≤ k
       above zero a b = absurd (a refl)

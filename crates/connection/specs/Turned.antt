@@ -6,6 +6,7 @@ use mathlib.Core.List.{List}
 use mathlib.Core.Bool.{true, false}
 use mathlib.Core.Logic.{_⊎_}
 use lib.Dec.{eqb, ltb}
+use Rattle.rules.specs.Numbers.{NOT-OPEN, OTHER-ROW}
 use Rattle.rules.specs.Message.{Message, opening}
 use Rattle.meaning.specs.Machine.{State, between, fresh}
 use Rattle.meaning.specs.OneWayFeed.{OneState, in-stream-type}
@@ -144,13 +145,13 @@ pub record Alive (d : Doors) (f : Found) : Type 0 where
 
 pub data Turned (c : Connection) (f : Found) (call : Call) (id allow : ℕ) (piece : List ℕ) (t : Turn) : Type 0 where
   -- 9
-  other-row : (f .len ≡ 24 → ⊥) → t ≡ unaltered 9 c f → Turned c f call id allow piece t
+  other-row : (f .len ≡ 24 → ⊥) → t ≡ unaltered OTHER-ROW c f → Turned c f call id allow piece t
   -- the code of a dead connection
   dead : f .len ≡ 24 → (c .doors .code ≡ 0 → ⊥) → t ≡ unaltered (c .doors .code) c f → Turned c f call id allow piece t
   -- an opening: 2; 0x010b; 3; accepted
   opens : Alive (c .doors) f → call ≡ Call.Open → t ≡ openedAt c f id → Turned c f call id allow piece t
   -- 1
-  not-open : {own : Own} → Alive (c .doors) f → call ≡ Call.On own → (f .at < 24 → Open (f .row) ⊎ Heeds (f .row) → ⊥) → t ≡ unaltered 1 c f → Turned c f call id allow piece t
+  not-open : {own : Own} → Alive (c .doors) f → call ≡ Call.On own → (f .at < 24 → Open (f .row) ⊎ Heeds (f .row) → ⊥) → t ≡ unaltered NOT-OPEN c f → Turned c f call id allow piece t
   -- 4 or 5; 6; protocol
   request : {own : Own} → Alive (c .doors) f → call ≡ Call.On own → f .at < 24 → Open (f .row) → t ≡ replied c (requestAs own allow piece (f .row) (stateIn (f .row)))
       → (t .report .number ≡ 0 → Open (t .row) ⊎ Vacant (t .row)) → Turned c f call id allow piece t

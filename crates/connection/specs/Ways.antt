@@ -9,7 +9,7 @@ use Rattle.rules.specs.Reading.{Verdict, whole, fault, waits}
 use Rattle.rules.specs.Message.{Message}
 use Rattle.rules.specs.Request.{document}
 use Rattle.rules.specs.Request as rules
-use Rattle.rules.specs.Numbers.{numberOf, rows as answers, namedIn, named as answer-named, houseLeaves, leaves, REQUEST-REJECTED}
+use Rattle.rules.specs.Numbers.{NOT-OPEN, numberOf, rows as answers, namedIn, named as answer-named, houseLeaves, leaves, REQUEST-REJECTED}
 use Rattle.meaning.specs.Machine.{State, finish}
 use Rattle.meaning.specs.Hom.{map-state}
 use Rattle.meaning.specs.OneWayFeed.{OneState}
@@ -135,7 +135,7 @@ module _ (r : Record) (allow : ℕ) (piece : List ℕ) {own : Own} {a : Reply} w
       whole-free o (waits place) z = absurd (omega arith)
 
       left : Answered r (endedAs r) a → a .number ≡ 0 → Open (a .row) ⊎ Vacant (a .row)
-      left (shut n q) z = let y : a .number ≡ 1 = ap (λ x. x .number) q in absurd (omega arith)
+      left (shut n q) z = let y : a .number ≡ NOT-OPEN = ap (λ x. x .number) q in absurd (omega arith)
       left (opened o q) z = rw q (whole-free o (finish (rules.request document) 0 (stateIn r)) (rw q at z))
 
   pub asks-reset : own ≡ Own.Reset → Answered r (resetAs r) a → Asks r own allow piece a
@@ -143,7 +143,7 @@ module _ (r : Record) (allow : ℕ) (piece : List ℕ) {own : Own} {a : Reply} w
   asks-reset e x = rw e (record { answers = x; stays = left x })
     where
       left : Answered r (resetAs r) a → a .number ≡ 0 → Open (a .row) ⊎ Vacant (a .row)
-      left (shut n q) z = let y : a .number ≡ 1 = ap (λ x. x .number) q in absurd (omega arith)
+      left (shut n q) z = let y : a .number ≡ NOT-OPEN = ap (λ x. x .number) q in absurd (omega arith)
       left (opened o q) z = inr (ap (λ x. x .row) q)
 
 module _ (r : Record) (d : Side) (allow : ℕ) (piece : List ℕ) {own : Own} {a : Heard} where
@@ -169,7 +169,7 @@ module _ (r : Record) (d : Side) (allow : ℕ) (piece : List ℕ) {own : Own} {a
   hears-reset e = hears-other (rw e refl) (rw e refl)
 
 module _ {c : Connection} {f : Found} {call : Call} {own : Own} (id allow : ℕ) {piece : List ℕ} {t : Turn} (live : Alive (c .doors) f) (n : call ≡ Call.On own) where
-  pub past-row : 24 ≤ f .at → t ≡ unaltered 1 c f → Turned c f call id allow piece t
+  pub past-row : 24 ≤ f .at → t ≡ unaltered NOT-OPEN c f → Turned c f call id allow piece t
   past-row l q = not-open live n (λ w x. absurd (omega arith)) q
 
   module _ (w : f .at < 24) where
@@ -181,7 +181,7 @@ module _ {c : Connection} {f : Found} {call : Call} {own : Own} (id allow : ℕ)
         none s x (inr h) = let z = h .kind in omega arith
 
         by : Answered (f .row) (requestAs own allow piece (f .row)) a → Turned c f call id allow piece t
-        by (shut s e) = not-open live n (none s) (q ∙ ap (replied c) e ∙ ap (λ x. turn x (f .row) (numbered 1)) (sym (kept-small c 1 (omega arith))))
+        by (shut s e) = not-open live n (none s) (q ∙ ap (replied c) e ∙ ap (λ x. turn x (f .row) (numbered NOT-OPEN)) (sym (kept-small c 1 (omega arith))))
         by (opened o e) = request live n w o (q ∙ ap (replied c) e) (rw q (m .stays))
 
     pub on-one-way : {d : Side} {a : Heard} → (f .row .kind ≡ REQUEST → ⊥) → d ≡ sideIn c → Hears (f .row) d own allow piece a → t ≡ overheard c a → Turned c f call id allow piece t
@@ -195,7 +195,7 @@ module _ {c : Connection} {f : Found} {call : Call} {own : Own} (id allow : ℕ)
         by m = go (m .answers)
           where
             go : HeardAs (f .row) (sideIn c) (oneWayAs own allow piece (f .row) (sideIn c)) a → Turned c f call id allow piece t
-            go (side.shut s x) = not-open live n (none s) (q ∙ ap (overheard c) x ∙ ap (λ x. turn x (f .row) (numbered 1)) (sym (kept-small c 1 (omega arith))))
+            go (side.shut s x) = not-open live n (none s) (q ∙ ap (overheard c) x ∙ ap (λ x. turn x (f .row) (numbered NOT-OPEN)) (sym (kept-small c 1 (omega arith))))
             go (side.opened o x) = one-way live n w o (q ∙ ap (overheard c) x) (rw x at (m .stays o))
 
 -- ---- our GOAWAY

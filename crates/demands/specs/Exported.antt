@@ -8,11 +8,12 @@ use mathlib.Core.List.{List, [], _∷_, _++_, map}
 use mathlib.Core.Option.{some}
 use mathlib.Core.Logic.{_↔_}
 use lib.ListN.{length, take, drop}
+use Rattle.rules.specs.Events.{SETTINGS, WHOLE}
 use Rattle.rules.specs.Integers.{integer, got}
 use Rattle.rules.specs.Frames.{frame, framesFrom}
 use Rattle.meaning.specs.FrameLaws.{head}
 use Rattle.meaning.specs.IntegerLaws.{Bytes}
-use Rattle.rules.specs.Numbers.{OTHER-ROW, Code, of-stream, codeNumber}
+use Rattle.rules.specs.Numbers.{NO-SECTION, SECTION-DUE, UNREADABLE, OTHER-ROW, Code, of-stream, codeNumber}
 use Rattle.rules.specs.Calls.{feed, section, end, request, one-way, kindOf, find, open′, on, goaway, Answer, call, run, fresh, trace}
 use Rattle.rules.specs.Shown.{View, running, ended, refused, ledger}
 use Rattle.traces.specs.Alone.{Aside}
@@ -162,7 +163,7 @@ FeedsAlike c rows id piece allow r c′ rows′ = (ks : Calls) (xs : List Seen) 
 fed-alike : (v : View streams) (piece : List ℕ) (allow : ℕ) (r : Report) (a : Answer) → r ≡ reportOf a → Moves reading (v .shown) allow piece a → OTHER-ROW < r .number
     → Everywhere (r .number) (v .shown .bytes ++ take (r .used) piece) (v .shown .sections)
 unfolding reportOf numberOf
-fed-alike v piece allow r a q (awaits x) l = let z : r .number ≡ 4 = ap (λ y. y .number) q in absurd (omega arith)
+fed-alike v piece allow r a q (awaits x) l = let z : r .number ≡ SECTION-DUE = ap (λ y. y .number) q in absurd (omega arith)
 fed-alike v piece allow r a q (faulty {k = k} {u = u} {h = h} x struck) l = subst (λ (y : Report). Everywhere (y .number) (v .shown .bytes ++ take (y .used) piece) (v .shown .sections)) (sym q) (everywhere k (v .shown .bytes ++ take u piece) (v .shown .sections) struck)
 fed-alike v piece allow r a q (moved x n p) l = let z : r .number ≡ 0 = ap (λ y. y .number) q ∙ report-number a in absurd (omega arith)
 
@@ -177,8 +178,8 @@ GivesAlike c rows id block r c′ rows′ = (ks : Calls) (xs : List Seen) → Ru
 given-alike : (v : View streams) (block : List ℕ) (r : Report) (a : Answer) → r ≡ reportOf a → Takes reading (v .shown) block a → OTHER-ROW < r .number
     → Everywhere (r .number) (v .shown .bytes) (v .shown .sections ++ (block ∷ []))
 unfolding reportOf
-given-alike v block r a q (not-due x) l = let z : r .number ≡ 5 = ap (λ y. y .number) q in absurd (omega arith)
-given-alike v block r a q (not-readable x y) l = let z : r .number ≡ 6 = ap (λ y. y .number) q in absurd (omega arith)
+given-alike v block r a q (not-due x) l = let z : r .number ≡ NO-SECTION = ap (λ y. y .number) q in absurd (omega arith)
+given-alike v block r a q (not-readable x y) l = let z : r .number ≡ UNREADABLE = ap (λ y. y .number) q in absurd (omega arith)
 given-alike v block r a q (unfit {k = k} x y struck) l = subst (λ (y : Report). Everywhere (y .number) (v .shown .bytes) (v .shown .sections ++ (block ∷ []))) (sym q) (everywhere (of-stream k) (v .shown .bytes) (v .shown .sections ++ (block ∷ [])) struck)
 given-alike v block r a q (taken x y n) l = let z : r .number ≡ 0 = ap (λ y. y .number) q in absurd (omega arith)
 
@@ -187,7 +188,7 @@ demand-2-cutting-given w = of-give w GivesAlike (λ c rows id block r c′ rows�
 
 -- SETTINGS that a feed reports (event 8) are those that the connection's record then holds
 abbrev pub HoldsSettings : FeedSays
-HoldsSettings c rows id piece allow r c′ rows′ = (ks : Calls) (xs : List Seen) → Run ks xs c rows → r .event ≡ 8 → ToldSettings (on id (feed allow piece)) (pairOf c rows) c′ r
+HoldsSettings c rows id piece allow r c′ rows′ = (ks : Calls) (xs : List Seen) → Run ks xs c rows → r .event ≡ SETTINGS → ToldSettings (on id (feed allow piece)) (pairOf c rows) c′ r
 
 pub demand-2-settings : (w : World) → OfFeed w HoldsSettings
 demand-2-settings w = of-feed w HoldsSettings (λ c rows id piece allow r c′ rows′ m ks xs s e. settings-kept (meant s .stands) (feeds m) e)
@@ -196,7 +197,7 @@ demand-2-settings w = of-feed w HoldsSettings (λ c rows id piece allow r c′ r
 
 -- HALF AN UPLOAD IS NEVER WHOLE: where an end reports whole on a stream that states n, n bytes of content were handed over
 abbrev pub NotHalf : StreamSays
-NotHalf c rows id r c′ rows′ = (ks : Calls) (xs : List Seen) → Run ks xs c rows → r .event ≡ 11 → (n : ℕ) → let s = shows id ks .shown in statedBy n (firstOf (s .sections)) → length (s .content) ≡ n
+NotHalf c rows id r c′ rows′ = (ks : Calls) (xs : List Seen) → Run ks xs c rows → r .event ≡ WHOLE → (n : ℕ) → let s = shows id ks .shown in statedBy n (firstOf (s .sections)) → length (s .content) ≡ n
 
 not-half : {id : ℕ} {ks : Calls} → WholeAt id ks → (n : ℕ) → let s = shows id ks .shown in statedBy n (firstOf (s .sections)) → length (s .content) ≡ n
 not-half {id} {ks} w n =
@@ -208,8 +209,8 @@ demand-3-half w = of-end w NotHalf (λ c rows id r c′ rows′ m ks xs s e. not
 -- LONGER STREAMS: where an end here and an end in this run or another both report whole, the longer stream beginning with all the bytes of the shorter, their
 -- header sections decoding alike and stating a Content-Length: the same header section, the same content, and nothing added but what may be
 abbrev pub AddsNothing : StreamSays
-AddsNothing c rows i r c′ rows′ = (ks : Calls) (xs : List Seen) → Run ks xs c rows → r .event ≡ 11
-    → (ls : Calls) (ys : List Seen) (d : Connection) (row : List Record) → Run ls ys d row → (j : ℕ) (p : Report) (d′ : Connection) (row′ : List Record) → Ended d row j d′ row′ p → p .event ≡ 11
+AddsNothing c rows i r c′ rows′ = (ks : Calls) (xs : List Seen) → Run ks xs c rows → r .event ≡ WHOLE
+    → (ls : Calls) (ys : List Seen) (d : Connection) (row : List Record) → Run ls ys d row → (j : ℕ) (p : Report) (d′ : Connection) (row′ : List Record) → Ended d row j d′ row′ p → p .event ≡ WHOLE
     → (n : ℕ) (more : List ℕ) → let s = shows i ks .shown in let t = shows j ls .shown in t .bytes ≡ s .bytes ++ more → firstOf (s .sections) ≡ firstOf (t .sections) → statedBy n (firstOf (s .sections))
     → (headerOf (s .bytes) (s .sections) ≡ headerOf (t .bytes) (t .sections)) × (s .content ≡ t .content) × Added (s .bytes) more (t .sections)
 

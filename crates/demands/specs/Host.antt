@@ -8,6 +8,7 @@ use mathlib.Core.List.{List, [], _∷_, _++_, map, map-append}
 use mathlib.Core.Bool.{true, false}
 use mathlib.Core.Option.{some}
 use lib.ListN.{length}
+use Rattle.rules.specs.Events.{NOTHING, WHOLE}
 use Rattle.rules.specs.Numbers as table
 use Rattle.rules.specs.Numbers.{of-stream, of-connection}
 use Rattle.rules.specs.Calls.{qpack-bytes, settings, client-goaway, max-push-id, quiet, section-bytes, content-bytes, notice, Own, end, done, fed, whole, freed, request, kindOf, Pair, Call, start, open′, on, goaway, Answer, gave, left, house, code, call, run, fresh, trace}
@@ -121,7 +122,7 @@ number-seen (goaway id room) a = written-number id a
 -- no event, no part, no value, no byte counted as written
 abbrev pub HandsNothing : Seen → Type 0
 HandsNothing (a-number n) = Unit {0}
-HandsNothing (a-report r) = (r .event ≡ 0) × (r .start ≡ 0) × (r .len ≡ 0) × (r .value ≡ 0)
+HandsNothing (a-report r) = (r .event ≡ NOTHING) × (r .start ≡ 0) × (r .len ≡ 0) × (r .value ≡ 0)
 HandsNothing (a-written w) = w .count ≡ 0
 
 report-nothing : (a : Answer) → ¬ (numberOf a ≡ 0) → HandsNothing (a-report (reportOf a))
@@ -189,10 +190,10 @@ module _ {ks : Calls} {xs : List Seen} {c : Connection} {rows : List Record} (r 
 -- event 11
 abbrev pub SaysWhole : Seen → Type 0
 SaysWhole (a-number n) = ⊥
-SaysWhole (a-report r) = r .event ≡ 11
+SaysWhole (a-report r) = r .event ≡ WHOLE
 SaysWhole (a-written w) = ⊥
 
-event-eleven : (a : Answer) → reportOf a .event ≡ 11 → a ≡ left whole
+event-eleven : (a : Answer) → reportOf a .event ≡ WHOLE → a ≡ left whole
 unfolding reportOf reported noticed
 event-eleven (gave done) e = absurd (omega arith)
 event-eleven (gave (fed u h quiet)) e = absurd (omega arith)
@@ -244,7 +245,7 @@ one-id : {i j : ℕ} → _≡_ {A = Call streams} (on i end) (on j end) → i �
 one-id e = cc
 
 pub whole-at : {ks : Calls} {xs : List Seen} {c : Connection} {rows : List Record} {id : ℕ} {p : Report} {c′ : Connection} {rows′ : List Record}
-    → Run ks xs c rows → Does c rows (on id end) (a-report p) c′ rows′ → p .event ≡ 11 → WholeAt id ks
+    → Run ks xs c rows → Does c rows (on id end) (a-report p) c′ rows′ → p .event ≡ WHOLE → WholeAt id ks
 whole-at {ks} {id = id} r m e =
     let a = event-eleven (call (on id end) (run fresh ks) .answer) (sym (ap (λ y. y .event) (reports r (on id end) m)) ∙ e) in
     let w = whole-only ks (on id end) .0 a in

@@ -11,6 +11,7 @@ use mathlib.Core.Option.{Option, none, some}
 use lib.Dec.{T, eqb, leb, ltb, eqb→eq}
 use lib.ListN.{length, getD, set}
 use lib.Seq.{set-getD}
+use Rattle.rules.specs.Events.{NOTHING}
 use Rattle.rules.specs.Numbers as table
 use Rattle.rules.specs.Numbers.{ROOM-SHORT, BAD-VALUE, House, houseNumber, StreamFault, request-rejected, ConnectionFault, closed-critical-stream, Code, of-stream, of-connection, codeNumber, named, Leaves, houseLeaves, record-freed, code-kept, leaves}
 use Rattle.rules.specs.Block.{Lines, readable, unreadable, lines}
@@ -172,7 +173,7 @@ data Answers (c : Connection) (call : CoreCall) (allow : ℕ) (piece : List ℕ)
   elsewhere : (k : Code) → Answers c call allow piece (codeNumber k) 0 0 0 0 0 0
 
 record Facts (c : Connection) (call : CoreCall) (allow : ℕ) (piece : List ℕ) (number event start len used heads value : ℕ) : Type 0 where
-  hands : (event ≡ 0) × (start ≡ 0) × (len ≡ 0) × (value ≡ 0)
+  hands : (event ≡ NOTHING) × (start ≡ 0) × (len ≡ 0) × (value ≡ 0)
   fits : used ≤ length piece
   allowed : heads ≤ allow
   nothing : OfHouse number ⊎ ((¬ (c .doors .code ≡ 0)) ⊎ (fed-by call ≡ 0)) → (used ≡ 0) × (heads ≡ 0)

@@ -11,6 +11,7 @@ use lib.Dec.{eqb, leb}
 use lib.ListN.{length, getD, set}
 use lib.Seq.{set-getD}
 use borrow.Author.Tests.{eqb-true, eqb-false, le-leb, lt-leb}
+use Rattle.record.specs.Kinds.{FREE}
 use Rattle.rules.specs.Numbers.{houseNumber, not-next, no-record, of-stream, request-rejected, codeNumber, REQUEST-REJECTED}
 use Rattle.varint.specs.ByByte.{prog, partOf}
 use Rattle.record.specs.declared.Record.{Record}
@@ -56,7 +57,7 @@ taken-slot d q zero n = absurd (n refl)
 taken-slot d q (suc zero) n = λ x. x
 taken-slot d q (suc (suc k)) n = λ x. x
 
-not-vacant : (q : Record) → Known q → ¬ Vacant q → ¬ (q .kind ≡ 0)
+not-vacant : (q : Record) → Known q → ¬ Vacant q → ¬ (q .kind ≡ FREE)
 not-vacant q (inl v) n = absurd (n v)
 not-vacant q (inr (inl o)) n = λ e. (let k = o .kind in omega arith)
 not-vacant q (inr (inr h)) n = λ e. (let k = h .kind in omega arith)

@@ -8,6 +8,7 @@ use mathlib.Core.Bool.{Bool, true, false}
 use mathlib.Core.Logic.{_⊎_, inl, inr}
 use mathlib.Core.Option.{Option, none, some}
 use lib.ListN.{getD}
+use Rattle.record.specs.Kinds.{CONTROL}
 use Rattle.rules.specs.Numbers.{houseNumber, no-section, ConnectionFault, closed-critical-stream, of-connection, codeNumber, Code, of-stream, id-error}
 use Rattle.rules.specs.Integers.{integer}
 use Rattle.rules.specs.Reading.{Kept as Payload, settings, goaway, max-push-id, cancel-push, kept, Next, stop, go}
@@ -258,9 +259,9 @@ module _ {c : Connection} {rows : List Record} (p : Paired c rows) (at : ℕ) (r
   others-say (O.in-qpack decoder) f j n = refl
   others-say O.in-skipped f j n = refl
   others-say (O.in-control s) f j n = let q = getD rows j free-record in let e = sideAfter d (O.in-control s) in
-      by (ℕ-discrete (q .kind) 3) (control-once (c .side .control) (c .side .encoder) (c .side .decoder) allow (stateHere r d) piece f)
+      by (ℕ-discrete (q .kind) CONTROL) (control-once (c .side .control) (c .side .encoder) (c .side .decoder) allow (stateHere r d) piece f)
     where
-      by : Dec (getD rows j free-record .kind ≡ 3) → (c .side .control ≡ 0) ⊎ ((y : State Control) × (stateHere r d ≡ O.in-control y))
+      by : Dec (getD rows j free-record .kind ≡ CONTROL) → (c .side .control ≡ 0) ⊎ ((y : State Control) × (stateHere r d ≡ O.in-control y))
           → stateHere (getD rows j free-record) (sideAfter d (O.in-control s)) ≡ stateHere (getD rows j free-record) d
       by (yes k) (inl z) = absurd (p .control j k z)
       by (yes k) (inr (y, z)) = absurd (n (p .single j at k (sym (ap (λ x. x .kind) was) ∙ control-kind (cellsIn r) (placeHere r d) (sofarHere r d) (r .kind) z)))

@@ -11,7 +11,7 @@ use Rattle.rules.specs.Integers.{extra}
 use Rattle.rules.specs.Reading.{ended}
 use Rattle.rules.specs.Message.{Message, opening, carries, ends}
 use Rattle.rules.specs.Request.{column, kindOf, codeOf, data-rule, ruleFor, rule, end-of}
-use Rattle.rules.specs.Numbers.{request-incomplete, REQUEST-INCOMPLETE, FRAME-UNEXPECTED, numberOf, rows as answers-of, namedIn, named, houseLeaves, leaves}
+use Rattle.rules.specs.Numbers.{OTHER-ROW, request-incomplete, REQUEST-INCOMPLETE, FRAME-UNEXPECTED, numberOf, rows as answers-of, namedIn, named, houseLeaves, leaves}
 use Rattle.meaning.specs.Machine.{State, between, after, fed, typed, with-left, finish}
 use Rattle.meaning.specs.Machine as machine
 use Rattle.meaning.specs.Feed as F
@@ -76,10 +76,10 @@ opened-so = opens-one (record {
 })
 
 -- lent a row of no records
-nine-so : Does one-spent [] (on 0 end) (a-report (numbered 9)) one-spent []
+nine-so : Does one-spent [] (on 0 end) (a-report (numbered OTHER-ROW)) one-spent []
 nine-so = ends-one (record {
   found = record { len = 0; at = 0; row = free-record };
-  turn = unaltered 9 one-spent (record { len = 0; at = 0; row = free-record });
+  turn = unaltered OTHER-ROW one-spent (record { len = 0; at = 0; row = free-record });
   is-found = record { long = refl; within = omega arith; before = λ j l. absurd (omega arith); there = λ l. absurd (omega arith); row = refl };
   turned = other-row (λ e. omega arith) refl;
   conn-left = refl;

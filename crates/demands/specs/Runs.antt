@@ -9,8 +9,9 @@ use mathlib.Core.Logic.{_⊎_, inl, inr}
 use mathlib.Core.Option.{Option, none, some}
 use lib.ListN.{length, set}
 use lib.Seq.{set-getD}
+use Rattle.rules.specs.Events.{SETTINGS}
 use Rattle.rules.specs.Numbers as numbers
-use Rattle.rules.specs.Numbers.{section-due, no-section, other-row as row-refused, houseNumber, ConnectionFault, Code, of-connection, codeNumber}
+use Rattle.rules.specs.Numbers.{NOT-OPEN, OTHER-ROW, section-due, no-section, other-row as row-refused, houseNumber, ConnectionFault, Code, of-connection, codeNumber}
 use Rattle.rules.specs.Block.{Lines, readable, unreadable, lines}
 use Rattle.rules.specs.Integers.{integer}
 use Rattle.rules.specs.Reading as reading
@@ -182,7 +183,7 @@ module _ {c : Connection} {rows : List Record} {core : CoreCall} {id allow : ℕ
       short : m .found .len ≡ 24 → ⊥
       short e = other (sym (m .is-found .long) ∙ e)
 
-      by : {t : Turn} → Turned c (m .found) core id allow piece t → t ≡ unaltered 9 c (m .found)
+      by : {t : Turn} → Turned c (m .found) core id allow piece t → t ≡ unaltered OTHER-ROW c (m .found)
       by (other-row x q) = q
       by (dead l x q) = absurd (short l)
       by (opens v e q) = absurd (short (v .long))
@@ -330,10 +331,10 @@ module _ {c : Connection} {f : Found} {core : CoreCall} {id allow : ℕ} {piece 
 
   -- and a connection fault of a call on a stream: the code, and all else byte for byte
   fault-turned : {own : CoreOwn} → core ≡ CoreCall.On own → Turned c f core id allow piece t → Fault (t .report .number) → (t .conn ≡ withCode (t .report .number) c) × (t .row ≡ f .row)
-  fault-turned b (other-row x q) z = let k : t .report .number ≡ 9 = ap (λ y. y .report .number) q in let h = code-high (of-connection (z .0)) in let e = z .1 in absurd (omega arith)
+  fault-turned b (other-row x q) z = let k : t .report .number ≡ OTHER-ROW = ap (λ y. y .report .number) q in let h = code-high (of-connection (z .0)) in let e = z .1 in absurd (omega arith)
   fault-turned b (dead l x q) z = let k : t .report .number ≡ c .doors .code = ap (λ y. y .report .number) q in (ap (λ y. y .conn) q ∙ ap (λ y. withCode y c) (sym k), ap (λ y. y .row) q)
   fault-turned b (opens v e q) z = absurd (open-not-on e b)
-  fault-turned b (not-open v x s q) z = let k : t .report .number ≡ 1 = ap (λ y. y .report .number) q in let h = code-high (of-connection (z .0)) in let e = z .1 in absurd (omega arith)
+  fault-turned b (not-open v x s q) z = let k : t .report .number ≡ NOT-OPEN = ap (λ y. y .report .number) q in let h = code-high (of-connection (z .0)) in let e = z .1 in absurd (omega arith)
   fault-turned b (request {own} v x l o q s) z =
       let a = requestAs own allow piece (f .row) (stateIn (f .row)) in
       let k : t .report .number ≡ a .number = ap (λ y. y .report .number) q in
@@ -572,7 +573,7 @@ record IsSettings (a : Answer) (r : Report) : Type 0 where
   blocked : ℕ
   is : a ≡ gave (fed (r .used) (r .heads) (notice (settings size capacity blocked)))
 
-event-eight : (a : Answer) → reportOf a .event ≡ 8 → IsSettings a (reportOf a)
+event-eight : (a : Answer) → reportOf a .event ≡ SETTINGS → IsSettings a (reportOf a)
 unfolding reportOf reported noticed
 event-eight (gave done) e = absurd (omega arith)
 event-eight (gave (fed u h quiet)) e = absurd (omega arith)
@@ -588,7 +589,7 @@ event-eight (left trace.freed) e = absurd (omega arith)
 event-eight (house n) e = absurd (omega arith)
 event-eight (code k u h) e = absurd (omega arith)
 
-is-eight : (a : Answer) {r : Report} → r ≡ reportOf a → r .event ≡ 8 → IsSettings a r
+is-eight : (a : Answer) {r : Report} → r ≡ reportOf a → r .event ≡ SETTINGS → IsSettings a r
 is-eight a q e = subst (IsSettings a) (sym q) (event-eight a (sym (ap (λ y. y .event) q) ∙ e))
 
 -- the settings in a connection's record
@@ -624,7 +625,7 @@ report-seen (open′ id) a e = cc
 report-seen (on id o) a e = cc
 report-seen (goaway id room) a e = let z : _≡_ {A = ℕ} 0 1 = cc in absurd (omega arith)
 
-pub settings-kept : {c : Connection} {rows : List Record} {k : Call streams} {r : Report} {c′ : Connection} {rows′ : List Record} → Stands c rows → Does c rows k (a-report r) c′ rows′ → r .event ≡ 8 → ToldSettings k (pairOf c rows) c′ r
+pub settings-kept : {c : Connection} {rows : List Record} {k : Call streams} {r : Report} {c′ : Connection} {rows′ : List Record} → Stands c rows → Does c rows k (a-report r) c′ rows′ → r .event ≡ SETTINGS → ToldSettings k (pairOf c rows) c′ r
 settings-kept {c} {rows} {k} {c′ = c′} s m e =
     let d = does-so s m in
     let i = is-eight (call k (pairOf c rows) .answer) (report-seen k (call k (pairOf c rows) .answer) (d .seen)) e in

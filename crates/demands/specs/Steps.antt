@@ -8,7 +8,7 @@ use mathlib.Core.Logic.{inl, inr}
 use mathlib.Core.Option.{some}
 use lib.ListN.{length, getD, set, replicate}
 use lib.Seq.{set-getD}
-use Rattle.rules.specs.Numbers.{not-open, houseNumber, ConnectionFault, of-connection, coded}
+use Rattle.rules.specs.Numbers.{NOT-OPEN, not-open, houseNumber, ConnectionFault, of-connection, coded}
 use Rattle.rules.specs.Calls as Board
 use Rattle.rules.specs.Calls.{Stream, asking, telling, free, held, Pair, open′, on, house, code, find, same, alive, acting, fresh, call}
 use Rattle.traces.specs.Refine.{Whose, FoundAt, found-find, absent-find}
@@ -92,7 +92,7 @@ module _ (c : Connection) (rows : List Record) (s : Stands c rows) (call : CoreC
 
   module _ (live : c .doors .code ≡ 0) {own : CoreOwn} (n : call ≡ CoreCall.On own) where
     -- no record is its own
-    absent-turns : 24 ≤ f .at → Turns (unaltered 1 c f)
+    absent-turns : 24 ≤ f .at → Turns (unaltered NOT-OPEN c f)
     unfolding Board.call acting same reportOf
     absent-turns l =
         let none-there = absent-find Record as-slot free-record rows id (λ j m w. found .before j (let q = s .paired .long in omega arith) (belongs-wanted id (getD rows j free-record) n (whose-belongs (sideIn c) id (getD rows j free-record) w))) in

@@ -7,6 +7,7 @@ use mathlib.Core.List.{List, [], _∷_, _++_}
 use mathlib.Core.Bool.{true}
 use mathlib.Core.Option.{Option, none, some}
 use lib.ListN.{length}
+use Rattle.rules.specs.Events.{WHOLE}
 use Rattle.rules.specs.Block.{Section, lines}
 use Rattle.rules.specs.Frames.{Frames, framesFrom}
 use Rattle.rules.specs.Section.{uploading}
@@ -89,7 +90,7 @@ upload-once i j p q cs ds more x y e k u = let s = upload-whole i p cs x u in ov
 
 -- where an end reports whole on an upload, it has stated a length, and so many bytes of content were handed over
 abbrev pub WholeUpload : StreamSays
-WholeUpload c rows id r c′ rows′ = (ks : Calls) (xs : List Seen) → Run ks xs c rows → r .event ≡ 11 → let s = shows id ks .shown in Uploads (firstOf (s .sections)) → StatesAll (firstOf (s .sections)) (s .content)
+WholeUpload c rows id r c′ rows′ = (ks : Calls) (xs : List Seen) → Run ks xs c rows → r .event ≡ WHOLE → let s = shows id ks .shown in Uploads (firstOf (s .sections)) → StatesAll (firstOf (s .sections)) (s .content)
 
 states-all : {id : ℕ} {ks : Calls} → WholeAt id ks → let s = shows id ks .shown in Uploads (firstOf (s .sections)) → StatesAll (firstOf (s .sections)) (s .content)
 states-all {id} {ks} w =
@@ -102,8 +103,8 @@ whole-upload w = of-end w WholeUpload (λ c rows id r c′ rows′ m ks xs s e. 
 -- and where an end in this run or another reports whole on a longer stream that begins with all its bytes, their header sections decoding alike: the same header
 -- section, the same content, and nothing added but what may be
 abbrev pub UploadOnce : StreamSays
-UploadOnce c rows i r c′ rows′ = (ks : Calls) (xs : List Seen) → Run ks xs c rows → r .event ≡ 11
-    → (ls : Calls) (ys : List Seen) (d : Connection) (row : List Record) → Run ls ys d row → (j : ℕ) (p : Report) (d′ : Connection) (row′ : List Record) → Ended d row j d′ row′ p → p .event ≡ 11
+UploadOnce c rows i r c′ rows′ = (ks : Calls) (xs : List Seen) → Run ks xs c rows → r .event ≡ WHOLE
+    → (ls : Calls) (ys : List Seen) (d : Connection) (row : List Record) → Run ls ys d row → (j : ℕ) (p : Report) (d′ : Connection) (row′ : List Record) → Ended d row j d′ row′ p → p .event ≡ WHOLE
     → (more : List ℕ) → let s = shows i ks .shown in let t = shows j ls .shown in t .bytes ≡ s .bytes ++ more → firstOf (s .sections) ≡ firstOf (t .sections) → Uploads (firstOf (s .sections))
     → (headerOf (s .bytes) (s .sections) ≡ headerOf (t .bytes) (t .sections)) × (s .content ≡ t .content) × Added (s .bytes) more (t .sections)
 

@@ -404,8 +404,8 @@ opening-read {before} {after} {n} m =
 -- where the number is 0, the write was accepted, and the count is what was written
 module _ {Above : Type 0} {size : ℕ} {before : List ℕ} {r : Written} where
   counted : {a : Wrote} {after : List ℕ} → Ends Above size before a after → r ≡ writtenOf a → r .number ≡ 0 → a ≡ Count (r .count)
-  counted (eight h) e z = let x : r .number ≡ 8 = ap (λ y. y .number) e in absurd (omega arith)
-  counted (seven n l) e z = let x : r .number ≡ 7 = ap (λ y. y .number) e in absurd (omega arith)
+  counted (eight h) e z = let x : r .number ≡ BAD-VALUE = ap (λ y. y .number) e in absurd (omega arith)
+  counted (seven n l) e z = let x : r .number ≡ ROOM-SHORT = ap (λ y. y .number) e in absurd (omega arith)
   counted (accepted n l) e z = sym (ap (λ y. Count (y .count)) e)
 
   lent-meets : (w : Write) {after : List ℕ} → (Meets w before (wroteOf w) after → Ends Above size before (wroteOf w) after) → WroteInto w before r after → r .number ≡ 0 → Meets w before (Count (r .count)) after

@@ -8,7 +8,7 @@ use mathlib.Core.Bool.{true, false}
 use mathlib.Core.Option.{Option, some}
 use lib.ListN.{length, take}
 use lib.Seq.{take-at}
-use Rattle.rules.specs.Numbers.{FRAME-UNEXPECTED, frame-unexpected}
+use Rattle.rules.specs.Numbers.{NOT-OPEN, FRAME-UNEXPECTED, frame-unexpected}
 use Rattle.rules.specs.Integers.{extra, more, integer}
 use Rattle.rules.specs.Frames.{Frames, Frames.none as no-more, Frames.frame as a-frame, in-payload, framesUpTo, framesFrom}
 use Rattle.rules.specs.Message.{body}
@@ -72,7 +72,7 @@ unfolding shows
 zeros-for-frame c′ rows′ = zeros-break opened-run 0 refl frame 1 (omega arith) (omega arith) c′ rows′ refl
 
 -- ---- A RESET OF AN OPEN REQUEST, reported as not open
-pub reset-as-one : (c′ : Connection) (rows′ : List Record) → ¬ (ResetAnswered one-spent one-open 0 (numbered 1) c′ rows′)
+pub reset-as-one : (c′ : Connection) (rows′ : List Record) → ¬ (ResetAnswered one-spent one-open 0 (numbered NOT-OPEN) c′ rows′)
 unfolding shows reportOf
 reset-as-one c′ rows′ p = let z = ap (λ r. r .event) (p _ _ opened-run .on-request refl refl) in omega arith
 

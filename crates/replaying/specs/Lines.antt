@@ -4,6 +4,9 @@ use mathlib.Core.List.{List, [], _∷_, _++_}
 use mathlib.Core.Bool.{Bool, true, false}
 use lib.Dec.{eqb}
 use lib.ListN.{length}
+use Rattle.rules.specs.Events.{CONTENT, SECTION, SECTION-END, QPACK, SETTINGS, GOAWAY, MAX-PUSH-ID, WHOLE, FREED}
+use Rattle.record.specs.Kinds.{FREE, REQUEST, UNTYPED, CONTROL, ENCODER, DECODER}
+use Rattle.frames.specs.Modes.{HEADER-SECTION-DUE, TRAILERS-DUE}
 use Rattle.rules.specs.Text.{ascii}
 use Rattle.rules.specs.Integers.{Int, cut, got}
 use Rattle.rules.specs.Writer.{Write, refused, wrote, write-integer, write-header, write-integer-frame, write-opening}
@@ -39,15 +42,15 @@ headText number used heads = decimal number ++ blank used ++ blank heads ++ asci
 -- what the call gave
 unfoldable pub eventText : Kept → Report → List ℕ
 eventText k r =
-    pick (eqb (r .event) 1) (ascii "content" ++ blank (r .start) ++ blank (r .len))
-    (pick (eqb (r .event) 2) (ascii "section" ++ blank (r .start) ++ blank (r .len) ++ ascii " 0")
-    (pick (eqb (r .event) 3) (ascii "section" ++ blank (r .start) ++ blank (r .len) ++ ascii " 1")
-    (pick (eqb (r .event) 7) (ascii "qpack" ++ blank (r .value) ++ blank (r .start) ++ blank (r .len))
-    (pick (eqb (r .event) 8) (ascii "settings" ++ settingsText k)
-    (pick (eqb (r .event) 9) (ascii "goaway" ++ blank (r .value))
-    (pick (eqb (r .event) 10) (ascii "maxpush" ++ blank (r .value))
-    (pick (eqb (r .event) 11) (ascii "whole")
-    (pick (eqb (r .event) 12) (ascii "freed") (ascii "-")))))))))
+    pick (eqb (r .event) CONTENT) (ascii "content" ++ blank (r .start) ++ blank (r .len))
+    (pick (eqb (r .event) SECTION) (ascii "section" ++ blank (r .start) ++ blank (r .len) ++ ascii " 0")
+    (pick (eqb (r .event) SECTION-END) (ascii "section" ++ blank (r .start) ++ blank (r .len) ++ ascii " 1")
+    (pick (eqb (r .event) QPACK) (ascii "qpack" ++ blank (r .value) ++ blank (r .start) ++ blank (r .len))
+    (pick (eqb (r .event) SETTINGS) (ascii "settings" ++ settingsText k)
+    (pick (eqb (r .event) GOAWAY) (ascii "goaway" ++ blank (r .value))
+    (pick (eqb (r .event) MAX-PUSH-ID) (ascii "maxpush" ++ blank (r .value))
+    (pick (eqb (r .event) WHOLE) (ascii "whole")
+    (pick (eqb (r .event) FREED) (ascii "freed") (ascii "-")))))))))
 
 abbrev pub line-feed : List ℕ
 line-feed = 10 ∷ []
@@ -92,15 +95,15 @@ readLine (got value next rest) = valueLine value next
 
 unfoldable pub kindText : ℕ → List ℕ
 kindText kind =
-    pick (eqb kind 1) (ascii "request")
-    (pick (eqb kind 2) (ascii "untyped") (pick (eqb kind 3) (ascii "control") (pick (eqb kind 4) (ascii "encoder") (pick (eqb kind 5) (ascii "decoder") (ascii "skipped")))))
+    pick (eqb kind REQUEST) (ascii "request")
+    (pick (eqb kind UNTYPED) (ascii "untyped") (pick (eqb kind CONTROL) (ascii "control") (pick (eqb kind ENCODER) (ascii "encoder") (pick (eqb kind DECODER) (ascii "decoder") (ascii "skipped")))))
 
--- a section is due of a request in mode 6 or 7
+-- a section is due
 unfoldable pub dueText : Record → List ℕ
-dueText r = pick (eqb (r .kind) 1) (pick (eqb (r .mode) 6) (ascii "+") (pick (eqb (r .mode) 7) (ascii "+") [])) []
+dueText r = pick (eqb (r .kind) REQUEST) (pick (eqb (r .mode) HEADER-SECTION-DUE) (ascii "+") (pick (eqb (r .mode) TRAILERS-DUE) (ascii "+") [])) []
 
 unfoldable pub recordText : ℕ → Record → List ℕ
-recordText index r = pick (eqb (r .kind) 0) [] (blank index ++ ascii ":" ++ decimal (r .id) ++ ascii ":" ++ kindText (r .kind) ++ dueText r)
+recordText index r = pick (eqb (r .kind) FREE) [] (blank index ++ ascii ":" ++ decimal (r .id) ++ ascii ":" ++ kindText (r .kind) ++ dueText r)
 
 unfoldable pub rowsText : ℕ → List Record → List ℕ
 rowsText index [] = []
