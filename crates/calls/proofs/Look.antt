@@ -26,7 +26,7 @@ use denote.Laws.{Is, shows}
 use denote.Plain.{uint-makes}
 use denote.Builtin.{u64, usize}
 use denote.Ref.{RefT}
-use denote.Slice.{ShrSlice, MutSlice, Room}
+use denote.Slice.{ShrSlice, Room}
 use denote.Steps.{only, owned, peeks, heard, nothing}
 use denote.Struct.Laws as LL
 use denote.Triple.Spec.{tripleOf}

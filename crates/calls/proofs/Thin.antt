@@ -139,4 +139,4 @@ module _ {M : Type 1} {𝓤 : URA M} {H : Heap 𝓤} {A : Atoms 𝓤} (W : Given
 
     pub calls-step-at : (i : ℕ) → i < 2 ^ 64 → FirstIn k id (x .now) i → Triple 𝓤 (Cs #calls·step-at) (StepAtC 𝓤 H A mem run)
         → Opds (Go {0}) W (raw (StepAtC 𝓤 H A mem run .pre (to-step-at i)) ∷ Γ) E xs (StepAtC 𝓤 H A mem run .args (to-step-at i)) → Onward Γ (λ u. lands Cs Λ E d u rest q) → Sq W (Tokens ∷ Lent ∷ Γ) (runs Cs Λ E (seq (call #calls·step-at xs d) rest) q)
-    calls-step-at i i-fits first known = lent-on (StepAtC 𝓤 H A mem run) known (to-step-at i) (λ r c′ zs. FirstIn k id (x .now) i → Said r c′ zs) 5 (goes-step-at i i-fits) (λ u. id⊢ 𝓤 _) (λ r c′ zs e. e first)
+    calls-step-at i i-fits is-first known = lent-on (StepAtC 𝓤 H A mem run) known (to-step-at i) (λ r c′ zs. FirstIn k id (x .now) i → Said r c′ zs) 5 (goes-step-at i i-fits) (λ u. id⊢ 𝓤 _) (λ r c′ zs e. e is-first)

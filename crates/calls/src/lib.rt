@@ -40,7 +40,11 @@ fn find(row: &[Record], call: Call, id: u64) -> usize
 fn found_at(row: &[Record], at: usize) -> Found
     ensures { λ r. ⌜ r ≡ foundAt (now (row .entry)) at ⌝ }
 {
-    let r = if at < row.len() { row[at] } else { record::free() };
+    let r = if at < row.len() {
+        row[at]
+    } else {
+        record::free()
+    };
     Found {
         len: row.len(),
         at,

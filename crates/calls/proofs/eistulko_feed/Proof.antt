@@ -1,6 +1,6 @@
 -- `eistulko_feed` meets its contract: a walk of its MIR, by hand. Of a row of 24 the record is sought, and content of a request is answered by `connection::brisk` from the connection's code alone: the row is shared for the calls of `find` and `found_at`, and comes back (`Look.antt`), conn's borrow is open for the read of the code, the row is given up for good to `store_content`, and the connection stays as it is. Else all that is lent is lent on (`Thin.antt`): of a row of 24 to `step_at`, at the place that was found, and of any other to `step`.
 -- Assumes nothing.
-use mathlib.Core.Path.{_≡_, refl, sym, ap, subst, _∙_}
+use mathlib.Core.Path.{_≡_, refl, sym, ap, _∙_}
 use Prim.Native.Nat.{ℕ, _<_, _^_}
 use mathlib.Core.List.{List, [], _∷_, _++_}
 use lib.Dec.{eqb→eq}
@@ -18,11 +18,11 @@ use ghost.Atoms.{Atoms, sem}
 use contract.Lifetimes.{Lfts, Shares}
 use contract.Monad.{Fun, fact}
 use contract.Running.{givenOf, tables, tablesOf}
-use types.Kit.{Given, Item, Sq, Post as Ends, prop, frees, anyQ, post, runs, atRet, ‵, raw, _⊛_, some, later, ⋆, _$_, _∵_, !, qed, by, move, keep, drop, use1, use2, split, join, pick, rewrite, fsplit, fjoin, fjoin3, feqL, feqI, suffices, frame, await, done}
+use types.Kit.{Given, Item, Sq, Post as Ends, prop, frees, anyQ, post, runs, atRet, ‵, raw, _⊛_, some, later, ⋆, _$_, _∵_, !, qed, by, move, drop, use1, use2, split, join, pick, rewrite, fsplit, fjoin, fjoin3, feqL, feqI, suffices, frame, await, done}
 use types.Part.{agg, whole, sub, look-in}
 use types.Run.{look, init, forget, stop, hop, fld, from, load, lit, addr, of-opd, bin, and-then, no-more, assigns, land, first, branches, skips, exec, returns, returns-within, enter, alloc1, alloc0, params1, pass1, pass0, free1, free0}
 use types.SemTy.{Body}
-use types.Tokens.{lft-new, lft-end, name-done}
+use types.Tokens.{name-done}
 use sound.WpLaws.{FmC, fmOf, WpFn-mono}
 use denote.RattleType.{owns}
 use denote.Laws.{Is, shows}
@@ -30,7 +30,7 @@ use denote.Memory.{mem as cells, pointee}
 use denote.Plain.{uint-makes, uint-vals, uint-tells, nothing-lawful}
 use denote.Builtin.{u8, u64, usize, unit}
 use denote.Ref.{RefT, MutRef, ptr-vals, mut-tells}
-use denote.Slice.{ShrSlice, MutSlice, finally, sliceTy, sliceVal, slice-vals, shr-slice-tells, shr-slice-lawful, shr-slice-copy, mut-slice-tells, mut-slice-lawful}
+use denote.Slice.{ShrSlice, MutSlice, finally, sliceTy, slice-vals, shr-slice-tells, shr-slice-lawful, shr-slice-copy, mut-slice-tells, mut-slice-lawful}
 use denote.Signature.{plain}
 use denote.Steps.{only, owned, peeks, heard, nothing}
 use denote.Struct.Laws as LL
@@ -59,7 +59,6 @@ use Rattle.connection.specs.Briefly.{contentLeaves, Briefly}
 use Rattle.connection.proofs.Own.Laws as O′
 use Rattle.connection.proofs.Call.Laws as K′
 use Rattle.connection.proofs.Connection as C
-use Rattle.connection.proofs.Connection.Laws as C′
 use Rattle.connection.proofs.Found as F
 use Rattle.connection.proofs.Found.Laws as F′
 use Rattle.connection.proofs.Brief as B
@@ -216,7 +215,7 @@ module _ {M : Type 1} (𝓤 : URA M) (H : Heap 𝓤) (A : Atoms 𝓤) (W : Given
       abbrev waits : List (Item 𝓤) → List (Item 𝓤)
       waits = given (‵ (froom N′.mir l0 0))
 
-      -- the place where the search stops, what is there, and what `brisk` makes of it
+      -- the place where the search stops, and what is there
       abbrev place-at : ℕ → List (Item 𝓤) → List (Item 𝓤)
       place-at i Γ = ‵ (fat fullShare (tyInt w64) l6 0 (vint w64 i)) ∷ ‵ (fdies (tyInt w64) l6) ∷ Γ
 

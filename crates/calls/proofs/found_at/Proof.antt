@@ -17,7 +17,7 @@ use ghost.Atoms.{Atoms, sem}
 use contract.Monad.{Fun, fact}
 use contract.Running.{givenOf, tables, tablesOf}
 use lib.Dec.{ltb→lt, nltb→le}
-use types.Kit.{Given, Item, Sq, runs, atRet, ‵, raw, _⊛_, some, later, ⋆, _$_, _∵_, !, qed, by, move, keep, drop, use0, use1, split, join, pick, rewrite, fsplit, fjoin, suffices, frame, await, done}
+use types.Kit.{Given, Sq, runs, atRet, ‵, raw, _⊛_, some, later, ⋆, _$_, _∵_, !, qed, by, move, drop, use0, use1, split, join, pick, rewrite, fsplit, fjoin, suffices, frame, await, done}
 use types.Part.{agg, whole, sub, look-in}
 use types.Run.{look, look-raw, init, forget, stop, hop, fld, from, load, lit, of-opd, bin, and-then, no-more, assigns, assigns-last, land-last, first, branches, exec, returns, enter, alloc1, alloc0, params1, pass1, pass0, free1, free0}
 use sound.WpLaws.{FmC, fmOf, WpFn-mono}
@@ -51,7 +51,7 @@ use Rattle.connection.specs.declared.Found.{Found}
 use Rattle.connection.proofs.Found as F
 use Rattle.connection.proofs.Found.Laws as F′
 use Rattle.calls.specs.Lent.{foundAt}
-use Rattle.calls.proofs.Laws.{R, size, vals, val, tells, rec-shows, rec-makes, rec-copy, typed, spelt-rec, at-val, offset-fits}
+use Rattle.calls.proofs.Laws.{R, size, vals, val, tells, rec-shows, rec-copy, typed, spelt-rec, at-val, offset-fits}
 use Rattle.calls.proofs.found_at.Key.{name as #calls·found-at}
 use Rattle.calls.proofs.found_at as self
 use Rattle.calls.proofs.found_at.Statement as stated
