@@ -13,7 +13,7 @@ use Rattle.record.specs.Row.{free-record}
 use Rattle.record.specs.Sound.{Decides}
 use Rattle.connection.specs.declared.Call.{Call}
 use Rattle.connection.specs.Whose.{Wanted, FoundIn}
-use Rattle.calls.specs.Lent.{FirstIn}
+use Rattle.calls.specs.Lent.{FirstIn, foundAt}
 
 pub held-yes : {A : Type 0} {b : Bool} → Decides A b → Holds b → A
 held-yes {b = true} d h = d .yes refl
@@ -49,5 +49,5 @@ module _ (call : Call) (id : ℕ) (rows : List Record) where
   miss i c h = record { within = c .within; before = c .before; there = λ l. absurd (omega arith) }
 
   -- what is found, where the search stopped at i
-  pub finds : (i : ℕ) (r : Record) → FirstIn call id rows i → r ≡ getD rows i free-record → FoundIn call id rows (record { len = length rows; at = i; row = r })
-  finds i r f e = record { long = refl; within = f .within; before = f .before; there = f .there; row = e }
+  pub finds : (i : ℕ) → FirstIn call id rows i → FoundIn call id rows (foundAt rows i)
+  finds i f = record { long = refl; within = f .within; before = f .before; there = f .there; row = refl }

@@ -15,10 +15,9 @@ ghost use lib.ListN.{length, set, getD};
 ghost use Rattle.record.specs.Row.{free-record};
 ghost use Rattle.record.specs.Sound.{cellsIn};
 ghost use Rattle.record.specs.Body.{contentIn};
-ghost use Rattle.connection.specs.Whose.{FoundIn};
 ghost use Rattle.connection.specs.Turned.{turn, Turned, sweptOf};
 ghost use Rattle.calls.specs.Layout.{connectionSize, recordSize, reportSize, writtenSize};
-ghost use Rattle.calls.specs.Lent.{FirstIn};
+ghost use Rattle.calls.specs.Lent.{FirstIn, foundAt};
 ghost use Rattle.calls.specs.Promises.{Started, Stepped, Opened, Fed, Given, Ended, Reset, SaidGoaway, writtenOf, WroteHeader, WroteIntegerFrame, WroteOpening};
 
 // ---- the row
@@ -37,11 +36,20 @@ fn find(row: &[Record], call: Call, id: u64) -> usize
     i
 }
 
-// The record at i, and `or` past the end.
-fn fetch(row: &[Record], i: usize, or: Record) -> Record
-    ensures { λ r. ⌜ r ≡ getD (now (row .entry)) i or ⌝ }
+// What is at a place of the row: past the end a free record.
+fn found_at(row: &[Record], at: usize) -> Found
+    ensures { λ r. ⌜ r ≡ foundAt (now (row .entry)) at ⌝ }
 {
-    if i < row.len() { row[i] } else { or }
+    let r = if at < row.len() {
+        row[at]
+    } else {
+        record::free()
+    };
+    Found {
+        len: row.len(),
+        at,
+        row: r,
+    }
 }
 
 // Nothing is stored past the end.
@@ -61,18 +69,6 @@ fn store_content(row: &mut [Record], i: usize, r: Record)
         row[i].acc = r.acc;
         row[i].mode = r.mode;
         row[i].sum = r.sum;
-    }
-}
-
-fn seek(row: &[Record], call: Call, id: u64) -> Found
-    ensures { λ r. ⌜ FoundIn call id (now (row .entry)) r ⌝ }
-{
-    let at = find(row, call, id);
-    let r = fetch(row, at, record::free());
-    Found {
-        len: row.len(),
-        at,
-        row: r,
     }
 }
 
@@ -109,6 +105,24 @@ fn settle(conn: &mut Connection, f: Found, call: Call, id: u64, allow: u64, piec
     }
 }
 
+// A call on what is at a place of the row, where the search of it stopped.
+fn step_at(
+    conn: &mut Connection,
+    row: &mut [Record],
+    at: usize,
+    call: Call,
+    id: u64,
+    allow: u64,
+    piece: &[u8],
+) -> Report
+    ensures { λ r. ⌜ (FirstIn call id (now (row .entry)) at → Stepped (now (conn .entry)) (now (row .entry)) call id allow (now (piece .entry)) (now (conn .exit)) (now (row .exit)) r) ⌝ }
+{
+    let f = found_at(&*row, at);
+    let b = settle(conn, f, call, id, allow, piece);
+    store(row, at, b.row);
+    b.report
+}
+
 pub fn step(
     conn: &mut Connection,
     row: &mut [Record],
@@ -119,10 +133,8 @@ pub fn step(
 ) -> Report
     ensures { λ r. ⌜ Stepped (now (conn .entry)) (now (row .entry)) call id allow (now (piece .entry)) (now (conn .exit)) (now (row .exit)) r ⌝ }
 {
-    let f = seek(&*row, call, id);
-    let b = settle(conn, f, call, id, allow, piece);
-    store(row, f.at, b.row);
-    b.report
+    let at = find(&*row, call, id);
+    step_at(conn, row, at, call, id, allow, piece)
 }
 
 // ---- what a host calls
@@ -155,12 +167,15 @@ pub extern "C" fn eistulko_feed(
     ensures { λ r. ⌜ Fed (now (conn .entry)) (now (row .entry)) id (now (piece .entry)) allow (now (conn .exit)) (now (row .exit)) r ⌝ }
 {
     if row.len() == 24 {
-        let f = seek(&*row, Call::On(Own::Feed), id);
+        let at = find(&*row, Call::On(Own::Feed), id);
+        let f = found_at(&*row, at);
         let b = connection::brisk(conn.doors.code, f, allow, piece);
         if b.report.number == 0 {
-            store_content(row, f.at, b.row);
+            store_content(row, at, b.row);
             return b.report;
         }
+        let t = step_at(conn, row, at, Call::On(Own::Feed), id, allow, piece);
+        return t;
     }
     let t = step(conn, row, Call::On(Own::Feed), id, allow, piece);
     t
