@@ -95,7 +95,7 @@ frame-read : replied one-spent (requestAs CoreOwn.Feed 1 frame asking (between o
 unfolding lookup extra column kindOf ruleFor rule numberOf answers-of namedIn named leaves after fed typed machine.over with-left F.halt F.also F.onward F.over-event F.left-event F.behind-header F.feed saidBy unlessDue keeps keptIf byOwn
 frame-read = refl
 
-fed-so : Does one-spent one-open (on 0 (feed 1 frame)) (a-report (told 0 0 0 0 2 1 0)) one-spent one-open
+pub fed-so : Does one-spent one-open (on 0 (feed 1 frame)) (a-report (told 0 0 0 0 2 1 0)) one-spent one-open
 unfolding Wanted
 fed-so = feeds (record {
   found = at-first asking;

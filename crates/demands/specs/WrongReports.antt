@@ -8,7 +8,7 @@ use mathlib.Core.Bool.{true, false}
 use mathlib.Core.Option.{Option, some}
 use lib.ListN.{length, take}
 use lib.Seq.{take-at}
-use Rattle.rules.specs.Numbers.{NOT-OPEN, FRAME-UNEXPECTED, frame-unexpected}
+use Rattle.rules.specs.Numbers.{NOT-OPEN, REQUEST-REJECTED, FRAME-UNEXPECTED, frame-unexpected}
 use Rattle.rules.specs.Integers.{extra, more, integer}
 use Rattle.rules.specs.Frames.{Frames, Frames.none as no-more, Frames.frame as a-frame, in-payload, framesUpTo, framesFrom}
 use Rattle.rules.specs.Message.{body}
@@ -23,18 +23,18 @@ use Rattle.requests.specs.Opens.{state-back}
 use Rattle.connection.specs.declared.Connection.{Connection}
 use Rattle.connection.specs.declared.Report.{Report}
 use Rattle.connection.specs.Faults.{withCode}
-use Rattle.connection.specs.Turned.{numbered}
+use Rattle.connection.specs.Turned.{told, numbered}
 use Rattle.demands.specs.Streams.{streams}
 use Rattle.demands.specs.Demands.{Calls}
 use Rattle.demands.specs.Means.{slotAt, noticed, reported, reportOf}
-use Rattle.demands.specs.Runs.{Seen}
-use Rattle.demands.specs.Host.{Run}
+use Rattle.demands.specs.Runs.{Seen, a-number, a-report, a-written, seenOf, numberIn}
+use Rattle.demands.specs.Host.{Run, answers}
 use Rattle.demands.specs.Host as host
-use Rattle.demands.specs.Instances.{shows, block, headed}
-use Rattle.demands.specs.RunInMemory.{one-open, one-spent, frame, opened-run, dead-run}
+use Rattle.demands.specs.Instances.{shows, unstated, block, headed}
+use Rattle.demands.specs.RunInMemory.{one-open, one-spent, frame, fed-so, opened-run, dead-run}
 use Rattle.demands.specs.ExportedStops.{RequestStops, OneWayStops}
 use Rattle.demands.specs.Exported.{GoawayRead}
-use Rattle.demands.specs.ExportedAnswers.{FeedAnswered, ResetAnswered}
+use Rattle.demands.specs.ExportedAnswers.{AsTraced, FeedAnswered, ResetAnswered}
 use Rattle.demands.specs.ExportedRecords.{LeavesAsTraced}
 
 -- ---- SEVEN ZEROS to a feed that is given a byte and an allowance of 1 or more
@@ -70,6 +70,21 @@ zeros-for-content s c′ rows′ = zeros-break s 0 refl (0x00 ∷ 0x03 ∷ 0x61 
 pub zeros-for-frame : (c′ : Connection) (rows′ : List Record) → ¬ (RequestStops one-spent one-open 0 frame 1 (numbered 0) c′ rows′)
 unfolding shows
 zeros-for-frame c′ rows′ = zeros-break opened-run 0 refl frame 1 (omega arith) (omega arith) c′ rows′ refl
+
+-- ---- A HEADER READ AND NOT COUNTED, at the same frame
+headsIn : Seen → ℕ
+headsIn (a-number n) = 0
+headsIn (a-report r) = r .heads
+headsIn (a-written w) = 0
+
+pub not-counted : (c′ : Connection) (rows′ : List Record) → ¬ (AsTraced one-spent one-open (on 0 (feed 1 frame)) (a-report (told 0 0 0 0 2 0 0)) c′ rows′)
+unfolding headsIn
+not-counted c′ rows′ p = let z = ap headsIn (p _ _ opened-run ∙ sym (answers opened-run fed-so)) in omega arith
+
+-- ---- AN UPLOAD WITHOUT A LENGTH accepted at its section (document 02, Q-1), in any run of an opening and HEADERS
+pub unstated-accepted : {xs : List Seen} {c : Connection} {rows : List Record} → Run headed xs c rows → (c′ : Connection) (rows′ : List Record) → ¬ (AsTraced c rows (on 0 (section unstated)) (a-report (numbered 0)) c′ rows′)
+unfolding shows unstated headed seenOf reportOf headsIn numberIn
+unstated-accepted {xs} s c′ rows′ p = let z : 0 ≡ REQUEST-REJECTED = ap numberIn (p headed xs s) in omega arith
 
 -- ---- A RESET OF AN OPEN REQUEST, reported as not open
 pub reset-as-one : (c′ : Connection) (rows′ : List Record) → ¬ (ResetAnswered one-spent one-open 0 (numbered NOT-OPEN) c′ rows′)
