@@ -1,5 +1,5 @@
 -- An integer that is whole in a slice: where it ends, and its value. Assumes nothing.
-use Prim.Native.Nat.{ℕ, zero, suc, _+_, _-_, _*_, _%_, _^_, _<_, _≤_}
+use Prim.Native.Nat.{ℕ, zero, suc, _+_, _-_, _*_, _%_, _^_, _<_, _≤_, _/_}
 use mathlib.Core.Path.{_≡_, refl, sym, ap, _∙_}
 use mathlib.Core.List.{List, [], _∷_}
 use native.Mathlib.Numerals.{add-one}
@@ -165,6 +165,20 @@ pub value-one : (s : List ℕ) (at x : ℕ) → x ≡ getD s at 0 → x < 64 →
 value-one s at x e h w =
     let m : x % 64 ≡ x = omega arith in
     rw m at (way-end s at 0 (x % 64) (at + 1) (omega arith) (way-start s at x 0 e (sym (extra-none x h)) (omega arith) w))
+
+-- two bytes are
+module _ (s : List ℕ) (at x : ℕ) (e : x ≡ getD s at 0) (lo : 64 ≤ x) (hi : x < 128) (w : 0 < endOf (wholeAt s at)) where
+  two-way : OnWay s at 1 (x % 64) (at + 1)
+  unfolding extra
+  two-way = way-start s at x 1 e (let q : x / 64 ≡ 1 = omega arith in rw q refl) (omega arith) w
+
+  pub two-within : at + 1 < length s
+  two-within = let l = two-way .within in omega arith
+
+  pub value-two : (b : ℕ) → b ≡ getD s (at + 1) 0 → b < 256 → Valued s at ((x - 64) * 256 + b)
+  value-two b f h =
+      let m : x % 64 ≡ x - 64 = omega arith in
+      rw m at (way-end s at 0 (x % 64 * 256 + b) (at + 1 + 1) (omega arith) (way-step s at 1 (x % 64) (at + 1) b (omega arith) f h two-way))
 
 -- ---- both numbers are the integer
 

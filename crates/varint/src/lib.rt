@@ -114,7 +114,14 @@ pub fn value(s: &[u8], at: usize) -> u64
     ensures { λ r. ⌜ Valued (now (s .entry)) at r ⌝ }
 {
     let x = wide(s[at]);
-    if x < 64 { x } else { long(s, at) }
+    if x < 64 {
+        return x;
+    }
+    // two bytes have a way of their own: most lengths of DATA are so written
+    if x < 128 {
+        return (x - 64) * 256 + wide(s[at + 1]);
+    }
+    long(s, at)
 }
 
 // The integer at at.
