@@ -54,6 +54,8 @@ use Rattle.varint.proofs.ends as varint-ends
 use Rattle.varint.proofs.ends.Symbol as varint-ends-is
 use Rattle.varint.proofs.value as varint-value
 use Rattle.varint.proofs.value.Symbol as varint-value-is
+use Rattle.varint.proofs.near_value as varint-near-value
+use Rattle.varint.proofs.near_value.Symbol as varint-near-value-is
 use Rattle.varint.proofs.read as varint-read
 use Rattle.varint.proofs.read.Symbol as varint-read-is
 use Rattle.varint.proofs.size as varint-size
@@ -314,6 +316,7 @@ module _ (w : World) where
       ∷ function varint-read-step-is.name varint-read-step.ended (varint-read-step.clauses (w .𝓤) (w .H) (w .𝓖 .A) (w .𝓜 .mem) (w .𝓡 .run)) (λ κs a g r q ws vs. facts (λ x y. (one-step x y, refl)))
       ∷ function varint-ends-is.name varint-ends.ended (varint-ends.clauses (w .𝓤) (w .H) (w .𝓖 .A) (w .𝓜 .mem) (w .𝓡 .run)) (λ κs a g r q ws vs. facts (λ x y. (one-end x y, refl)))
       ∷ function varint-value-is.name varint-value.ended (varint-value.clauses (w .𝓤) (w .H) (w .𝓖 .A) (w .𝓜 .mem) (w .𝓡 .run)) (λ κs a g r q ws vs. facts (λ x y. (one-value x y, refl)))
+      ∷ function varint-near-value-is.name varint-near-value.ended (varint-near-value.clauses (w .𝓤) (w .H) (w .𝓖 .A) (w .𝓜 .mem) (w .𝓡 .run)) (λ κs a g r q ws vs. facts (λ x y. (one-value x y, refl)))
       ∷ function varint-read-is.name varint-read.ended (varint-read.clauses (w .𝓤) (w .H) (w .𝓖 .A) (w .𝓜 .mem) (w .𝓡 .run)) (λ κs a g r q ws vs. facts (λ x y. (one-read-integer (now (a .0)) x y, refl)))
       ∷ function varint-size-is.name varint-size.ended (varint-size.clauses (w .𝓤) (w .H) (w .𝓖 .A) (w .𝓜 .mem) (w .𝓡 .run)) (λ κs a g r q ws vs. equal)
       ∷ function varint-put-is.name varint-put.ended (varint-put.clauses (w .𝓤) (w .H) (w .𝓖 .A) (w .𝓜 .mem) (w .𝓡 .run)) (λ κs a g r q ws vs. facts (λ x y. (refl, ap (λ l. (tt, (l, (tt, tt)))) (one x y))))
@@ -448,7 +451,7 @@ module _ (w : World) where
   functions = of-varint ++ (of-ids ++ (of-wire ++ (of-settings ++ (of-fields ++ (of-section ++ (of-streams ++ (of-record ++ (of-given ++ (of-oneway ++ (of-control ++ (of-requests ++ (of-doors ++ (of-oneways ++ (of-connection ++ (of-board)))))))))))))))
 
   pub listed : _≡_ {A = List Name} (map (λ (f : Function). f .name) functions)
-      ("varint::fresh" ∷ "varint::read_step" ∷ "varint::ends" ∷ "varint::value" ∷ "varint::read" ∷ "varint::size" ∷ "varint::put" ∷ "varint::write" ∷ "wire::ids::is_request" ∷ "wire::write_header" ∷ "wire::write_integer_frame" ∷ "wire::write_opening" ∷ "wire::write_goaway" ∷ "control::settings::judge" ∷ "control::settings::only" ∷ "fields::has_byte" ∷ "fields::begins_with" ∷ "fields::same_bytes" ∷ "fields::any_outside" ∷ "fields::bad_line" ∷ "fields::decimal_of" ∷ "fields::line_spot" ∷ "fields::line_at" ∷ "section::code" ∷ "section::header_section" ∷ "section::trailers" ∷ "frames::ruled" ∷ "frames::end" ∷ "record::cells_in" ∷ "record::free" ∷ "record::is_free" ∷ "record::read" ∷ "record::row" ∷ "record::write" ∷ "record::in_content" ∷ "requests::given::give" ∷ "oneway::close" ∷ "control::judge" ∷ "requests::reset" ∷ "requests::end" ∷ "requests::feed" ∷ "requests::give" ∷ "connection::doors::fresh" ∷ "connection::doors::open" ∷ "connection::doors::send_goaway" ∷ "oneway::calls::fresh" ∷ "oneway::calls::feed" ∷ "oneway::calls::give" ∷ "oneway::calls::close" ∷ "connection::fresh" ∷ "connection::wanted" ∷ "connection::answer" ∷ "connection::decide" ∷ "connection::begin" ∷ "connection::swept" ∷ "connection::say_goaway" ∷ "calls::step" ∷ "calls::eistulko_start" ∷ "calls::eistulko_open" ∷ "calls::eistulko_feed" ∷ "calls::eistulko_give" ∷ "calls::eistulko_end" ∷ "calls::eistulko_reset" ∷ "calls::eistulko_goaway" ∷ "calls::eistulko_write_header" ∷ "calls::eistulko_write_integer_frame" ∷ "calls::eistulko_write_opening" ∷ "calls::eistulko_connection_size" ∷ "calls::eistulko_record_size" ∷ "calls::eistulko_report_size" ∷ "calls::eistulko_written_size" ∷ [])
+      ("varint::fresh" ∷ "varint::read_step" ∷ "varint::ends" ∷ "varint::value" ∷ "varint::near_value" ∷ "varint::read" ∷ "varint::size" ∷ "varint::put" ∷ "varint::write" ∷ "wire::ids::is_request" ∷ "wire::write_header" ∷ "wire::write_integer_frame" ∷ "wire::write_opening" ∷ "wire::write_goaway" ∷ "control::settings::judge" ∷ "control::settings::only" ∷ "fields::has_byte" ∷ "fields::begins_with" ∷ "fields::same_bytes" ∷ "fields::any_outside" ∷ "fields::bad_line" ∷ "fields::decimal_of" ∷ "fields::line_spot" ∷ "fields::line_at" ∷ "section::code" ∷ "section::header_section" ∷ "section::trailers" ∷ "frames::ruled" ∷ "frames::end" ∷ "record::cells_in" ∷ "record::free" ∷ "record::is_free" ∷ "record::read" ∷ "record::row" ∷ "record::write" ∷ "record::in_content" ∷ "requests::given::give" ∷ "oneway::close" ∷ "control::judge" ∷ "requests::reset" ∷ "requests::end" ∷ "requests::feed" ∷ "requests::give" ∷ "connection::doors::fresh" ∷ "connection::doors::open" ∷ "connection::doors::send_goaway" ∷ "oneway::calls::fresh" ∷ "oneway::calls::feed" ∷ "oneway::calls::give" ∷ "oneway::calls::close" ∷ "connection::fresh" ∷ "connection::wanted" ∷ "connection::answer" ∷ "connection::decide" ∷ "connection::begin" ∷ "connection::swept" ∷ "connection::say_goaway" ∷ "calls::step" ∷ "calls::eistulko_start" ∷ "calls::eistulko_open" ∷ "calls::eistulko_feed" ∷ "calls::eistulko_give" ∷ "calls::eistulko_end" ∷ "calls::eistulko_reset" ∷ "calls::eistulko_goaway" ∷ "calls::eistulko_write_header" ∷ "calls::eistulko_write_integer_frame" ∷ "calls::eistulko_write_opening" ∷ "calls::eistulko_connection_size" ∷ "calls::eistulko_record_size" ∷ "calls::eistulko_report_size" ∷ "calls::eistulko_written_size" ∷ [])
   listed = refl
 
   -- ---- and those that do not

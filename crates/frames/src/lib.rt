@@ -708,11 +708,11 @@ pub fn brisk(s: &[u8], c: Cells, allow: u64) -> Answer
     if m == 0 {
         return quiet(0, 0, c);
     }
-    let l = varint::value(s, n);
+    let l = varint::near_value(s, n);
     if l == 0 {
         return quiet(0, 0, c);
     }
-    let k = ruled(c.phase, c.has, c.stated, c.sum, 0, l);
+    let k = ruled(c.phase, c.has, c.stated, c.sum, varint::value(s, 0), l);
     if k == USE_CONTENT {
         handed(s, m, l, IN_CONTENT, more_sum(c, l), 1)
     } else {

@@ -114,10 +114,18 @@ pub fn value(s: &[u8], at: usize) -> u64
     ensures { λ r. ⌜ Valued (now (s .entry)) at r ⌝ }
 {
     let x = wide(s[at]);
+    if x < 64 { x } else { long(s, at) }
+}
+
+// The same, with a way of its own for two bytes: most lengths of DATA are so written.
+pub fn near_value(s: &[u8], at: usize) -> u64
+    requires { ⌜ 0 < endOf (wholeAt (now s) at) ⌝ }
+    ensures { λ r. ⌜ Valued (now (s .entry)) at r ⌝ }
+{
+    let x = wide(s[at]);
     if x < 64 {
         return x;
     }
-    // two bytes have a way of their own: most lengths of DATA are so written
     if x < 128 {
         return (x - 64) * 256 + wide(s[at + 1]);
     }

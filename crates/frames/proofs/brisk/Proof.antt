@@ -1,6 +1,4 @@
 use native.Mathlib.Omega.{arith}
-use mathlib.Core.Path.{sym}
-use Rattle.varint.specs.Whole.{value-one}
 use Prim.Native.Nat.{zero-le}
 use denote.Ref.{now}
 use Rattle.frames.specs.Begun.{numbers-more}
@@ -15,6 +13,7 @@ use Rattle.frames.proofs.more_sum.Reads as more-sum-reads
 use Rattle.frames.proofs.quiet.Reads as quiet-reads
 use Rattle.frames.proofs.ruled.Reads as ruled-reads
 use Rattle.varint.proofs.ends.Reads as ends-reads
+use Rattle.varint.proofs.near_value.Reads as near-value-reads
 use Rattle.varint.proofs.value.Reads as value-reads
 
 -- src/lib.rt:609:9
@@ -94,8 +93,8 @@ returns-8 : tie.Need-returns-8
 returns-8 c = let a = c .before .before .before .before .before .before .before .before .before .before .before .before .before .before .before .before .args in unsaid (a .c) (now (a .s)) (a .allow) (c .quiet7 .ensures)
 
 -- src/lib.rt:634:9
-value-requires : tie.Need-value-requires
-value-requires c κs = omega (arith, c .before .ends2 .ensures .is, c .if8 .left)
+near-value-requires : tie.Need-near-value-requires
+near-value-requires c κs = omega (arith, c .before .ends2 .ensures .is, c .if8 .left)
 
 -- src/lib.rt:636:9
 quiet-requires-8 : tie.Need-quiet-requires-8
@@ -105,17 +104,21 @@ quiet-requires-8 c κs = search needs
 returns-9 : tie.Need-returns-9
 returns-9 c = let a = c .before .before .before .before .before .before .before .before .before .before .before .before .before .before .before .before .before .before .args in unsaid (a .c) (now (a .s)) (a .allow) (c .quiet8 .ensures)
 
+-- src/lib.rt:638:52
+value-requires : tie.Need-value-requires
+value-requires c κs = omega (arith, c .before .before .before .before .before .ends .ensures .is, c .before .before .before .before .if7 .left)
+
 -- src/lib.rt:638:9
 ruled-requires : tie.Need-ruled-requires
-ruled-requires c κs = (c .before .before .before .before .before .before .before .before .before .before .before .before .before .before .before .before .before .pre .sums, c .before .value .ensures .small)
+ruled-requires c κs = (c .before .before .before .before .before .before .before .before .before .before .before .before .before .before .before .before .before .before .pre .sums, c .before .before .near-value .ensures .small)
 
 -- src/lib.rt:640:28
 more-sum-requires : tie.Need-more-sum-requires
-more-sum-requires c κs = let a = c .before .before .before .before .before .before .before .before .before .before .before .before .before .before .before .before .before .before .before .args in data-law (a .c) (now (a .s)) (a .allow) (c .before .before .before .before .before .before .before .before .before .before .before .before .before .before .before .before .before .before .before .pre) (c .before .before .before .before .before .before .before .before .before .before .before .before .before .before .if2 .left) (c .before .before .before .before .before .before .before .before .before .before .before .before .if3 .left) (c .before .before .before .before .before .before .before .before .before .before .before .if4 .left) (c .before .before .before .before .before .before .before .ends .ensures) (c .before .before .before .before .before .before .if7 .left) (c .before .before .before .before .before .ends2 .ensures) (c .before .before .before .before .if8 .left) (c .before .before .before .value .ensures) (value-one (now (a .s)) 0 0 (sym (c .before .before .before .before .before .before .before .before .if6 .left)) (omega arith) (omega (arith, c .before .before .before .before .before .before .before .ends .ensures .is, c .before .before .before .before .before .before .if7 .left))) (c .before .ruled .ensures) (c .if10 .taken) .1
+more-sum-requires c κs = let a = c .before .before .before .before .before .before .before .before .before .before .before .before .before .before .before .before .before .before .before .before .args in data-law (a .c) (now (a .s)) (a .allow) (c .before .before .before .before .before .before .before .before .before .before .before .before .before .before .before .before .before .before .before .before .pre) (c .before .before .before .before .before .before .before .before .before .before .before .before .before .before .before .if2 .left) (c .before .before .before .before .before .before .before .before .before .before .before .before .before .if3 .left) (c .before .before .before .before .before .before .before .before .before .before .before .before .if4 .left) (c .before .before .before .before .before .before .before .before .ends .ensures) (c .before .before .before .before .before .before .before .if7 .left) (c .before .before .before .before .before .before .ends2 .ensures) (c .before .before .before .before .before .if8 .left) (c .before .before .before .before .near-value .ensures) (c .before .before .value .ensures) (c .before .ruled .ensures) (c .if10 .taken) .1
 
 -- src/lib.rt:640:9
 handed-requires-2 : tie.Need-handed-requires-2
-handed-requires-2 c κs = let a = c .before .before .before .before .before .before .before .before .before .before .before .before .before .before .before .before .before .before .before .before .args in let d = data-law (a .c) (now (a .s)) (a .allow) (c .before .before .before .before .before .before .before .before .before .before .before .before .before .before .before .before .before .before .before .before .pre) (c .before .before .before .before .before .before .before .before .before .before .before .before .before .before .before .if2 .left) (c .before .before .before .before .before .before .before .before .before .before .before .before .before .if3 .left) (c .before .before .before .before .before .before .before .before .before .before .before .before .if4 .left) (c .before .before .before .before .before .before .before .before .ends .ensures) (c .before .before .before .before .before .before .before .if7 .left) (c .before .before .before .before .before .before .ends2 .ensures) (c .before .before .before .before .before .if8 .left) (c .before .before .before .before .value .ensures) (value-one (now (a .s)) 0 0 (sym (c .before .before .before .before .before .before .before .before .before .if6 .left)) (omega arith) (omega (arith, c .before .before .before .before .before .before .before .before .ends .ensures .is, c .before .before .before .before .before .before .before .if7 .left))) (c .before .before .ruled .ensures) (c .before .if10 .taken) in (c .before .before .before .before .before .before .ends2 .ensures .within, c .before .before .before .before .value .ensures .small, numbers-more _ _ _ (c .more-sum .ensures) (d .1) (c .before .before .before .before .before .before .before .before .before .before .before .before .before .before .before .before .before .before .before .before .pre .stateds), (omega arith, omega arith, (λ e. omega arith), (λ e. omega arith)), λ e. omega (arith, c .before .before .before .if9 .left))
+handed-requires-2 c κs = let a = c .before .before .before .before .before .before .before .before .before .before .before .before .before .before .before .before .before .before .before .before .before .args in let d = data-law (a .c) (now (a .s)) (a .allow) (c .before .before .before .before .before .before .before .before .before .before .before .before .before .before .before .before .before .before .before .before .before .pre) (c .before .before .before .before .before .before .before .before .before .before .before .before .before .before .before .before .if2 .left) (c .before .before .before .before .before .before .before .before .before .before .before .before .before .before .if3 .left) (c .before .before .before .before .before .before .before .before .before .before .before .before .before .if4 .left) (c .before .before .before .before .before .before .before .before .before .ends .ensures) (c .before .before .before .before .before .before .before .before .if7 .left) (c .before .before .before .before .before .before .before .ends2 .ensures) (c .before .before .before .before .before .before .if8 .left) (c .before .before .before .before .before .near-value .ensures) (c .before .before .before .value .ensures) (c .before .before .ruled .ensures) (c .before .if10 .taken) in (c .before .before .before .before .before .before .before .ends2 .ensures .within, c .before .before .before .before .before .near-value .ensures .small, numbers-more _ _ _ (c .more-sum .ensures) (d .1) (c .before .before .before .before .before .before .before .before .before .before .before .before .before .before .before .before .before .before .before .before .before .pre .stateds), (omega arith, omega arith, (λ e. omega arith), (λ e. omega arith)), λ e. omega (arith, c .before .before .before .before .if9 .left))
 
 -- src/lib.rt:642:9
 quiet-requires-9 : tie.Need-quiet-requires-9
@@ -123,11 +126,11 @@ quiet-requires-9 c κs = search needs
 
 -- src/lib.rt:604:1
 returns-10 : tie.Need-returns-10
-returns-10 c = let a = c .before .before .before .before .before .before .before .before .before .before .before .before .before .before .before .before .before .before .before .before .before .args in λ said. fed-data (a .c) (now (a .s)) (a .allow) (c .before .before .before .before .before .before .before .before .before .before .before .before .before .before .before .before .before .before .before .before .before .pre) (c .before .before .before .before .before .before .before .before .before .before .before .before .before .before .before .before .if2 .left) (c .before .before .before .before .before .before .before .before .before .before .before .before .before .before .if3 .left) (c .before .before .before .before .before .before .before .before .before .before .before .before .before .if4 .left) (c .before .before .before .before .before .before .before .before .before .ends .ensures) (c .before .before .before .before .before .before .before .before .if7 .left) (c .before .before .before .before .before .before .before .ends2 .ensures) (c .before .before .before .before .before .before .if8 .left) (c .before .before .before .before .before .value .ensures) (value-one (now (a .s)) 0 0 (sym (c .before .before .before .before .before .before .before .before .before .before .if6 .left)) (omega arith) (omega (arith, c .before .before .before .before .before .before .before .before .before .ends .ensures .is, c .before .before .before .before .before .before .before .before .if7 .left))) (c .before .before .before .ruled .ensures) (c .before .before .if10 .taken) (c .before .before .before .before .if9 .left) (c .before .more-sum .ensures) (c .handed2 .ensures)
+returns-10 c = let a = c .before .before .before .before .before .before .before .before .before .before .before .before .before .before .before .before .before .before .before .before .before .before .args in λ said. fed-data (a .c) (now (a .s)) (a .allow) (c .before .before .before .before .before .before .before .before .before .before .before .before .before .before .before .before .before .before .before .before .before .before .pre) (c .before .before .before .before .before .before .before .before .before .before .before .before .before .before .before .before .before .if2 .left) (c .before .before .before .before .before .before .before .before .before .before .before .before .before .before .before .if3 .left) (c .before .before .before .before .before .before .before .before .before .before .before .before .before .before .if4 .left) (c .before .before .before .before .before .before .before .before .before .before .ends .ensures) (c .before .before .before .before .before .before .before .before .before .if7 .left) (c .before .before .before .before .before .before .before .before .ends2 .ensures) (c .before .before .before .before .before .before .before .if8 .left) (c .before .before .before .before .before .before .near-value .ensures) (c .before .before .before .before .value .ensures) (c .before .before .before .ruled .ensures) (c .before .before .if10 .taken) (c .before .before .before .before .before .if9 .left) (c .before .more-sum .ensures) (c .handed2 .ensures)
 
 -- src/lib.rt:604:1
 returns-11 : tie.Need-returns-11
-returns-11 c = let a = c .before .before .before .before .before .before .before .before .before .before .before .before .before .before .before .before .before .before .before .before .args in unsaid (a .c) (now (a .s)) (a .allow) (c .quiet9 .ensures)
+returns-11 c = let a = c .before .before .before .before .before .before .before .before .before .before .before .before .before .before .before .before .before .before .before .before .before .args in unsaid (a .c) (now (a .s)) (a .allow) (c .quiet9 .ensures)
 
 pub brisk-spec : {M : Type 1} → statement M
 brisk-spec =
@@ -152,9 +155,10 @@ brisk-spec =
     ends-requires-2
     quiet-requires-7
     returns-8
-    value-requires
+    near-value-requires
     quiet-requires-8
     returns-9
+    value-requires
     ruled-requires
     more-sum-requires
     handed-requires-2

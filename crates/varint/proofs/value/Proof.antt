@@ -1,9 +1,7 @@
--- One byte is its own value; two have a way of their own. Assumes nothing.
-use Prim.Native.Nat.{_+_}
-use native.Mathlib.Omega.{arith}
+-- One byte is its own value. Assumes nothing.
 use denote.Ref.{now}
 use borrow.Author.Needs.{needs}
-use Rattle.varint.specs.Whole.{inside, value-one, two-within, value-two}
+use Rattle.varint.specs.Whole.{inside, value-one}
 use Rattle.varint.proofs.value.Statement.{statement}
 use Rattle.varint.proofs.value.Tie as tie
 
@@ -13,45 +11,15 @@ shared-slice-read-wide c = inside (now (c .before .before .args .s)) (c .before 
 wide-requires : tie.Need-wide-requires
 wide-requires c κs = search needs
 
-returns : tie.Need-returns
-returns c = let s = c .before .before .before .before in value-one (now (s .args .s)) (s .args .at) _ (c .before .wide .ensures) (c .if1 .taken) (s .pre)
-
-mul-result : tie.Need-mul-result
-mul-result c = search needs
-
-add-wide : tie.Need-add-wide
-add-wide c = let s = c .before .before .before .before .before in omega (arith, two-within (now (s .args .s)) (s .args .at) _ (c .before .before .wide .ensures) (c .before .if1 .left) (c .if2 .taken) (s .pre))
-
-shared-slice-read-wide-2 : tie.Need-shared-slice-read-wide-2
-shared-slice-read-wide-2 c = let s = c .before .before .before .before .before .before in two-within (now (s .args .s)) (s .args .at) _ (c .before .before .before .wide .ensures) (c .before .before .if1 .left) (c .before .if2 .taken) (s .pre)
-
-wide-requires-2 : tie.Need-wide-requires-2
-wide-requires-2 c κs = search needs
-
-add-result : tie.Need-add-result
-add-result c = let s = c .before .before .before .before .before .before .before in omega (arith, c .wide2 .ensures, c .before .shared-slice-known3 .given (s .args .at + 1) .fits, c .before .before .if2 .taken)
-
-returns-2 : tie.Need-returns-2
-returns-2 c = let s = c .before .before .before .before .before .before .before in value-two (now (s .args .s)) (s .args .at) _ (c .before .before .before .before .wide .ensures) (c .before .before .before .if1 .left) (c .before .before .if2 .taken) (s .pre) _ (c .wide2 .ensures) (omega (arith, c .wide2 .ensures, c .before .shared-slice-known3 .given (s .args .at + 1) .fits))
-
 long-requires : tie.Need-long-requires
 long-requires c κs = search needs
 
-returns-3 : tie.Need-returns-3
-returns-3 c = search needs
+returns : tie.Need-returns
+returns c = let s = c .before .before .before .before in value-one (now (s .args .s)) (s .args .at) _ (c .before .wide .ensures) (c .if1 .taken) (s .pre)
+
+returns-2 : tie.Need-returns-2
+returns-2 c = search needs
 
 pub value-spec : {M : Type 1} → statement M
 value-spec =
-    tie.close
-    (tie.spec
-    shared-slice-read-wide
-    wide-requires
-    returns
-    mul-result
-    add-wide
-    shared-slice-read-wide-2
-    wide-requires-2
-    add-result
-    returns-2
-    long-requires
-    returns-3)
+    tie.close (tie.spec shared-slice-read-wide wide-requires long-requires returns returns-2)
