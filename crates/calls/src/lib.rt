@@ -1,5 +1,7 @@
 // Every call, lent the connection's record and the host's row of stream records (document 01, "Calls and the host's memory").
 // One record is found, stepped by value and stored back; the others are not touched.
+#![tactic(auto)]
+
 ghost use Rattle.std.specs.Prelude.{◌≡◌, map, length, set, get_or};
 ghost use Rattle.record.specs.Row.{free_record};
 ghost use Rattle.record.specs.Sound.{cells_in};

@@ -1,4 +1,6 @@
 // The connection record and every call by value (document 01, "Calls and the host's memory").
+#![tactic(auto)]
+
 pub mod doors;
 
 ghost use Rattle.std.specs.Prelude.{◌≡◌, length};

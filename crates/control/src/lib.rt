@@ -1,4 +1,6 @@
 // A control stream's complete payloads (document 01, "Frames"): SETTINGS, a client's GOAWAY, MAX_PUSH_ID and CANCEL_PUSH, judged by value.
+#![tactic(auto)]
+
 pub mod settings;
 
 ghost use Rattle.std.specs.Prelude.{◌≡◌};

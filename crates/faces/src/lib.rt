@@ -1,4 +1,6 @@
 // The lent calls over values, as covered code calls them: locals are lent, and taken back. Of the records, the first n are the row.
+#![tactic(auto)]
+
 ghost use Rattle.std.specs.Prelude.{◌≤◌, take};
 ghost use Rattle.calls.specs.Lent.{Stepped, Started, SaidGoaway};
 ghost use Rattle.faces.specs.Behind.{Behind};

@@ -1,4 +1,6 @@
 // The bytes of field names and values (RFC 9110), and the section block that a HEADERS payload decodes to.
+#![tactic(auto)]
+
 ghost use Rattle.std.specs.Prelude.{◌≡◌, ◌||◌, ◌+◌, ◌*◌, ◌-◌, ◌<◌, ◌≤◌, ◌^◌, T, eqb, length, get_or};
 ghost use Rattle.rules.specs.Text.{any, same};
 ghost use Rattle.rules.specs.Classes.{is_blank, is_capital};

@@ -1,4 +1,6 @@
 // The frames of a request or control stream (document 01, "Frames"), read in pieces.
+#![tactic(auto)]
+
 ghost use Rattle.std.specs.Prelude.{◌≡◌, ◌+◌, ◌≤◌, ◌<◌, ◌^◌, length};
 ghost use Rattle.rules.specs.Events.{NOTHING, CONTENT};
 ghost use Rattle.frames.specs.Both.{rule};

@@ -1,4 +1,6 @@
 // What is on standard input, read into lent room.
+#![tactic(auto)]
+
 ghost use Rattle.std.specs.Prelude.{length};
 ghost use Rattle.input.specs.Came.{Came};
 

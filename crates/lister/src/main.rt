@@ -1,5 +1,7 @@
 // Lists the frames of the request stream on standard input (document 01, "The writer and the lister"). It reads, and prints what `listing`
 // says.
+#![tactic(auto)]
+
 use input::Input;
 use libc::{STDERR_FILENO, STDOUT_FILENO};
 use listing::Line;

@@ -1,4 +1,6 @@
 // The lines of `lister` (document 01, "The writer and the lister"): the frames of one request stream, each section sound and without Content-Length.
+#![tactic(auto)]
+
 ghost use Rattle.std.specs.Prelude.{◌≡◌, ◌+◌, ◌≤◌, ◌<◌, ◌^◌, min, [], ◌∷◌, length};
 ghost use Rattle.frames.specs.Modes.{UNSET};
 ghost use Rattle.meaning.specs.FrameLaws.{head};

@@ -108,6 +108,9 @@ completes (suc f) at (b ∷ bs) a = go (completes f) (view f at b bs) a
   where
     go : ((at : ℕ) (xs : List ℕ) → AllThere (frames_up_to f at xs) → Complete (frames_up_to f at xs)) → {fs : Frames} → View f at (b ∷ bs) fs → AllThere fs → Complete fs
     go ih (a_frame {len = len} {from = from} {pay = pay} e y l) (AllThere.one a) = Complete.one (length-take-le len pay l) (ih (from + len) (drop len pay) a)
+    go ih (cut_type _) a = elim a [ ]
+    go ih (cut_length _ _) a = elim a [ ]
+    go ih (cut_payload _ _ _) a = elim a [ ]
 
 pub complete_from : (at : ℕ) (bs : List ℕ) → AllThere (frames_from at bs) → Complete (frames_from at bs)
 unfolding frames_from
@@ -130,6 +133,9 @@ append_view f g at b s t ih h k (a_frame {t = ty} {here = here} {len = len} {fro
     let dk = drop-append-le len pay t l in
     view_is g at b (s ++ t) (a_frame (integer_append at (b ∷ s) t e) (integer_append here rest t y) (omega arith))
     ∙ rw (tk, dk, ← z) (ap (frame (head at from ty len) (take len pay)) i)
+append_view f g at b s t ih h k (cut_type _) a = elim a [ ]
+append_view f g at b s t ih h k (cut_length _ _) a = elim a [ ]
+append_view f g at b s t ih h k (cut_payload _ _ _) a = elim a [ ]
 
 append_nothing : (f g at : ℕ) (t : List ℕ) → length t ≤ g → frames_up_to g at t ≡ join (frames_up_to f at []) (frames_from (at + 0) t)
 unfolding frames_from join

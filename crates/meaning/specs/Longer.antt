@@ -236,6 +236,8 @@ module _ (R : Rules) (n : ℕ) (gs : Frames) where
 join_data : (fs gs : Frames) → AllThere fs → data_of (join fs gs) ≡ data_of fs ++ data_of gs
 unfolding join data_of
 join_data no_more gs a = refl
+join_data in_header gs a = elim a [ ]
+join_data (in_payload _ part) gs a = elim a [ ]
 join_data (frame h payload fs) gs (AllThere.one a) = go (eqb h.type 0) refl (join_data fs gs a)
   where
     go : (x : Bool) → eqb h.type 0 ≡ x → data_of (join fs gs) ≡ data_of fs ++ data_of gs

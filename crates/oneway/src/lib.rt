@@ -1,4 +1,6 @@
 // A client's one-way stream (document 01, "Frames"): its type, then as its type says; by value.
+#![tactic(auto)]
+
 pub mod calls;
 
 ghost use Rattle.std.specs.Prelude.{◌≡◌, ◌≤◌, length};

@@ -1,4 +1,6 @@
 // A stream as a record of a host's row: integers alone, in one place and order for every host, and one record for each state.
+#![tactic(auto)]
+
 ghost use Rattle.std.specs.Prelude.{◌≡◌, true, ◌<◌, ◌≤◌, ◌^◌};
 ghost use Rattle.varint.specs.ByByte.{part, prog, part_of, Good};
 ghost use Rattle.frames.specs.Answers.{Sane};

@@ -1,4 +1,6 @@
 // Drives the calls by the script on standard input. It reads, and prints what `replaying` says.
+#![tactic(auto)]
+
 use input::Input;
 use libc::{STDERR_FILENO, STDOUT_FILENO};
 

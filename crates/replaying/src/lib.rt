@@ -1,4 +1,6 @@
 // The lines of `replay`: a script's calls made one by one, and a line printed for each.
+#![tactic(auto)]
+
 ghost use Rattle.std.specs.Prelude.{◌≡◌, ◌+◌, ◌*◌, ◌<◌, ◌≤◌, [], ◌∷◌, ◌++◌, length, take, replicate};
 ghost use Rattle.rules.specs.Integers.{integer};
 ghost use Rattle.varint.specs.Write.{Meets};

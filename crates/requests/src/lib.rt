@@ -1,4 +1,6 @@
 // The calls of one request stream over its record (document 01, "Calls and the host's memory"), by value: a number, and the record that it leaves.
+#![tactic(auto)]
+
 pub mod given;
 
 ghost use Rattle.std.specs.Prelude.{◌≡◌};

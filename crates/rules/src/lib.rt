@@ -1,4 +1,6 @@
 // The rules are in specs/. Here are the names that the code has for document 01's numbers (specs/Numbers, in the same order).
+#![tactic(auto)]
+
 pub mod reasons;
 
 pub const ACCEPTED: u64 = 0;

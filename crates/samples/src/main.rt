@@ -1,4 +1,6 @@
 // RFC 9000's sample integers and document 01's worked bytes, one line each; what is to come is in the file stdout.
+#![tactic(auto)]
+
 use control::settings::{Judged, SectionSize, Settings, Single};
 use fields::Record;
 use libc::STDOUT_FILENO;

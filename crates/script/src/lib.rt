@@ -1,4 +1,6 @@
 // The script of `replay`: a call a line, its words separated by one space; numbers in decimal, bytes in hexadecimal.
+#![tactic(auto)]
+
 ghost use Rattle.std.specs.Prelude.{◌≡◌, ◌+◌, ◌*◌, ◌<◌, ◌≤◌, length};
 ghost use Rattle.script.specs.Words.{DigitIs, HalfIs, NumberAt, BytesAt, ValuesAt, no_line, EndedAs, LineAt};
 

@@ -1,5 +1,7 @@
 // Header sections and trailers (document 01, "Requests"; document 02, Q-1 and Q-2): one walk of a section block's lines collects what the rules ask of them. Of the
 // checks that are broken the lowest in document 01's order is the reason.
+#![tactic(auto)]
+
 ghost use Rattle.std.specs.Prelude.{◌≡◌, not, ◌||◌, ◌&&◌, [], ◌+◌, ◌<◌, ◌^◌, T, length};
 ghost use Rattle.rules.specs.Text.{all};
 ghost use Rattle.rules.specs.Block.{lines};

@@ -182,13 +182,13 @@ module _ {M : Machine} where
   alone_none (o ∷ os) = refl
 
   -- with nothing in the row, a call on the stream alters nothing
-  none_left : (p p' : Pair M) (a : Answer) (id : ℕ) (o : Own M) → find id p.row ≡ none → Went p (on id o) a p' → find id p'.row ≡ none
-  none_left p p' a id o n (still_dead e) = n
-  none_left p p' a id o n (by_house e) = n
-  none_left p p' a id o n (faulting {s = s} e f) = absurd (none-ne-some s (sym n ∙ f))
-  none_left p p' a id o n (dying e f) = n
-  none_left p p' a id o n (stepping {s = s} x e f w) = absurd (none-ne-some s (sym n ∙ f))
-  none_left p p' a id o n (leaving {s = s} e f) = absurd (none-ne-some s (sym n ∙ f))
+  none_left : (p : Pair M) (id : ℕ) (p' : Pair M) (a : Answer) (o : Own M) → find id p.row ≡ none → Went p (on id o) a p' → find id p'.row ≡ none
+  none_left p id p' a o n (still_dead e) = n
+  none_left p id p' a o n (by_house e) = n
+  none_left p id p' a o n (faulting {s = s} e f) = absurd (none-ne-some s (sym n ∙ f))
+  none_left p id p' a o n (dying e f) = n
+  none_left p id p' a o n (stepping {s = s} x e f w) = absurd (none-ne-some s (sym n ∙ f))
+  none_left p id p' a o n (leaving {s = s} e f) = absurd (none-ne-some s (sym n ∙ f))
 
   pub independent : (id : ℕ) (cs : List (Call M)) (p : Pair M) (x : Option M.Request) → Sound p → Spent p.conn id → NoStart cs → Alive (run p cs)
       → find id p.row ≡ asked x → find id (run p cs).row ≡ asked (alone x (own id cs))
@@ -220,7 +220,7 @@ module _ {M : Machine} where
           → ((y : Option M.Request) → find id (call (on j o) p).after.row ≡ asked y → find id (run (call (on j o) p).after cs).row ≡ asked (alone y (own id cs)))
           → find id (run (call (on j o) p).after cs).row ≡ asked (alone x (pick d (o ∷ own id cs) (own id cs)))
       go (yes e) none f ih = unfold pick alone asked in
-          ih none (rw e (none_left p (call (on id o) p).after (call (on id o) p).answer id o f (went (on id o) p))) ∙ ap asked (alone_none (own id cs))
+          ih none (rw e (none_left p id (call (on id o) p).after (call (on id o) p).answer o f (went (on id o) p))) ∙ ap asked (alone_none (own id cs))
       go (yes e) (some r) f ih = unfold pick alone in ih (left_by r (act M r o)) (mine e r (unfold asked in f))
       go (no m) x f ih = unfold pick in ih x (others_untouched p (on j o) id m ∙ f)
   independent id (goaway j room ∷ cs) p x i t n a f =

@@ -1,4 +1,6 @@
 // Variable-length integers (document 01, "Integers"; RFC 9000 section 16): read a byte at a time, read whole, and written in the shortest form.
+#![tactic(auto)]
+
 ghost use Rattle.std.specs.Prelude.{◌≡◌, ◌/◌, ◌%◌, ◌^◌, ◌<◌, ◌≤◌, length, drop};
 ghost use Rattle.std.proofs.lemmas.List.Edits.{sets};
 ghost use Rattle.rules.specs.Integers.{extra, integer, written};

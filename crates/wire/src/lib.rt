@@ -1,5 +1,7 @@
 // The frame writer (document 01, "The writer and the lister"): one frame header, one integer frame, our control opening, our GOAWAY.
 // 8 comes before 7, and all is tested before the first byte is stored.
+#![tactic(auto)]
+
 pub mod ids;
 
 ghost use Rattle.std.specs.Prelude.{◌≡◌, length};
