@@ -11,7 +11,7 @@ use wire::ids::StreamId;
 // code: of the connection fault, 0 while there was none. requests and oneways: the lowest ID of each kind that was not opened yet.
 // goaways 0: we sent no GOAWAY; goaway: the last one's.
 #[repr(C)]
-#[derive(Drop)]
+#[derive(Clone, Copy)]
 pub struct Doors {
     pub code: u64,
     pub requests: u64,
@@ -34,7 +34,7 @@ pub fn fresh() -> Doors
 }
 
 // number 0: accepted.
-#[derive(Drop)]
+#[derive(Clone, Copy)]
 pub struct Opening {
     pub number: u64,
     pub doors: Doors,
@@ -139,7 +139,7 @@ pub fn open(d: Doors, id: StreamId, free: u64) -> Opening
 // ---- our GOAWAY
 
 // number 0: accepted, and count bytes are written.
-#[derive(Drop)]
+#[derive(Clone, Copy)]
 pub struct Goaway {
     pub number: u64,
     pub count: usize,

@@ -20,14 +20,14 @@ use requests::Reply;
 use wire::ids::StreamId;
 
 // A call on one stream: an opening, or a call on a stream that was opened.
-#[derive(Drop)]
+#[derive(Clone, Copy)]
 pub enum Call {
     Open,
     On(Own),
 }
 
 // Give: a section is given to it.
-#[derive(Drop)]
+#[derive(Clone, Copy)]
 pub enum Own {
     Feed,
     Give,
@@ -38,7 +38,7 @@ pub enum Own {
 // What a host lends for a connection: integers alone, and each value means something. doors: what every call looks at. side: what only a one-way
 // stream's call does. A code, a flag or a count that no start of ours left has a meaning too (docs/DECISIONS.md, N14).
 #[repr(C)]
-#[derive(Drop)]
+#[derive(Clone, Copy)]
 pub struct Connection {
     pub doors: Doors,
     pub side: Side,
@@ -48,7 +48,7 @@ pub struct Connection {
 // 8: settings, 9: a client's GOAWAY, 10: MAX_PUSH_ID, 11: the request is whole, 12: freed. A part is len bytes of the piece from start on.
 // used and heads: bytes and frame headers of the piece. value: the QPACK stream's type, or the push ID.
 #[repr(C)]
-#[derive(Drop)]
+#[derive(Clone, Copy)]
 pub struct Report {
     pub number: u64,
     pub event: u64,
@@ -60,7 +60,7 @@ pub struct Report {
 }
 
 // What a search of the row found: how many records it has, where the wanted one is (that many, if it is nowhere), and the record.
-#[derive(Drop)]
+#[derive(Clone, Copy)]
 pub struct Found {
     pub len: usize,
     pub at: usize,
@@ -68,7 +68,7 @@ pub struct Found {
 }
 
 // What a call leaves of the doors and of the record, and what it answers, beside any side. aside: the side is asked, and nothing is said yet.
-#[derive(Drop)]
+#[derive(Clone, Copy)]
 pub struct Near {
     pub aside: bool,
     pub doors: Doors,
@@ -77,14 +77,14 @@ pub struct Near {
 }
 
 // What a call leaves of the connection and of the record, and what it answers.
-#[derive(Drop)]
+#[derive(Clone, Copy)]
 pub struct Turn {
     pub conn: Connection,
     pub row: Record,
     pub report: Report,
 }
 
-#[derive(Drop)]
+#[derive(Clone, Copy)]
 pub struct Begun {
     pub number: u64,
     pub conn: Connection,
@@ -92,13 +92,13 @@ pub struct Begun {
 
 // number 0: accepted, and count bytes are written.
 #[repr(C)]
-#[derive(Drop)]
+#[derive(Clone, Copy)]
 pub struct Written {
     pub number: u64,
     pub count: u64,
 }
 
-#[derive(Drop)]
+#[derive(Clone, Copy)]
 pub struct Gone {
     pub doors: Doors,
     pub written: Written,
@@ -386,7 +386,7 @@ pub fn decide(c: Connection, f: Found, call: Call, id: u64, allow: u64, piece: &
 }
 
 // What a feed leaves of the record and answers, where it leaves the connection as it is.
-#[derive(Drop)]
+#[derive(Clone, Copy)]
 pub struct Brief {
     pub row: Record,
     pub report: Report,

@@ -16,7 +16,7 @@ use wire::ids::PushId;
 // What a control stream keeps. set 0: SETTINGS have not come. limited 1: a section size is stated. goaways and pushes: how many of GOAWAY and
 // MAX_PUSH_ID have come, 0 or 1 for any; goaway and push: the last of each.
 #[repr(C)]
-#[derive(Drop)]
+#[derive(Clone, Copy)]
 pub struct Kept {
     pub set: u64,
     pub limited: u64,
@@ -31,7 +31,7 @@ pub struct Kept {
 
 // number 0: good, else the code. event 0: none, 8: settings, 9: a client's GOAWAY, 10: MAX_PUSH_ID; id: the push ID of the last two.
 #[repr(C)]
-#[derive(Drop)]
+#[derive(Clone, Copy)]
 pub struct Verdict {
     pub number: u64,
     pub event: u64,

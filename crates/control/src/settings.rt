@@ -8,14 +8,14 @@ ghost use Rattle.control.specs.Answers.{judged_is, single_is, settings_is};
 ghost use Rattle.control.specs.Walk.{FoundAt, Looked, Walked, chosen, made};
 
 // Identifier 6; absent means unlimited.
-#[derive(Drop)]
+#[derive(Clone, Copy)]
 pub enum SectionSize {
     Unlimited,
     AtMost(u64),
 }
 
 // What is kept of SETTINGS.
-#[derive(Drop)]
+#[derive(Clone, Copy)]
 pub struct Settings {
     pub size: SectionSize,
     // The QPACK table's capacity, identifier 1; absent means 0.
@@ -24,21 +24,21 @@ pub struct Settings {
     pub blocked: u64,
 }
 
-#[derive(Drop)]
+#[derive(Clone, Copy)]
 pub enum Judged {
     Refused(u64),
     Kept(Settings),
 }
 
 // The integer that is the whole of a payload.
-#[derive(Drop)]
+#[derive(Clone, Copy)]
 pub enum Single {
     Is(u64),
     Not,
 }
 
 // What a payload begins with: an identifier and value, behind which the shorter payload starts, or a cut pair.
-#[derive(Drop)]
+#[derive(Clone, Copy)]
 enum Found {
     Pair {
         identifier: u64,

@@ -9,7 +9,7 @@ use connection::{Call, Connection, Report, Written};
 use record::Record;
 
 // What a call leaves of the connection's record and of the records, and what it answers.
-#[derive(Drop)]
+#[derive(Clone, Copy)]
 pub struct Driven {
     pub conn: Connection,
     pub rows: [Record; 32],
@@ -34,7 +34,7 @@ pub fn drive(
     Driven { conn, rows, report }
 }
 
-#[derive(Drop)]
+#[derive(Clone, Copy)]
 pub struct Began {
     pub conn: Connection,
     pub rows: [Record; 32],
@@ -51,7 +51,7 @@ pub fn drive_start(c: Connection, rs: [Record; 32], n: usize) -> Began
     Began { conn, rows, number }
 }
 
-#[derive(Drop)]
+#[derive(Clone, Copy)]
 pub struct Told {
     pub conn: Connection,
     pub written: Written,

@@ -13,7 +13,7 @@ ghost use Rattle.fields.specs.Walk.{record_at};
 ghost use Rattle.fields.specs.Decimal.{capped};
 
 // What a byte may be. A byte can be several of these.
-#[derive(Drop)]
+#[derive(Clone, Copy)]
 pub enum Class {
     Name,
     Token,
@@ -378,7 +378,7 @@ fn blank(b: u8) -> bool
 }
 
 // Which of the rules of names and values a line's bytes break, and the place in the block of the byte that does (document 02, Q-3).
-#[derive(Drop)]
+#[derive(Clone, Copy)]
 pub enum Spot {
     Nowhere,
     EmptyName(usize),
@@ -505,7 +505,7 @@ pub fn decimal_of(v: &[u8]) -> u64
 }
 
 // What is at a place of a block: a field line, with where its name, its value and the next record begin.
-#[derive(Drop)]
+#[derive(Clone, Copy)]
 pub enum Record {
     End,
     Unreadable,

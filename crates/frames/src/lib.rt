@@ -294,7 +294,7 @@ fn payload(
 // A header of which some bytes were read: in its type, in its length, or it is whole, and acc is the length.
 const HEAD_WHOLE: u64 = 2;
 
-#[derive(Drop)]
+#[derive(Clone, Copy)]
 struct Head {
     mode: u64,
     acc: u64,
@@ -302,7 +302,7 @@ struct Head {
     ftype: u64,
 }
 
-#[derive(Drop)]
+#[derive(Clone, Copy)]
 struct HeadEnd {
     head: Head,
     next: usize,
@@ -367,7 +367,7 @@ fn head_on(s: &[u8], at: usize, h: Head) -> HeadEnd
 // acc: the value of an integer's bytes so far, or the payload's bytes to come; due: the integer's bytes to come; ftype: the type before a length.
 // phase, has, stated, sum: the place between two frames, as above.
 #[repr(C)]
-#[derive(Drop)]
+#[derive(Clone, Copy)]
 pub struct Cells {
     pub mode: u64,
     pub acc: u64,
@@ -380,7 +380,7 @@ pub struct Cells {
 }
 
 // An event up to a part of a kept payload (crate rules); of a fault the code is in len. A part is len bytes of the piece from start on.
-#[derive(Drop)]
+#[derive(Clone, Copy)]
 pub struct Answer {
     pub event: u64,
     pub start: usize,
@@ -416,7 +416,7 @@ fn quiet(used: usize, heads: u64, cells: Cells) -> Answer
 }
 
 // How the parts of a payload are reported: the event of the last one, of one before it, and the mode behind the payload.
-#[derive(Drop)]
+#[derive(Clone, Copy)]
 struct Telling {
     last: u64,
     part: u64,
@@ -556,7 +556,7 @@ fn stopped(s: &[u8], number: u64, to: usize, len: u64, rest: u64, c: Cells, head
 }
 
 // Where a feed begins: at a payload, or nowhere (no use), and then the cells are what is left.
-#[derive(Drop)]
+#[derive(Clone, Copy)]
 struct Start {
     at: usize,
     left: u64,

@@ -6,7 +6,7 @@ ghost use Rattle.input.specs.Came.{Came};
 
 use libc::STDIN_FILENO;
 
-#[derive(Drop)]
+#[derive(Clone, Copy)]
 pub enum Input {
     Bytes(usize),
     Failed,

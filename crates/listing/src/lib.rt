@@ -10,7 +10,7 @@ ghost use Rattle.listing.specs.Text.{decimal, spaced, word, text_of};
 ghost use Rattle.listing.specs.Put.{Put};
 
 // What a payload is for.
-#[derive(Drop)]
+#[derive(Clone, Copy)]
 pub enum Usage {
     Skipped,
     Content,
@@ -22,7 +22,7 @@ pub enum Usage {
 // The phase is a request's, or the heading is due. sum: of the DATA lengths.
 const HEADING_DUE: u64 = 3;
 
-#[derive(Drop)]
+#[derive(Clone, Copy)]
 pub struct Place {
     at: usize,
     phase: u64,
@@ -30,7 +30,7 @@ pub struct Place {
 }
 
 // A line, and where the listing goes on from it; the last three are last lines.
-#[derive(Drop)]
+#[derive(Clone, Copy)]
 pub enum Line {
     Heading(Place),
     Frame {

@@ -20,7 +20,7 @@ use wire::ids::PushId;
 // What a connection keeps of its one-way streams. control, encoder, decoder 0: no such stream has come. kept: what the control stream has said.
 // held: how many bytes are kept of its payload that is not complete.
 #[repr(C)]
-#[derive(Drop)]
+#[derive(Clone, Copy)]
 pub struct Side {
     pub control: u64,
     pub encoder: u64,
@@ -62,7 +62,7 @@ pub fn fresh() -> Side
 
 // number: accepted, not an open one-way stream, no section is due, or the code. A part is len bytes of the piece from start on. used and heads: bytes and frame headers of the piece.
 // value: the QPACK stream's type, or the push ID.
-#[derive(Drop)]
+#[derive(Clone, Copy)]
 pub struct Heard {
     pub number: u64,
     pub event: u64,

@@ -21,7 +21,7 @@ use varint::{Part, Step};
 
 // The stream types that came before and may come once: 0 control, 2 QPACK encoder, 3 QPACK decoder. 0: it has not come.
 #[repr(C)]
-#[derive(Drop)]
+#[derive(Clone, Copy)]
 pub struct Seen {
     pub control: u64,
     pub encoder: u64,
@@ -31,7 +31,7 @@ pub struct Seen {
 // A kind of crate record, but a request. The cells are those of `frames`; before the
 // type is whole acc and due hold what was read of it.
 #[repr(C)]
-#[derive(Drop)]
+#[derive(Clone, Copy)]
 pub struct OneWay {
     pub kind: u64,
     pub cells: Cells,
@@ -40,7 +40,7 @@ pub struct OneWay {
 // Nothing, a fault with its code in len, a kept payload that is complete, a part of one, or QPACK stream bytes.
 // A part is len bytes of the piece from start on. payload: which one is complete (8 SETTINGS, 9 GOAWAY, 10 MAX_PUSH_ID, 11 CANCEL_PUSH); then the
 // stream is where it is once the payload is judged good.
-#[derive(Drop)]
+#[derive(Clone, Copy)]
 pub struct OneAnswer {
     pub event: u64,
     pub start: usize,
@@ -82,7 +82,7 @@ fn kind_of(t: u64, seen: Seen) -> u64
 }
 
 // A type, read to its end or the piece's. whole 1: acc is the type, 0: acc and due are what was read of it.
-#[derive(Drop)]
+#[derive(Clone, Copy)]
 struct TypeEnd {
     next: usize,
     whole: u64,

@@ -48,7 +48,7 @@ pub const BODY_PHASE: u8 = 1;
 
 // mode, due, phase and has are as in frames::Cells. owner and room are 0.
 #[repr(C)]
-#[derive(Drop)]
+#[derive(Clone, Copy)]
 pub struct Record {
     pub id: u64,
     pub acc: u64,
@@ -65,7 +65,7 @@ pub struct Record {
 }
 
 // What a record says.
-#[derive(Drop)]
+#[derive(Clone, Copy)]
 pub struct Stream {
     pub kind: u64,
     pub id: u64,

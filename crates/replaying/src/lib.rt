@@ -307,14 +307,14 @@ fn state_line(room: &mut [u8; 2048], c: Connection, rows: [Record; 32]) -> usize
 // ---- calls
 
 // A connection record and a row that had the same start: the first 24 of the records.
-#[derive(Drop)]
+#[derive(Clone, Copy)]
 pub struct Pair {
     pub conn: Connection,
     pub rows: [Record; 32],
 }
 
 // What a call leaves, and how many bytes its line has.
-#[derive(Drop)]
+#[derive(Clone, Copy)]
 struct Played {
     pair: Pair,
     count: usize,
@@ -501,7 +501,7 @@ fn play(room: &mut [u8; 2048], pair: Pair, l: Line, piece: &[u8]) -> Played
 // ---- the run
 
 // What a line leaves: the pair, the place of the next line, and how many bytes of the room are to be printed. on: whether the run goes on.
-#[derive(Drop)]
+#[derive(Clone, Copy)]
 pub struct Step {
     pub pair: Pair,
     pub at: usize,

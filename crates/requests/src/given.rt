@@ -10,7 +10,7 @@ use section::{HeaderAnswer, Stated, TrailerAnswer};
 
 // The number, and where the stream is then.
 #[repr(C)]
-#[derive(Drop)]
+#[derive(Clone, Copy)]
 pub struct Given {
     pub number: u64,
     pub cells: Cells,

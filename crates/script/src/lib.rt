@@ -6,13 +6,13 @@ ghost use Rattle.script.specs.Words.{DigitIs, HalfIs, NumberAt, BytesAt, ValuesA
 
 // ---- words
 
-#[derive(Drop)]
+#[derive(Clone, Copy)]
 pub enum Number {
     Is { value: u64, next: usize },
     Nothing,
 }
 
-#[derive(Drop)]
+#[derive(Clone, Copy)]
 pub enum Bytes {
     Are { count: usize, next: usize },
     Nothing,
@@ -171,7 +171,7 @@ fn spelt(s: &[u8], at: usize, room: &mut [u8]) -> Bytes
 }
 
 // Up to three numbers. ok 0: they are not all there.
-#[derive(Drop)]
+#[derive(Clone, Copy)]
 struct Values {
     ok: u64,
     a: [u64; 3],
@@ -237,7 +237,7 @@ fn has_row(letter: u8) -> bool {
 
 // The call that a line holds. letter 0: none. row: how many free records are lent in place of the kept row; 24: the kept row is.
 // a and b: its first numbers. room: the size of a buffer. count: how many bytes are at the start of the scratch room. next: where the next line begins.
-#[derive(Drop)]
+#[derive(Clone, Copy)]
 pub struct Line {
     pub letter: u8,
     pub row: u64,

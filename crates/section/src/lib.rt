@@ -170,7 +170,7 @@ const ABOVE: usize = 4_611_686_018_427_387_904;
 
 // Of the lines so far: their size, the lowest check that they break by themselves, whether there was a pseudo-field or another; and of six
 // names where in the block the first line's value begins and ends, both 0 where there is none. `stated` is the first Content-Length's number.
-#[derive(Drop)]
+#[derive(Clone, Copy)]
 struct Facts {
     size: usize,
     first: usize,
@@ -384,7 +384,7 @@ fn with_line<'a>(
     g
 }
 
-#[derive(Drop)]
+#[derive(Clone, Copy)]
 struct Walked {
     readable: bool,
     facts: Facts,
@@ -553,14 +553,14 @@ fn header_fault(block: &[u8], f: Facts) -> usize
 }
 
 // The Content-Length that a header section states.
-#[derive(Drop)]
+#[derive(Clone, Copy)]
 pub enum Stated {
     Nothing,
     Length(u64),
 }
 
 // Refused with the number of the reason (rules::reasons); or sound, with where in the block the method begins and ends, and the length that is stated.
-#[derive(Drop)]
+#[derive(Clone, Copy)]
 pub enum HeaderAnswer {
     Unreadable,
     Refused(usize),
@@ -601,7 +601,7 @@ pub fn header_section(block: &[u8]) -> HeaderAnswer
 
 // ---- trailers
 
-#[derive(Drop)]
+#[derive(Clone, Copy)]
 pub enum TrailerAnswer {
     Unreadable,
     Refused(usize),

@@ -16,7 +16,7 @@ use requests::given::Given;
 
 // number 0: accepted, 4: a section is due, 10: no stream is there, else the code. The rest as `frames::Answer` has it.
 #[repr(C)]
-#[derive(Drop)]
+#[derive(Clone, Copy)]
 pub struct Report {
     pub number: u64,
     pub event: u64,
@@ -150,7 +150,7 @@ pub extern "C" fn eist_end(at: Cells) -> u64
 
 // number 0: accepted, 10: no stream is there, else the code. The rest as `oneway::OneAnswer` has it.
 #[repr(C)]
-#[derive(Drop)]
+#[derive(Clone, Copy)]
 pub struct WayReport {
     pub number: u64,
     pub event: u64,

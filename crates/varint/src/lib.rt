@@ -14,13 +14,13 @@ ghost use Rattle.varint.specs.Write.{Meets};
 // ---- a byte at a time
 
 // An integer of which some bytes were read: their value, and how many bytes are due. due 0: no byte was read.
-#[derive(Drop)]
+#[derive(Clone, Copy)]
 pub struct Part {
     pub acc: u64,
     pub due: u64,
 }
 
-#[derive(Drop)]
+#[derive(Clone, Copy)]
 pub enum Step {
     More(Part),
     Done(u64),
@@ -72,7 +72,7 @@ pub fn read_step(p: Part, b: u8) -> Step
 
 // ---- whole in a slice
 
-#[derive(Drop)]
+#[derive(Clone, Copy)]
 pub enum Whole {
     Value { value: u64, next: usize },
     Short,
@@ -151,14 +151,14 @@ pub fn read(s: &[u8], at: usize) -> Whole
 
 // ---- the shortest form
 
-#[derive(Drop)]
+#[derive(Clone, Copy)]
 pub enum Wrote {
     Refused(u64),
     Count(usize),
 }
 
 // A form of an integer: its top two bits, and its size in bytes.
-#[derive(Drop)]
+#[derive(Clone, Copy)]
 struct Form {
     mark: u64,
     size: usize,

@@ -74,7 +74,7 @@ pub fn write_opening(room: &mut [u8]) -> Wrote
 }
 
 // The GOAWAY that we sent before: none, or up to an ID.
-#[derive(Drop)]
+#[derive(Clone, Copy)]
 pub enum Sent {
     Nothing,
     Up(StreamId),
