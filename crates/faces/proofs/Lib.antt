@@ -1,2 +1,0 @@
-pub mod Local
-pub mod Lends
