@@ -1,7 +1,7 @@
 -- Opening exactly (document 01): accepted exactly if five conditions hold. Assumes nothing.
 use Rattle.std.specs.Prelude.{◌≡◌, Bool, true, false, ◌⊎◌, eqb, leb}
 use Rattle.std.proofs.Math.Path.{refl}
-use Rattle.std.proofs.Common.{sym, ap, ◌∙◌, inl, inr, leb-false, eqb-true}
+use Rattle.std.proofs.Common.{sym, ap, inl, inr, leb-false, eqb-true}
 use Prim.Native.Nat.{ℕ, zero, suc, ◌%◌, ◌^◌, ◌<◌}
 use native.Mathlib.Omega.{arith}
 use Rattle.rules.specs.Numbers.{REQUEST-REJECTED}

@@ -1,5 +1,5 @@
 -- WHAT THE DOORS DECIDE: every call but one on a one-way stream, and the same beside every side. Assumes nothing.
-use Rattle.std.specs.Prelude.{◌≡◌, refl, ℕ, ◌≤◌, ◌<◌, List, Bool, true, false}
+use Rattle.std.specs.Prelude.{◌≡◌, refl, ℕ, ◌≤◌, ◌<◌, List, true, false}
 use Rattle.std.proofs.Common.{sym, ap, ◌∙◌, arith}
 use Rattle.record.specs.Kinds.{REQUEST}
 use Rattle.rules.specs.Numbers.{NOT-OPEN, OTHER-ROW}

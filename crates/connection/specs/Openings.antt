@@ -1,7 +1,7 @@
 -- Opening a stream (document 01, "Calls and the host's memory"): the answer, and the IDs that are spent. Assumes nothing.
 use Rattle.std.specs.Prelude.{◌≡◌, ℕ, zero, suc, ◌+◌, ◌%◌, ◌^◌, ◌≤◌, ◌<◌, Bool, true, false, eqb, leb}
 use Rattle.std.proofs.Math.Path.{refl, sym, ap}
-use Rattle.std.proofs.Common.{◌∙◌, arith}
+use Rattle.std.proofs.Common.{◌∙◌}
 use borrow.Author.Tests.{eq-eqb, ne_eqb, le-leb, lt-leb}
 use Rattle.rules.specs.Numbers.{REQUEST-REJECTED}
 use Rattle.connection.specs.declared.doors.Doors.{Doors}

@@ -1,8 +1,8 @@
 -- WHAT IS STILL TO COME OF A RECORD: of an open request that states a Content-Length, the content that is not here yet. (Document 02's Q-4 asks for its
 -- total; nothing else looks at it.) Assumes nothing.
-use Rattle.std.specs.Prelude.{◌≡◌, refl, ℕ, zero, suc, ◌+◌, ◌-◌, List, [], ◌∷◌, map}
-use Rattle.std.proofs.Math.Option.{Option, none, some}
-use Rattle.rules.specs.Reading.{header_section, Use, content, skipped, section, kept}
+use Rattle.std.specs.Prelude.{◌≡◌, refl, ℕ, zero, suc, ◌+◌, ◌-◌, [], ◌∷◌, map}
+use Rattle.std.proofs.Math.Option.{none, some}
+use Rattle.rules.specs.Reading.{header_section, content, skipped, section, kept}
 use Rattle.rules.specs.Message.{Message, opening, body, trailed}
 use Rattle.meaning.specs.Machine.{State, in_type, in_length, in_payload, due, between}
 use Rattle.record.specs.declared.Record.{Record}

@@ -1,6 +1,5 @@
 -- A payload is refused with the code of a connection fault. Assumes nothing.
-use Rattle.std.specs.Prelude.{◌≡◌, refl, ℕ, zero, suc, ◌≤◌, List, [], ◌∷◌, Bool, true, false, ◌||◌, length}
-use Rattle.std.proofs.Common.{sym, subst, arith, lit≤}
+use Rattle.std.specs.Prelude.{ℕ, zero, suc, List, [], ◌∷◌, Bool, true, false, ◌||◌, length}
 use Rattle.std.proofs.Math.Option.{Option, none, some}
 use Rattle.rules.specs.Numbers.{of_connection, frame_error, id_error, settings_error}
 use Rattle.rules.specs.Text.{is_one_of}

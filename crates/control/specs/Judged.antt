@@ -1,15 +1,13 @@
 -- A control stream's complete payload judged, in numbers: the answer. Assumes nothing.
 use Rattle.std.specs.Prelude.{◌≡◌, List, Bool, true, false, ltb}
 use Rattle.std.proofs.Math.Path.{refl, ap}
-use Rattle.std.proofs.Common.{sym, ◌∙◌, arith, lt-ltb, le-ltb}
+use Rattle.std.proofs.Common.{sym, ◌∙◌, lt-ltb, le-ltb}
 use Prim.Native.Nat.{ℕ, zero, suc, ◌<◌, ◌≤◌}
 use Rattle.std.proofs.Math.Option.{Option, none, some}
 use Rattle.rules.specs.Numbers.{FRAME-UNEXPECTED, FRAME-ERROR, ID-ERROR}
 use Rattle.rules.specs.Integers.{integer}
-use Rattle.rules.specs.Reading.{Next, stop, go}
 use Rattle.rules.specs.Control.{Settings, settings_of, only}
 use Rattle.wire.specs.declared.ids.PushId.{PushId}
-use Rattle.control.specs.declared.settings.SectionSize.{SectionSize}
 use Rattle.control.specs.declared.settings.SectionSize.TheVariants.{Unlimited, AtMost}
 use Rattle.control.specs.declared.settings.Settings as kept-settings
 use Rattle.control.specs.declared.settings.Judged.{Judged}

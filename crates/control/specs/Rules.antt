@@ -15,7 +15,7 @@ use Rattle.frames.specs.Answers.{mode_kept, kept_at}
 use Rattle.meaning.specs.NumberLaws.{numbered}
 use Rattle.control.specs.declared.Kept.{Kept}
 use Rattle.control.specs.declared.Verdict.{Verdict}
-use Rattle.control.specs.Judged.{push_id, refusal, settled, limits_of, settings_kept, settings_verdict, goaway_taken, max_push_taken, unless, goaway_of, max_push_of, id_of, integer_of, payload_of, judged_of}
+use Rattle.control.specs.Judged.{push_id, refusal, limits_of, settings_verdict, goaway_taken, max_push_taken, unless, goaway_of, max_push_of, id_of, integer_of, payload_of, judged_of}
 
 -- ---- what the numbers mean
 

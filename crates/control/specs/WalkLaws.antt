@@ -4,7 +4,7 @@ use Rattle.std.specs.Prelude.{◌≡◌, ℕ, zero, suc, ◌+◌, ◌*◌, ◌%�
 use Rattle.std.proofs.Math.Path.{refl, sym}
 use Rattle.std.proofs.Common.{ap, ◌∙◌, arith, lit≤, length-drop, drop_of_length-le, eq-eqb, ne_eqb, eqb-true}
 use mathlib.Core.List.{List, [], ◌∷◌}
-use Rattle.rules.specs.Numbers.{FRAME-ERROR, SETTINGS-ERROR, of_connection, frame_error, settings_error, code_number}
+use Rattle.rules.specs.Numbers.{FRAME-ERROR, SETTINGS-ERROR, of_connection, frame_error, settings_error}
 use Rattle.rules.specs.Text.{is_one_of}
 use Rattle.rules.specs.Integers.{Int, cut, got, more, extra, integer}
 use Rattle.rules.specs.Reading.{Next, stop}

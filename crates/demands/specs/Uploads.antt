@@ -1,11 +1,11 @@
 -- UPLOADS (document 02, Q-1): a request whose method is PUT, POST or PATCH and that ended as whole has stated its length, carries exactly so many bytes, and no
 -- shorter stream that begins it is whole with other content: demand 3 without its hypothesis that a length is stated. Assumes nothing.
 use Rattle.std.specs.Prelude.{◌≡◌, refl, ℕ, List, [], ◌∷◌, ◌++◌, true, length}
-use Rattle.std.proofs.Common.{sym, ap, subst, ◌∙◌, arith}
+use Rattle.std.proofs.Common.{ap, subst, ◌∙◌, arith}
 use Rattle.std.proofs.Math.Option.{Option, none, some}
 use Rattle.rules.specs.Events.{WHOLE}
 use Rattle.rules.specs.Block.{Section, lines}
-use Rattle.rules.specs.Frames.{Frames, frames_from}
+use Rattle.rules.specs.Frames.{Frames}
 use Rattle.rules.specs.Section.{uploading}
 use Rattle.rules.specs.Request.{document, Header.good as good-header}
 use Rattle.rules.specs.Legal.{Legal, Legal.unknown as unknown-first, Legal.headers as headers-first}

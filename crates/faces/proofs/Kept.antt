@@ -1,6 +1,5 @@
 -- What is lent of the front is what comes back before the rest. Assumes nothing.
-use Rattle.std.specs.Prelude.{◌≡◌, ℕ, ◌≤◌, List, ◌++◌, length, take, drop, min}
-use Rattle.std.proofs.Common.{◌∙◌, arith, length-take}
+use Rattle.std.specs.Prelude.{◌≡◌, ℕ, List, ◌++◌, length, take, drop}
 use Rattle.std.proofs.Math.Seq.{take-append_seam}
 
 module _ {A : Type 0} where

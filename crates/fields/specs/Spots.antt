@@ -1,14 +1,14 @@
 -- The name and value check of a line (rules, Bytes), on the bytes of its name and of its value; what its answer says; and laws for each way out. Assumes nothing.
 use Prim.Native.Nat.{ℕ, suc, ◌+◌, ◌-◌, ◌≤◌, ◌<◌}
 use Rattle.std.proofs.Math.Path.{◌≡◌, refl, sym, ap}
-use Rattle.std.proofs.Common.{◌∙◌, arith, add-one, drop_of_length-le}
+use Rattle.std.proofs.Common.{◌∙◌, arith, drop_of_length-le}
 use mathlib.Core.List.{List, [], ◌∷◌}
 use Rattle.std.specs.Prelude.{Bool, not, ◌||◌, ◌&&◌, T, ltb, eqb, drop, get_or}
 use Rattle.std.proofs.Math.Bool.{true, false}
 use Rattle.std.proofs.Math.Option.{Option, none, some}
 use Rattle.std.proofs.Math.Dec.{leb-suc-suc}
 use Rattle.std.proofs.Math.ListN.{length}
-use borrow.Author.Tests.{eq-eqb, ne_eqb, lt-ltb, le-ltb}
+use borrow.Author.Tests.{eq-eqb, ne_eqb, lt-ltb}
 use Rattle.rules.specs.Text.{any, all}
 use Rattle.rules.specs.Block.{Line}
 use Rattle.rules.specs.Classes.{is_name, is_value, is_blank, is_capital}
@@ -19,7 +19,7 @@ use Rattle.fields.specs.declared.Class.{Class}
 use Rattle.fields.specs.declared.Spot.{Spot}
 use Rattle.fields.specs.declared.Spot.TheVariants.{Nowhere, EmptyName, Capital, BadInName, BadInValue, BlankAtEnd}
 use Rattle.fields.specs.Bytes.{is_in, outside, bad_name_bytes, bad_value_bytes}
-use Rattle.fields.specs.Laws.{from_here, empty_is, begins_first, ends_last, begins_none, ends_none}
+use Rattle.fields.specs.Laws.{from_here, empty_is, begins_first, ends_last}
 use Rattle.fields.specs.Table.{marked, all_right, right_at, right_in}
 
 -- ---- what the answer says

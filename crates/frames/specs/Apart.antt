@@ -1,11 +1,10 @@
 -- What `Fed` says of a request stream alone, and of a control stream alone: a place of one kind, and the rules' own grammar. Assumes nothing.
-use Rattle.std.specs.Prelude.{◌≡◌, refl, ℕ, zero, suc, ◌-◌, List}
+use Rattle.std.specs.Prelude.{◌≡◌, refl, ℕ, ◌-◌, List}
 use Rattle.std.proofs.Common.{sym, ap, ◌∙◌}
 use Rattle.rules.specs.Message.{Message, opening}
 use Rattle.rules.specs.Request.{Rules, request}
 use Rattle.rules.specs.Control.{Control, unset, control}
-use Rattle.meaning.specs.Machine.{State}
-use Rattle.meaning.specs.Feed.{Feeding, feed}
+use Rattle.meaning.specs.Feed.{feed}
 use Rattle.meaning.specs.Hom.{map_state, map_feeding, feeding_back}
 use Rattle.frames.specs.Modes.{IN-SETTINGS, Mode, typing, sizing, paying, waiting, mode_of}
 use Rattle.frames.specs.declared.Cells.{Cells}

@@ -2,7 +2,7 @@
 use Rattle.std.specs.Prelude.{◌≡◌, List}
 use Rattle.std.proofs.Math.Path.{refl}
 use Rattle.std.proofs.Common.{sym, ap, ◌∙◌, arith, eq-eqb, ne_eqb}
-use Prim.Native.Nat.{ℕ, zero, suc, ◌≤◌, ◌<◌}
+use Prim.Native.Nat.{ℕ, zero, suc, ◌<◌}
 use Rattle.rules.specs.Numbers.{CLOSED-CRITICAL-STREAM, FRAME-ERROR, REQUEST-INCOMPLETE, MESSAGE-ERROR, ACCEPTED, SECTION-DUE, of_connection, closed_critical_stream, code_number}
 use Rattle.rules.specs.Reading.{Part, End, complete, lacking, Verdict, whole, fault, waits, ended}
 use Rattle.rules.specs.Message.{Message, unequal, all_come, lacks, ends, tally}

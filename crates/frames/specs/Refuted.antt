@@ -3,7 +3,7 @@
 use Rattle.std.specs.Prelude.{◌≡◌, refl, ℕ, zero, suc, ◌+◌, ◌-◌, Bool, true, false, ◌&&◌, ◌||◌, List, [], ◌∷◌, ◌++◌, map, ◌⊎◌, eqb}
 use Rattle.std.proofs.Common.{arith, ⊎_elim, eq-eqb}
 use Rattle.std.proofs.Math.Logic.{⊎_map}
-use Rattle.rules.specs.Events.{NOTHING, CONTENT, SECTION, SECTION-END, FAULT, KEPT-PART, SETTINGS}
+use Rattle.rules.specs.Events.{NOTHING, CONTENT, SECTION, SECTION-END, FAULT, KEPT-PART}
 use Rattle.rules.specs.Numbers.{FRAME-UNEXPECTED, code_number, number_of as answerNumber, rows as answers, named_in, named as named_of, code_in, coded}
 use Rattle.rules.specs.Text.{same, between, hex, hex_from, nibble, lookup}
 use Rattle.rules.specs.Integers.{extra}

@@ -9,7 +9,7 @@ use mathlib.Core.List.{List, []}
 use Rattle.std.proofs.Math.Logic.{inl, inr}
 use Rattle.std.proofs.Math.ListN.{length, length-drop}
 use Rattle.rules.specs.Events.{NOTHING, FAULT}
-use Rattle.rules.specs.Reading.{header_section, trailers, settings, goaway, max_push_id, cancel_push, Use, content, skipped, section, kept, refuse, accept}
+use Rattle.rules.specs.Reading.{header_section, trailers, settings, goaway, max_push_id, cancel_push, Use, content, skipped, section, kept, accept}
 use Rattle.meaning.specs.Machine.{State, in_payload, with_left}
 use Rattle.meaning.specs.Feed.{Feeding, halt, onward, left_event, behind_header, feed}
 use Rattle.meaning.specs.FeedLaws.{past, feed_held, skip_short}

@@ -3,7 +3,6 @@ use Rattle.std.specs.Prelude.{◌≡◌, refl, ℕ, zero, suc, ◌+◌, ◌≤�
 use Rattle.std.proofs.Common.{sym, ap, ◌∙◌, arith, lit≤}
 use Rattle.std.proofs.Math.Option.{Option, none, some}
 use Rattle.std.proofs.Math.Dec.{ltb}
-use Rattle.rules.specs.Events.{SETTINGS}
 use Rattle.rules.specs.Numbers.{Code, of_connection, frame_error, code_number, coded}
 use Rattle.rules.specs.Text.{lookup}
 use Rattle.rules.specs.Reading.{header_section, trailers, Kept, settings, goaway, max_push_id, cancel_push, Use, content, skipped, section, kept, Ruling, refuse, accept}

@@ -71,9 +71,9 @@ module _ (s : List ℕ) (p : Place) where
       unfolding line_from
       inside h = let e = le-ltb (length s) p.at h in opened ∙ rw (e, line_from)
 
-      pub line-cut-payload : length s < p.at → Refused (length s) FRAME-ERROR ≡ line_at s p
+      pub line_cut_payload : length s < p.at → Refused (length s) FRAME-ERROR ≡ line_at s p
       unfolding line_from
-      line-cut-payload h = let e = lt-ltb (length s) p.at h in rw opened (rw (e, line_from))
+      line_cut_payload h = let e = lt-ltb (length s) p.at h in rw opened (rw (e, line_from))
 
       pub line-end : p.at ≡ length s → end_line (length s) p ≡ line_at s p
       unfolding line_in
@@ -87,7 +87,7 @@ module _ (s : List ℕ) (p : Place) where
       line-cut-type {n} w e z = go (ltb (length s) p.at) refl
         where
           go : (x : Bool) → ltb (length s) p.at ≡ x → Refused (length s) FRAME-ERROR ≡ line_at s p
-          go true x = line-cut-payload (ltb→lt (length s) p.at (rw x tt))
+          go true x = line_cut_payload (ltb→lt (length s) p.at (rw x tt))
           go false x =
               let h = nltb→le (length s) p.at (rw x tt) in
               let d = length-drop p.at s in

@@ -13,7 +13,7 @@ use Rattle.meaning.specs.FrameLaws.{head, View, cut_type, cut_length, cut_payloa
 use Rattle.listing.specs.Listing.{Entry, whole, refused, too_long, listing}
 use Rattle.listing.specs.Lists.{lists}
 use Rattle.listing.specs.Lines.{place, first, entry_of, behind, with_rest, lines_from, message_of, after, line_of, ruled_line, end_of, end_line, line_in, line_at}
-use Rattle.listing.specs.At.{line_too_long, line_heading, line-cut-payload, inside}
+use Rattle.listing.specs.At.{line_too_long, line_heading, line_cut_payload, inside}
 use Rattle.listing.specs.declared.Place.{Place}
 use Rattle.listing.specs.declared.Usage.{Usage}
 use Rattle.listing.specs.declared.Line.{Line}
@@ -86,7 +86,7 @@ falls : (s : List ℕ) (p n : Place) → Leads (line_at s p) n → rank s n < ra
 falls s p n x = long (ltb 65_536 (length s)) refl
   where
     cut_off : length s ≤ 65_536 → p.phase ≤ TRAILED → (y : Bool) → ltb (length s) p.at ≡ y → rank s n < rank s p
-    cut_off short h true e = absurd (rw (← line-cut-payload s p short h (ltb→lt (length s) p.at (rw e tt))) at x)
+    cut_off short h true e = absurd (rw (← line_cut_payload s p short h (ltb→lt (length s) p.at (rw e tt))) at x)
     cut_off short h false e =
         let w = nltb→le (length s) p.at (rw e tt) in
         let f = frames_forward (length s) p w h (drop p.at s) n (rw (inside s p short h w) at x) in

@@ -22,7 +22,7 @@ use Rattle.meaning.specs.FrameLaws.{head, View, cut_type, cut_length, cut_payloa
 use Rattle.listing.specs.Listing.{Entry, heading, refused, too_long, frame_of, last_of, entries_of, reading, limit, listing}
 use Rattle.listing.specs.Listing as lister
 use Rattle.listing.specs.Lines.{place, first, message_of, after, usage_of, use_of, line_of, ruled_line, end_of, end_line, line_in, entry_of, behind as what-follows, with_rest, lines_from}
-use Rattle.listing.specs.At.{frames_none, line_too_long, line_heading, line-cut-payload, inside}
+use Rattle.listing.specs.At.{frames_none, line_too_long, line_heading, line_cut_payload, inside}
 use Rattle.listing.specs.declared.Place.{Place}
 use Rattle.frames.specs.Modes.{TRAILED}
 
@@ -240,7 +240,7 @@ module _ (R : Rules) (a b : Section) (others : List Section) (head-sound : R.hea
     lines zero p h k l = absurd (omega arith)
     lines (suc k) p h z l = record {
       within = λ w. (let d = length-drop p.at s in ap (with_rest (lines_from k s)) (inside s p short h w) ∙ lines-in k (lines k) p h (drop p.at s) refl (omega arith) (omega arith));
-      beyond = λ w. ap (with_rest (lines_from k s)) (sym (line-cut-payload s p short h w));
+      beyond = λ w. ap (with_rest (lines_from k s)) (sym (line_cut_payload s p short h w));
     }
 
     -- from the heading on

@@ -1,6 +1,6 @@
 -- HOW LONG A BLOCK IS: no longer than its section's size, for a record has six bytes beside its name and value, and a line counts 32. So a section within the
 -- limit needs no more than 16,384 bytes of room (document 02, Q-2). Assumes nothing.
-use Rattle.std.specs.Prelude.{◌≡◌, refl, ℕ, zero, suc, ◌+◌, ◌-◌, ◌≤◌, List, [], ◌∷◌, Bool, true, false, ltb, eqb, length, take, drop}
+use Rattle.std.specs.Prelude.{◌≡◌, refl, ℕ, zero, suc, ◌+◌, ◌≤◌, List, [], ◌∷◌, Bool, true, false, ltb, eqb, length, take, drop}
 use Rattle.std.proofs.Common.{ap, arith, length-drop, length-take-le, ltb-false}
 use Rattle.rules.specs.Block.{Line, Section, Lines, unreadable, readable, cut_record, short_length, long_name, other_kind, little, Record, flawed, line, fields, record_of, before, lines_from, lines}
 use Rattle.rules.specs.Section.{line_size, size, size_limit}

@@ -1,7 +1,7 @@
 -- Laws of the control rules (rules, Control), so that no one else opens them. Assumes nothing.
 use Rattle.std.specs.Prelude.{◌≡◌, ℕ, zero, suc, ◌≤◌, ◌<◌, List, [], ◌∷◌, Bool, true, false, ◌||◌, ltb, eqb, length}
 use Rattle.std.proofs.Math.Path.{refl}
-use Rattle.std.proofs.Common.{arith, nltb→le, lit≤, ltb-false, lt-ltb, le-ltb, ne_eqb}
+use Rattle.std.proofs.Common.{arith, nltb→le, ltb-false, lt-ltb, le-ltb, ne_eqb}
 use Rattle.std.proofs.Math.Option.{Option, some}
 use Rattle.rules.specs.Numbers.{Code, of_connection, frame_unexpected, frame_error, excessive_load, id_error, settings_error, missing_settings, ConnectionFault}
 use Rattle.rules.specs.Text.{is_one_of, lookup}

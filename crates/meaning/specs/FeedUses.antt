@@ -1,7 +1,6 @@
 -- What a grammar's rule can answer is all that its feeds come to: the uses of the frames it accepts and how long they are, the codes it refuses
 -- with. So a request keeps no payload, and on a control stream nothing is handed over and what is kept has an end. Assumes nothing.
-use Rattle.std.specs.Prelude.{◌≡◌, refl, Bool, true, length}
-use Rattle.std.proofs.Common.{sym, ap, ◌∙◌, arith}
+use Rattle.std.specs.Prelude.{true, length}
 use Prim.Native.Nat.{ℕ, zero, suc, ◌-◌, min}
 use mathlib.Core.List.{List, [], ◌∷◌, ◌++◌}
 use Rattle.rules.specs.Numbers.{Code}

@@ -1,6 +1,6 @@
 -- Frames (rules, Frames): one law for each way a frame can come, that the fuel never runs out, that complete frames and what follows them
 -- are read apart, and that a written frame reads back before any type is judged. Assumes nothing.
-use Rattle.std.specs.Prelude.{◌≡◌, refl, ℕ, zero, suc, ◌+◌, ◌≤◌, ◌<◌, List, [], ◌∷◌, ◌++◌, Bool, true, false, ltb, T, length, take, drop}
+use Rattle.std.specs.Prelude.{◌≡◌, refl, ℕ, zero, suc, ◌+◌, ◌≤◌, ◌<◌, List, [], ◌∷◌, ◌++◌, Bool, true, false, ltb, length, take, drop}
 use Rattle.std.proofs.Common.{sym, ap, ◌∙◌, arith, ltb→lt, nltb→le, length-append, length-drop, length-take-le, take_at, drop_at}
 use Rattle.std.proofs.Math.Option.{some}
 use Rattle.std.proofs.lemmas.List.{take-append-le, drop-append-le}

@@ -1,9 +1,9 @@
 -- Integers (rules, Integers): what one leaves of the bytes, that what is written reads back, and that nothing shorter does. Each fact once
 -- over the four sizes. Assumes nothing.
-use Rattle.std.specs.Prelude.{◌≡◌, refl, ℕ, zero, suc, ◌+◌, ◌-◌, ◌*◌, ◌^◌, ◌/◌, ◌%◌, ◌<◌, ◌≤◌, List, [], ◌∷◌, ◌++◌, Bool, true, false, leb, T, length, drop}
+use Rattle.std.specs.Prelude.{◌≡◌, refl, ℕ, zero, suc, ◌+◌, ◌-◌, ◌*◌, ◌^◌, ◌/◌, ◌%◌, ◌<◌, ◌≤◌, List, [], ◌∷◌, ◌++◌, Bool, true, false, leb, length, drop}
 use Rattle.std.proofs.Common.{ap, pow-suc, div-one, div-add-mod', div-lt_iff_lt-mul, zero-lt-suc, mul_assoc, mul_comm, mul-one, arith, leb→le, lit≤}
 use Rattle.std.proofs.Math.Nat.{pow-zero, div-div-eq-div-mul, one-le-pow}
-use Rattle.std.proofs.Math.Option.{Option, none, some}
+use Rattle.std.proofs.Math.Option.{Option, some}
 use Rattle.std.proofs.Math.Dec.{nleb→lt}
 use Rattle.std.proofs.Math.Arith.{digits_div, digits_mod}
 use Rattle.rules.specs.Integers.{got, more, extra, integer, Row, row, rows, low, in_row, in_first, written}

@@ -1,7 +1,7 @@
 -- Laws of document 01's numbers (rules/Numbers): each name is read back from its number, and each number from its name. Assumes nothing.
 use Rattle.std.specs.Prelude.{◌≡◌, ℕ, ◌<◌, List, [], ◌∷◌, Bool, true, false, eqb}
 use Rattle.std.proofs.Math.Path.{refl}
-use Rattle.std.proofs.Common.{sym, arith, eqb→eq, lit<}
+use Rattle.std.proofs.Common.{sym, eqb→eq, lit<}
 use Rattle.rules.specs.Reading.{Next, stop, go}
 use Rattle.rules.specs.Numbers.{not_open, not_next, no_record, section_due, no_section, unreadable, room_short, bad_value, other_row, House, request_rejected, request_cancelled, request_incomplete, message_error, stream_creation_error, closed_critical_stream, frame_unexpected, frame_error, excessive_load, id_error, settings_error, missing_settings, Code, of_stream, of_connection, Answer, accepted, refusal, fault, other, house_number, code_number, number_of, rows, named_in, named, code_in, coded}
 

@@ -12,7 +12,7 @@ use Rattle.rules.specs.Text.{is_one_of, lookup}
 use Rattle.rules.specs.Reading.{Saying, Verdict, whole, fault, waits, ended}
 use Rattle.rules.specs.Integers.{Int, cut, got, more, integer}
 use Rattle.rules.specs.Control.{Control, unset, control}
-use Rattle.rules.specs.OneWay.{Qpack, encoder, decoder, Kind, a_control, a_qpack, skipped, Typed, refuse, is, once, type_rule, OneWay, untyped, refused, of_control, of_qpack, passed_over, typed, behind_type, one_way_read}
+use Rattle.rules.specs.OneWay.{encoder, decoder, Kind, a_control, a_qpack, skipped, Typed, refuse, is, once, type_rule, OneWay, untyped, refused, of_control, of_qpack, passed_over, typed, behind_type, one_way_read}
 use Rattle.meaning.specs.IntegerLaws.{integer_length, integer_append}
 use Rattle.meaning.specs.Machine.{Prog, fresh, need, State, in_type, in_length, in_payload, due, Outcome, between, supplied, settled, finish, finished, run, next, fresh_run, step}
 use Rattle.meaning.specs.Cut.{run_append, read_from_is}

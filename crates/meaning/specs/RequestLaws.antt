@@ -1,11 +1,11 @@
 -- Laws of the request rules (rules, Request), so that no one else opens them. Assumes nothing.
 use Rattle.std.specs.Prelude.{◌≡◌, refl, ℕ, zero, suc, ◌+◌, ◌≤◌, ◌<◌, Bool, true, false, ltb}
-use Rattle.std.proofs.Common.{zero-le, arith, lt-ltb, ltb→lt, nltb→le, lit≤}
+use Rattle.std.proofs.Common.{zero-le, arith, lt-ltb, ltb→lt, nltb→le}
 use Rattle.std.proofs.Math.Option.{Option, none, some}
 use Rattle.rules.specs.Numbers.{Code, of_stream, of_connection, request_cancelled, message_error, frame_unexpected, excessive_load}
 use Rattle.rules.specs.Text.{lookup}
 use Rattle.rules.specs.Reading.{header_section, trailers, content, skipped, section, Ruling, refuse, accept}
-use Rattle.rules.specs.Message.{content_limit, Message, opening, body, trailed, Reason, out_of_place, past_stated, past_limit, no_section, unequal, Step, goes, refuses, sum_to, carries}
+use Rattle.rules.specs.Message.{content_limit, Message, opening, body, trailed, Step, goes, refuses, sum_to, carries}
 use Rattle.rules.specs.Request.{Kind, data·, headers, forbidden, unknown, column, kind_of, code_of, headers_limit, within_limit, data_rule, headers_rule, rule_for, rule}
 use Rattle.rules.specs.Legal.{Unknown}
 use Rattle.meaning.specs.TextLaws.{Absent, lookup_view, lookup_absent}

@@ -2,17 +2,17 @@
 use Rattle.std.specs.Prelude.{◌≡◌, List, [], Bool, length}
 use Rattle.std.proofs.Math.Path.{refl, ap}
 use Rattle.std.proofs.Common.{sym, ◌∙◌, subst, take_all}
-use Prim.Native.Nat.{ℕ, zero, suc, ◌+◌, ◌-◌, ◌%◌, ◌≤◌, ◌<◌, ◌^◌, min}
+use Prim.Native.Nat.{ℕ, zero, suc, ◌+◌, ◌-◌, ◌≤◌, ◌<◌, min}
 use native.Mathlib.Omega.{arith}
 use Rattle.std.proofs.Math.Bool.{true, false}
 use Rattle.std.proofs.Math.Option.{Option, none, some}
 use Rattle.std.proofs.Math.Dec.{ltb}
 use Rattle.std.proofs.Math.ListN.{take, length-take}
-use borrow.Author.Tests.{ltb-true, ltb-false, lt-ltb, le-ltb}
+use borrow.Author.Tests.{ltb-true, ltb-false, le-ltb}
 use Rattle.rules.specs.Control.{Settings, Control, unset, set}
-use Rattle.meaning.specs.Machine.{State, in_type}
+use Rattle.meaning.specs.Machine.{in_type}
 use Rattle.meaning.specs.FeedUses.{StateWithin}
-use Rattle.meaning.specs.OneWayFeed.{OneState, in_stream_type, in_control}
+use Rattle.meaning.specs.OneWayFeed.{in_stream_type, in_control}
 use Rattle.varint.specs.ByByte.{prog}
 use Rattle.frames.specs.Modes.{IN-TYPE, IN-SETTINGS, UNSET, SET, mode_of, at_kept, at_unkept, at_any}
 use Rattle.frames.specs.declared.Cells.{Cells}
@@ -23,14 +23,13 @@ use Rattle.frames.specs.Answers.{mode_state, state_at, state_of, StandsIn}
 use Rattle.record.specs.Kinds.{UNTYPED, CONTROL}
 use Rattle.record.specs.declared.Record.{Record}
 use Rattle.record.specs.Row.{is_stated, length_of, place_in, record_at}
-use Rattle.record.specs.Sound.{Fit, cells_in, own_place, tidied, Sound, stream, Written}
+use Rattle.record.specs.Sound.{Fit, cells_in, own_place, tidied, stream, Written}
 use Rattle.record.specs.Tidy.{Tidier, tidy_less, place_back}
 use Rattle.record.specs.Same.{written_as, written_sound, state_again}
 use Rattle.oneway.specs.Stands.{one_state_at, OneShapeAt, StandsAt}
-use Rattle.control.specs.declared.Kept.{Kept}
-use Rattle.control.specs.Rules.{some_if, limits_is, control_at, control_of}
+use Rattle.control.specs.Rules.{some_if, control_at, control_of}
 use Rattle.oneway.specs.declared.calls.Side.{Side}
-use Rattle.oneway.specs.Mirror.{nothing_said, kept_numbers, kept_in, sofar_in, bytes_of, held_in, side_after}
+use Rattle.oneway.specs.Mirror.{kept_numbers, kept_in, sofar_in, bytes_of, held_in, side_after}
 use Rattle.oneway.specs.Heard.{Heeds, place_here, sofar_here, state_here}
 use Rattle.oneway.specs.Leaves.{sofar_kept}
 use Rattle.oneway.specs.Numbers.{bytes_back}

@@ -1,5 +1,5 @@
 -- One feed of a one-way stream, from its parts: a law for each way it goes. Assumes nothing.
-use Rattle.std.specs.Prelude.{◌≡◌, Bool, true, false, eqb}
+use Rattle.std.specs.Prelude.{◌≡◌}
 use Rattle.std.proofs.Math.Path.{refl, ap}
 use Rattle.std.proofs.Common.{sym, ◌∙◌, length-drop}
 use Prim.Native.Nat.{ℕ, zero, suc, ◌+◌, ◌-◌, ◌≤◌, ◌<◌}
@@ -8,20 +8,19 @@ use native.Mathlib.Omega.{arith}
 use mathlib.Core.List.{List, [], ◌∷◌}
 use Rattle.std.proofs.Math.Logic.{inl, inr}
 use Rattle.std.proofs.Math.ListN.{length, drop, drop_of_length-le}
-use Rattle.rules.specs.Numbers.{of_connection, stream_creation_error, coded, code_number}
+use Rattle.rules.specs.Numbers.{coded, code_number}
 use Rattle.rules.specs.Control.{Control, unset, control}
-use Rattle.rules.specs.OneWay.{Qpack, encoder, decoder, Kind, a_control, a_qpack, skipped, Typed, refuse, is, once, type_rule}
-use Rattle.rules.specs.Text.{is_one_of, lookup}
+use Rattle.rules.specs.OneWay.{Qpack, encoder, decoder, a_control, a_qpack, skipped, Typed, refuse, is, type_rule}
 use Rattle.meaning.specs.Machine.{between}
 use Rattle.meaning.specs.Feed as F
-use Rattle.meaning.specs.OneWayFeed.{OneFeeding, OneOutcome, lives, dies, in_stream_type, in_skipped, in_qpack, of_frames, qpack_bytes, of_control, halt, qpack_feed, kind_feed, typed_feed, type_feed, feed}
+use Rattle.meaning.specs.OneWayFeed.{OneFeeding, lives, dies, in_stream_type, in_qpack, qpack_bytes, of_control, halt, qpack_feed, kind_feed, typed_feed, type_feed, feed}
 use Rattle.varint.specs.ByByte.{part, prog, Good}
 use Rattle.frames.specs.Modes.{UNSET, mode_of}
 use Rattle.frames.specs.declared.Cells.{Cells}
 use Rattle.frames.specs.Both as place
-use Rattle.frames.specs.Uses.{place_of, Stands, a_place}
+use Rattle.frames.specs.Uses.{place_of, a_place}
 use Rattle.frames.specs.Heads.{head_state}
-use Rattle.frames.specs.Answers.{mode_state, state_of, StandsIn, Sane, Held}
+use Rattle.frames.specs.Answers.{mode_state, state_of, StandsIn, Sane}
 use Rattle.oneway.specs.declared.Seen.{Seen}
 use Rattle.oneway.specs.declared.OneWay.{OneWay}
 use Rattle.oneway.specs.declared.OneAnswer.{OneAnswer}

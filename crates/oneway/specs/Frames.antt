@@ -29,12 +29,12 @@ use Rattle.frames.specs.Both as place
 use Rattle.frames.specs.Uses.{place_of, Stands, a_place, any_set}
 use Rattle.frames.specs.Heads.{head_state}
 use Rattle.frames.specs.Parts.{judged_as}
-use Rattle.frames.specs.Answers.{mode_state, kept_at, state_at, state_of, place_at, place_in, StandsIn, answer_at, answer_of, Sane, Held}
+use Rattle.frames.specs.Answers.{mode_state, kept_at, state_at, state_of, place_at, place_in, StandsIn, answer_at, Sane, Held}
 use Rattle.frames.specs.Fed.{Fed}
 use Rattle.frames.specs.Apart.{controls, state_carried, control_fed}
 use Rattle.oneway.specs.declared.OneWay.{OneWay}
 use Rattle.oneway.specs.declared.OneAnswer.{OneAnswer}
-use Rattle.oneway.specs.Stands.{one_state_at, one_state, one_answer_at, OneSoundAt, OneSound, cells_of, OneShapeAt, OneShape, StandsAt, Says}
+use Rattle.oneway.specs.Stands.{one_state_at, one_answer_at, OneSoundAt, OneSound, cells_of, OneShapeAt, OneShape, StandsAt, Says}
 use Rattle.oneway.specs.Typed.{one_past}
 use Rattle.record.specs.Kinds.{CONTROL}
 

@@ -1,5 +1,5 @@
 -- The calls of one one-way stream over its record and the connection's side, as definitions: what each answers. Assumes nothing.
-use Rattle.std.specs.Prelude.{◌≡◌, ℕ, zero, suc, ◌-◌, ◌≤◌, List, Bool, take}
+use Rattle.std.specs.Prelude.{◌≡◌, ℕ, zero, suc, ◌-◌, ◌≤◌, List, take}
 use Rattle.rules.specs.Events.{NOTHING, QPACK, SETTINGS, GOAWAY, MAX-PUSH-ID, FREED}
 use Rattle.rules.specs.Numbers.{ACCEPTED, NOT-OPEN, NO-SECTION, code_number}
 use Rattle.rules.specs.Reading.{Kept as Payload, settings, goaway, max_push_id, cancel_push}

@@ -1,32 +1,29 @@
 -- An open one-way stream's numbers, and the record and the side that a state leaves. Assumes nothing.
-use Rattle.std.specs.Prelude.{◌≡◌, List, [], ◌++◌, Bool, true, false, length, take, drop, ltb}
+use Rattle.std.specs.Prelude.{◌≡◌, List, [], Bool, true, false, length, take, ltb}
 use Rattle.std.proofs.Math.Path.{refl, sym, ap}
-use Rattle.std.proofs.Common.{◌∙◌, subst, arith, length-take, take_all, take-take, length-take-le, ltb→lt, nltb→le}
-use Prim.Native.Nat.{ℕ, zero, suc, ◌+◌, ◌-◌, ◌%◌, ◌≤◌, ◌<◌, ◌^◌, min}
-use Rattle.std.proofs.Math.Seq.{take-nil}
+use Rattle.std.proofs.Common.{◌∙◌, arith, length-take, take_all, take-take, ltb→lt, nltb→le}
+use Prim.Native.Nat.{ℕ, zero, suc, ◌-◌, ◌≤◌, ◌<◌, min}
 use borrow.Author.Tests.{lt-ltb, ne_eqb}
 use Rattle.rules.specs.Reading.{content, skipped, section, kept}
 use Rattle.rules.specs.Message.{opening}
-use Rattle.rules.specs.Control.{Control, unset, set}
-use Rattle.meaning.specs.Machine.{State, in_type, between}
-use Rattle.meaning.specs.Hom.{map_state}
+use Rattle.rules.specs.Control.{Control, unset}
+use Rattle.meaning.specs.Machine.{in_type}
 use Rattle.meaning.specs.OneWayFeed.{in_stream_type, in_control}
 use Rattle.varint.specs.ByByte.{prog, part_of}
 use Rattle.frames.specs.Modes.{IN-TYPE, IN-SETTINGS, OPENING, UNSET, SET, Mode, typing, sizing, paying, waiting, mode_of, at_kept}
 use Rattle.frames.specs.declared.Cells.{Cells}
-use Rattle.frames.specs.Both.{Place, of_request, of_control}
+use Rattle.frames.specs.Both.{of_request, of_control}
 use Rattle.frames.specs.Uses.{place_of, Stands, a_place, any_set}
 use Rattle.frames.specs.Heads.{head_state}
-use Rattle.frames.specs.Answers.{mode_state, state_at, state_of, StandsIn, Sane, Held}
+use Rattle.frames.specs.Answers.{mode_state, state_at, state_of, StandsIn, Held}
 use Rattle.frames.specs.Apart.{state_carried}
 use Rattle.record.specs.Kinds.{FREE, UNTYPED, CONTROL, ENCODER, DECODER, SKIPPED, UNSOUND}
 use Rattle.record.specs.declared.Record.{Record}
 use Rattle.record.specs.declared.Stream.{Stream}
 use Rattle.record.specs.Row.{phase_of, stated_in, is_stated, length_of, sum_in, numbers_of, place_in, record_from, one_way_record}
-use Rattle.record.specs.Sound.{Decides, Fit, cells_in, own_place, Sound, stream, Read, is_free, is_open, is_unsound, Written}
+use Rattle.record.specs.Sound.{Fit, cells_in, own_place, Sound, stream, Read, is_free, is_open, is_unsound, Written}
 use Rattle.record.specs.Tidy.{place_back}
 use Rattle.record.specs.Same.{written_as, sound_read, type_record, encoder_record, decoder_record, skipped_record}
-use Rattle.oneway.specs.declared.OneWay.{OneWay}
 use Rattle.oneway.specs.Stands.{one_state_at, OneStands, OneSoundAt, OneShapeAt, StandsAt, cells_of}
 use Rattle.control.specs.declared.Kept.{Kept}
 use Rattle.control.specs.Rules.{control_at, control_of}

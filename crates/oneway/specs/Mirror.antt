@@ -1,6 +1,5 @@
 -- What a connection keeps of its one-way streams: the mirror of the control stream's own state, and which streams have come. Assumes nothing.
-use Rattle.std.specs.Prelude.{◌≡◌, refl, ℕ, zero, suc, ◌-◌, min, List, [], true, false, ltb, eqb, length, take, replicate}
-use Rattle.std.proofs.Math.Option.{Option, none, some}
+use Rattle.std.specs.Prelude.{ℕ, zero, suc, ◌-◌, min, List, [], true, false, ltb, eqb, length, take, replicate}
 use Rattle.std.proofs.lemmas.List.Edits.{sets}
 use Rattle.rules.specs.Control.{Control, unset, set}
 use Rattle.rules.specs.OneWay.{encoder, decoder}
@@ -9,7 +8,7 @@ use Rattle.meaning.specs.OneWayFeed.{OneState, in_stream_type, in_control, in_qp
 use Rattle.record.specs.Row.{is_stated, length_of, place_in}
 use Rattle.control.specs.declared.Kept.{Kept}
 use Rattle.control.specs.Judged.{push_id}
-use Rattle.control.specs.Rules.{some_if, limits_is, control_at, control_of}
+use Rattle.control.specs.Rules.{control_of}
 use Rattle.oneway.specs.declared.calls.Side.{Side}
 use Rattle.frames.specs.Modes.{IN-SETTINGS, UNSET}
 

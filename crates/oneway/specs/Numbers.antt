@@ -1,5 +1,5 @@
 -- Laws of the numbers beside a one-way stream: a law for each way out of the small functions. Assumes nothing.
-use Rattle.std.specs.Prelude.{◌≡◌, List, [], ◌∷◌, ◌++◌, true, false, length, take, drop, get_or, set, replicate}
+use Rattle.std.specs.Prelude.{◌≡◌, List, [], ◌∷◌, ◌++◌, length, take, drop, get_or, set, replicate}
 use Rattle.std.proofs.Math.Path.{refl, sym}
 use Rattle.std.proofs.Common.{ap, ◌∙◌, arith, take-suc, take_all, length-take-le, add-one}
 use Prim.Native.Nat.{ℕ, zero, suc, ◌+◌, ◌-◌, ◌≤◌, ◌<◌, min}
@@ -8,8 +8,7 @@ use Rattle.std.proofs.lemmas.List.Edits.{sets, sets-eq}
 use Rattle.std.proofs.Math.Seq.{length-sets, take-append_seam}
 use borrow.Author.Tests.{eq-eqb, ne_eqb}
 use Rattle.rules.specs.Events.{NOTHING, KEPT-PART, SETTINGS, GOAWAY, MAX-PUSH-ID}
-use Rattle.rules.specs.Reading.{settings, goaway, max_push_id, cancel_push}
-use Rattle.rules.specs.OneWay.{encoder, decoder}
+use Rattle.rules.specs.Reading.{cancel_push}
 use Rattle.record.specs.Kinds.{CONTROL, ENCODER, DECODER}
 use Rattle.record.specs.Row.{is_stated, length_of}
 use Rattle.frames.specs.Modes.{IN-SETTINGS, IN-GOAWAY, IN-MAX-PUSH-ID, UNSET, mode_of}

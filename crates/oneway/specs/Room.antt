@@ -1,14 +1,13 @@
 -- What is kept of a payload, and what is to come of it, are together 256 bytes at most, whatever is fed. Assumes nothing.
-use Rattle.std.specs.Prelude.{◌≡◌, refl, ℕ, zero, suc, ◌+◌, ◌-◌, ◌≤◌, ◌<◌, min, length, take}
-use Rattle.std.proofs.Common.{sym, ap, ◌∙◌, subst, arith, length-take, length-append}
+use Rattle.std.specs.Prelude.{◌≡◌, ℕ, suc, ◌+◌, ◌≤◌, length}
+use Rattle.std.proofs.Common.{subst, arith, length-append}
 use mathlib.Core.List.{List, [], ◌∷◌, ◌++◌}
 use Rattle.rules.specs.Numbers.{Code}
 use Rattle.rules.specs.Reading.{Kept, Use, content, skipped, section, kept, Ruling, refuse, accept, Next, stop, go}
 use Rattle.rules.specs.Control.{Control, unset, control, judged, rule}
 use Rattle.rules.specs.OneWay.{Qpack, Kind, a_control, a_qpack, Typed, is, type_rule}
 use Rattle.rules.specs.OneWay as type
-use Rattle.meaning.specs.Machine.{Prog, Fed, going, value, fed, State, in_type, in_length, in_payload, due, Outcome, between}
-use Rattle.meaning.specs.Machine as M
+use Rattle.meaning.specs.Machine.{Prog, Fed, going, value, fed, State, Outcome, between}
 use Rattle.meaning.specs.Feed as F
 use Rattle.meaning.specs.FeedUses.{Uses, NotKept, RulesWithin, JudgesWithin, StateWithin, OutcomeWithin, FeedWithin, feed_within}
 use Rattle.meaning.specs.ControlLaws.{KeptWithin, control_limit, settings_limit_is}

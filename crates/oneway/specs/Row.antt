@@ -7,7 +7,7 @@ use Rattle.frames.specs.Modes.{IN-CONTENT, IN-SETTINGS, OPENING, UNSET, SET}
 use Rattle.frames.specs.declared.Cells.{Cells}
 use Rattle.frames.specs.Answers.{Sane}
 use Rattle.record.specs.Kinds.{UNTYPED, CONTROL, ENCODER, SKIPPED}
-use Rattle.record.specs.Sound.{Shaped, Fit}
+use Rattle.record.specs.Sound.{Fit}
 use Rattle.oneway.specs.declared.OneWay.{OneWay}
 use Rattle.oneway.specs.Stands.{OneSoundAt, OneSound, cells_of, OneShapeAt, OneShape}
 

@@ -1,12 +1,12 @@
 -- The numbers of a one-way stream and of an answer, and what they say of a feed. Assumes nothing.
-use Rattle.std.specs.Prelude.{◌≡◌, refl, ℕ, zero, suc, ◌+◌, ◌-◌, ◌≤◌, ◌<◌, List, [], ◌++◌, true, false, ◌⊎◌, length, take, drop}
+use Rattle.std.specs.Prelude.{◌≡◌, ℕ, zero, suc, ◌+◌, ◌-◌, ◌≤◌, ◌<◌, List, [], ◌++◌, true, false, ◌⊎◌, length, take, drop}
 use Rattle.rules.specs.Events.{NOTHING, FAULT, KEPT, KEPT-PART, QPACK}
 use Rattle.rules.specs.Numbers.{coded, code_number}
 use Rattle.rules.specs.Control.{Control, unset, control}
 use Rattle.rules.specs.OneWay.{Qpack, encoder, decoder}
-use Rattle.meaning.specs.Feed.{Event, quiet, section_bytes, content_bytes}
+use Rattle.meaning.specs.Feed.{quiet, section_bytes, content_bytes}
 use Rattle.meaning.specs.FeedLaws.{past}
-use Rattle.meaning.specs.OneWayFeed.{OneState, in_stream_type, in_control, in_qpack, in_skipped, OneOutcome, lives, dies, OneEvent, of_frames, qpack_bytes, OneFeeding, of_control, feed}
+use Rattle.meaning.specs.OneWayFeed.{OneState, in_stream_type, in_control, in_qpack, in_skipped, lives, dies, of_frames, qpack_bytes, OneFeeding, of_control, feed}
 use Rattle.varint.specs.ByByte.{part, prog, Good}
 use Rattle.frames.specs.Modes.{IN-TYPE, IN-CONTENT, IN-SETTINGS, OPENING, UNSET, SET}
 use Rattle.frames.specs.declared.Cells.{Cells}

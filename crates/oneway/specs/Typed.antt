@@ -1,5 +1,5 @@
 -- A stream's type, read a byte at a time to its end or the piece's. Assumes nothing.
-use Rattle.std.specs.Prelude.{◌≡◌, refl, ℕ, zero, suc, ◌+◌, ◌≤◌, ◌<◌, List, [], ◌∷◌, length, drop, get_or}
+use Rattle.std.specs.Prelude.{◌≡◌, ℕ, zero, suc, ◌+◌, ◌≤◌, ◌<◌, List, ◌∷◌, length, drop, get_or}
 use Rattle.std.proofs.Common.{sym, ap, ◌∙◌, zero-add, add-one, arith, drop-cons}
 use Rattle.rules.specs.OneWay.{type_rule}
 use Rattle.meaning.specs.Machine.{Prog, Fed, going, value, fed}

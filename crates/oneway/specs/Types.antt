@@ -1,12 +1,12 @@
 -- A stream's type in numbers: which types came before, and the kind or the code that the rule answers. Assumes nothing.
-use Rattle.std.specs.Prelude.{◌≡◌, List, [], ◌∷◌, ◌++◌, Bool, true, false, eqb}
+use Rattle.std.specs.Prelude.{◌≡◌, List, [], ◌∷◌, ◌++◌}
 use Rattle.std.proofs.Math.Path.{refl}
-use Rattle.std.proofs.Common.{sym, ap, ◌∙◌}
+use Rattle.std.proofs.Common.{◌∙◌}
 use Prim.Native.Nat.{ℕ, zero, suc}
 use borrow.Author.Tests.{ne_eqb}
 use Rattle.rules.specs.Numbers.{STREAM-CREATION-ERROR, code_number}
 use Rattle.rules.specs.Text.{is_one_of, lookup}
-use Rattle.rules.specs.OneWay.{Qpack, encoder, decoder, Kind, a_control, a_qpack, skipped, Typed, refuse, is, once, type_rule}
+use Rattle.rules.specs.OneWay.{encoder, decoder, a_control, a_qpack, skipped, Typed, refuse, is, once, type_rule}
 use Rattle.oneway.specs.declared.Seen.{Seen}
 use Rattle.record.specs.Kinds.{CONTROL, ENCODER, DECODER, SKIPPED}
 

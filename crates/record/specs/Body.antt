@@ -2,14 +2,13 @@
 use Rattle.std.specs.Prelude.{◌≡◌, refl, ℕ, zero, suc, ◌%◌, ◌≤◌, ◌<◌, ◌^◌, true, false}
 use Rattle.std.proofs.Common.{sym, ap, ◌∙◌, subst, arith, lit≤, lit<}
 use Rattle.varint.specs.ByByte.{part, Good}
-use Rattle.rules.specs.Events.{CONTENT}
 use Rattle.frames.specs.Modes.{IN-TYPE, IN-CONTENT, TRAILERS-DUE, BODY}
 use Rattle.frames.specs.declared.Cells.{Cells}
 use Rattle.frames.specs.Answers.{Sane, Content, goes_on, is_over}
 use Rattle.record.specs.Kinds.{REQUEST}
 use Rattle.record.specs.declared.Record.{Record}
 use Rattle.record.specs.Row.{record_at}
-use Rattle.record.specs.Sound.{Fit, cells_in, tidied, Sound, stream, Written}
+use Rattle.record.specs.Sound.{cells_in, tidied, Sound, stream, Written}
 use Rattle.record.specs.Same.{written_own}
 use Rattle.record.specs.Tests.{row_own, request_shape}
 use Rattle.record.specs.Tidy.{head_as, head_tidied, place_as, place_tidied, tidy_type, tidy_payload, tidy_unstated, tidy_stated, tidy_both, value_none}

@@ -1,7 +1,6 @@
 -- THE ONE RECORD that means a state: numbers alone, and those that would say nothing are 0. Assumes nothing.
 use Rattle.std.specs.Prelude.{ℕ, suc}
 use Rattle.std.proofs.Math.Option.{Option, none, some}
-use Rattle.rules.specs.Events.{SETTINGS}
 use Rattle.rules.specs.Message.{Message, opening, body, trailed}
 use Rattle.rules.specs.Control.{unset, set}
 use Rattle.rules.specs.OneWay.{encoder, decoder}

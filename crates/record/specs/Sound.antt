@@ -1,6 +1,5 @@
 -- Which records are sound, and what reading and writing answer. Assumes nothing.
 use Rattle.std.specs.Prelude.{◌≡◌, ℕ, ◌%◌, ◌≤◌, ◌<◌, ◌^◌, List, [], Bool, true, false}
-use Rattle.rules.specs.Events.{QPACK}
 use Rattle.frames.specs.Modes.{IN-TYPE, IN-CONTENT, TRAILERS-DUE, IN-SETTINGS, OPENING, TRAILED, UNSET, SET}
 use Rattle.frames.specs.declared.Cells.{Cells}
 use Rattle.frames.specs.Both.{Place}

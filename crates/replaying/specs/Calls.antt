@@ -1,7 +1,7 @@
 -- The lines of a read and of a write, by their answers. Assumes nothing.
 use Rattle.std.specs.Prelude.{ℕ, ◌≤◌, ◌≡◌, refl, List, length, take, replicate}
 use Rattle.std.proofs.Common.{sym, ap, ◌∙◌, arith, length-take, length-take-le}
-use Rattle.rules.specs.Integers.{integer, cut, got}
+use Rattle.rules.specs.Integers.{integer, cut}
 use Rattle.rules.specs.Writer.{Write, refused, wrote}
 use Rattle.varint.specs.Whole.{whole_is}
 use Rattle.varint.specs.Write.{Meets, wrote_of}

@@ -1,5 +1,5 @@
 -- The lines that `replay` prints, byte by byte. Assumes nothing.
-use Rattle.std.specs.Prelude.{ℕ, suc, ◌+◌, List, [], ◌∷◌, ◌++◌, Bool, true, false, eqb, length}
+use Rattle.std.specs.Prelude.{ℕ, suc, List, [], ◌∷◌, ◌++◌, Bool, true, false, eqb, length}
 use Rattle.rules.specs.Events.{CONTENT, SECTION, SECTION-END, QPACK, SETTINGS, GOAWAY, MAX-PUSH-ID, WHOLE, FREED}
 use Rattle.record.specs.Kinds.{FREE, REQUEST, UNTYPED, CONTROL, ENCODER, DECODER}
 use Rattle.frames.specs.Modes.{HEADER-SECTION-DUE, TRAILERS-DUE}

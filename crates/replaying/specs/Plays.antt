@@ -1,6 +1,6 @@
 -- WHAT A LINE LEAVES AND PRINTS: the lent call that its letter means, and the line of what the call answered. Assumes nothing.
 use Rattle.std.specs.Prelude.{ℕ, zero, suc, ◌≤◌, ◌<◌, ◌≡◌, refl, List, [], ◌∷◌, true, false, length, take, replicate}
-use Rattle.std.proofs.Common.{sym, ap, subst, ◌∙◌, arith}
+use Rattle.std.proofs.Common.{ap, subst, ◌∙◌, arith}
 use Rattle.std.proofs.lemmas.List.{length-replicate}
 use Rattle.rules.specs.Integers.{integer}
 use Rattle.listing.specs.Put.{Put}

@@ -1,9 +1,8 @@
 -- A text of at most so many bytes, put into a room. Assumes nothing.
-use Rattle.std.specs.Prelude.{ℕ, zero, suc, ◌+◌, ◌*◌, ◌/◌, ◌%◌, ◌≤◌, ◌<◌, ◌^◌, ◌≡◌, refl, List, [], ◌∷◌, ◌++◌, length, take, get_or, set}
+use Rattle.std.specs.Prelude.{ℕ, suc, ◌+◌, ◌/◌, ◌%◌, ◌≤◌, ◌<◌, ◌^◌, ◌≡◌, refl, List, [], ◌∷◌, ◌++◌, length, take, get_or, set}
 use Rattle.std.proofs.Common.{sym, ap, ◌∙◌, append_assoc, append-nil, add-one, arith, length-append, take-suc, take_all, length-take-le}
-use Rattle.std.proofs.lemmas.List.Edits.{sets}
 use Rattle.listing.specs.Text.{decimal}
-use Rattle.listing.specs.Put.{Put, then_put, same_room, short}
+use Rattle.listing.specs.Put.{Put, then_put, short}
 use Rattle.script.specs.Words.{hex_digit, hexes, hex_word}
 use Rattle.script.specs.Laws.{some_bytes}
 use Rattle.record.specs.declared.Record.{Record}

@@ -1,8 +1,8 @@
 -- Laws of a feed: a law for each way out. Assumes nothing.
-use Rattle.std.specs.Prelude.{◌≡◌, ◌⊎◌, drop}
+use Rattle.std.specs.Prelude.{◌≡◌, drop}
 use Rattle.std.proofs.Math.Path.{refl}
 use Rattle.std.proofs.Common.{sym, ap, ◌∙◌, subst, arith, ⊎_elim}
-use Prim.Native.Nat.{ℕ, zero, suc, ◌+◌, ◌-◌, ◌≤◌, ◌<◌}
+use Prim.Native.Nat.{ℕ, zero, suc, ◌-◌, ◌≤◌, ◌<◌}
 use mathlib.Core.List.{List, [], ◌++◌}
 use Rattle.std.proofs.Math.ListN.{take}
 use Rattle.rules.specs.Events.{NOTHING, CONTENT, FAULT, KEPT}
@@ -11,7 +11,7 @@ use Rattle.rules.specs.Reading.{Part}
 use Rattle.rules.specs.Message.{Message}
 use Rattle.rules.specs.Request.{document, request}
 use Rattle.meaning.specs.NumberLaws.{code_high}
-use Rattle.meaning.specs.Machine.{State, lives, dies}
+use Rattle.meaning.specs.Machine.{State, lives}
 use Rattle.meaning.specs.Feed.{taken, Feeding, halt, judged_event, feed}
 use Rattle.meaning.specs.FeedLaws.{past}
 use Rattle.meaning.specs.Hom.{map_state, map_outcome, map_feeding}

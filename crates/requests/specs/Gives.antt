@@ -1,16 +1,14 @@
 -- Laws of a section given. Assumes nothing.
 use Rattle.std.specs.Prelude.{◌≡◌, ℕ, zero, suc, ◌≤◌, ◌<◌, Bool, true, false, eqb}
 use Rattle.std.proofs.Math.Path.{refl, ap, subst}
-use Rattle.std.proofs.Common.{sym, ◌∙◌, arith, lit≤, eqb-true}
+use Rattle.std.proofs.Common.{sym, ◌∙◌, arith, eqb-true}
 use mathlib.Core.List.{List, []}
 use Rattle.std.proofs.lemmas.Bool.{eqb-false}
 use Rattle.rules.specs.Numbers.{ACCEPTED, NO-SECTION, UNREADABLE, code_number}
-use Rattle.rules.specs.Block.{Section, Lines, unreadable, readable, lines}
+use Rattle.rules.specs.Block.{Lines, unreadable, readable, lines}
 use Rattle.rules.specs.Reading.{header_section, trailers, Next, stop, go}
-use Rattle.rules.specs.Section.{Reason, Judgement, Head, code_of as section-code}
-use Rattle.rules.specs.Section as section
-use Rattle.rules.specs.Message.{Message, Step, goes, refuses, heads, trails}
-use Rattle.rules.specs.Request.{document, header_by, trailer_by, next_of, headed_by, trailed_by, given as next-given}
+use Rattle.rules.specs.Message.{Message}
+use Rattle.rules.specs.Request.{document, given as next-given}
 use Rattle.meaning.specs.NumberLaws.{code_high}
 use Rattle.meaning.specs.Machine.{due, between, answered, given}
 use Rattle.meaning.specs.Hom.{map_state}

@@ -1,14 +1,14 @@
 -- A request keeps no payload: what its feed says and leaves. Assumes nothing.
-use Rattle.std.specs.Prelude.{◌≡◌, refl, ℕ, ◌≤◌, List, []}
+use Rattle.std.specs.Prelude.{◌≡◌, refl, ℕ, List, []}
 use Rattle.std.proofs.Common.{subst}
 use Rattle.rules.specs.Numbers.{Code}
-use Rattle.rules.specs.Reading.{Kept, Use, content, skipped, section, kept, Ruling, Next}
+use Rattle.rules.specs.Reading.{Kept, Use, content, skipped, section, kept, Ruling}
 use Rattle.rules.specs.Message.{Message}
-use Rattle.rules.specs.Request.{Rules, request, rule}
-use Rattle.meaning.specs.Machine.{State, Outcome, lives, dies}
+use Rattle.rules.specs.Request.{Rules, request}
+use Rattle.meaning.specs.Machine.{State, lives}
 use Rattle.meaning.specs.Feed.{taken, Feeding, feed}
 use Rattle.meaning.specs.RequestLaws.{RuleView, r_refused, r_skipped, r_content, r_header, r_trailers, rule_view}
-use Rattle.meaning.specs.FeedUses.{Uses, NotKept, RulesWithin, JudgesWithin, StateWithin, OutcomeWithin, EventWithin, FeedWithin, feed_within}
+use Rattle.meaning.specs.FeedUses.{Uses, NotKept, RulesWithin, StateWithin, OutcomeWithin, EventWithin, feed_within}
 
 -- nothing is kept of a payload that is handed over or skipped
 abbrev Handed : Uses

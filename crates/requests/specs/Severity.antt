@@ -1,5 +1,5 @@
 -- Which numbers free a record: document 01's last table. Assumes nothing.
-use Rattle.std.specs.Prelude.{◌≡◌, refl, ℕ, ◌∷◌, true, false}
+use Rattle.std.specs.Prelude.{◌≡◌, refl, ℕ, ◌∷◌, false}
 use Rattle.std.proofs.Common.{sym, ◌∙◌}
 use Rattle.rules.specs.Numbers.{REQUEST-REJECTED, REQUEST-CANCELLED, REQUEST-INCOMPLETE, MESSAGE-ERROR, StreamFault, request_rejected, request_cancelled, request_incomplete, message_error, ConnectionFault, of_stream, of_connection, accepted, code_number, number_of, rows, named, house_leaves, leaves}
 use Rattle.meaning.specs.NumberLaws.{name_view, fault_named}

@@ -10,7 +10,7 @@ use Rattle.rules.specs.Reading.{header_section, trailers, Next, stop, go}
 use Rattle.rules.specs.Message.{Message, opening, body, trailed, heads, trails}
 use Rattle.rules.specs.Request.{Header, Trailer, document, code_of, next_of, headed_by, trailed_by, given}
 use Rattle.rules.specs.Request as request
-use Rattle.meaning.specs.Machine.{State, between}
+use Rattle.meaning.specs.Machine.{between}
 use Rattle.varint.specs.ByByte.{prog, fresh_good}
 use Rattle.rules.specs.Section.{code_of as section-code}
 use Rattle.section.specs.declared.Stated.{Stated}

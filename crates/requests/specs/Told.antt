@@ -2,11 +2,10 @@
 use Rattle.std.specs.Prelude.{◌≡◌, ℕ, ◌≤◌, []}
 use Rattle.std.proofs.Math.Path.{refl, ap}
 use Rattle.std.proofs.Common.{sym, ◌∙◌, arith}
-use Rattle.rules.specs.Reading.{Verdict, whole, fault, waits, ended}
-use Rattle.rules.specs.Message.{Message, Reason, out_of_place, past_stated, past_limit, no_section, unequal, Ended, all_come, lacks, ends}
-use Rattle.rules.specs.Request.{document, request, code_of, end_of_ended}
+use Rattle.rules.specs.Reading.{Verdict, whole, fault, waits}
+use Rattle.rules.specs.Request.{document, request}
 use Rattle.meaning.specs.NumberLaws.{code_high}
-use Rattle.meaning.specs.Machine.{fresh, need, State, in_type, in_length, in_payload, due, finish}
+use Rattle.meaning.specs.Machine.{finish}
 use Rattle.frames.specs.Modes.{TRAILED}
 use Rattle.frames.specs.declared.Cells.{Cells}
 use Rattle.frames.specs.Both.{of_request}

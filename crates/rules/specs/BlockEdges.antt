@@ -4,7 +4,7 @@ use Rattle.std.specs.Prelude.{refl, ℕ, List, [], ◌∷◌, ◌++◌, map}
 use Prim.Native.String.{String}
 use Rattle.rules.specs.Text.{ascii, nibble, hex_from, hex}
 use Rattle.rules.specs.Block.{Line, Section, Flaw, readable, unreadable, other_kind, short_length, long_name, cut_record}
-use Rattle.rules.specs.Worked.{block, number, lines_are, Worked, answer, Holds, asks, long}
+use Rattle.rules.specs.Worked.{block, lines_are, Worked, answer, Holds, asks, long}
 
 abbrev lines_of : (bytes : List ℕ) → Section → Worked
 lines_of bytes s = asks (block bytes) (lines_are (readable s))

@@ -1,6 +1,6 @@
 -- Calls and the host's memory (document 01): what a call may ask of one stream and be answered; the connection, the row of records, and every call with its numbers in order.
 -- The machine of a stream is a parameter: document 01's own is demands/Streams. Assumes nothing.
-use Rattle.std.specs.Prelude.{ℕ, zero, suc, ◌+◌, ◌*◌, ◌%◌, ◌≤◌, ◌<◌, ◌^◌, List, [], ◌∷◌, ◌++◌, map, Bool, true, false, take, drop, length, replicate, ◌≡◌}
+use Rattle.std.specs.Prelude.{ℕ, ◌+◌, ◌%◌, ◌^◌, List, [], ◌∷◌, map, Bool, true, false, take, drop, length, replicate}
 use Rattle.std.proofs.Math.Option.{Option, none, some}
 use Rattle.rules.specs.Numbers.{House, section_due, no_section, unreadable, StreamFault, ConnectionFault, Code, of_stream, of_connection, not_open, not_next, no_record, room_short, bad_value, other_row, request_rejected}
 use Rattle.rules.specs.Integers.{written}

@@ -1,6 +1,6 @@
 -- Edges of Section: each malformed item and its near misses, each order of two faults, the size and one past it.
 -- Each list is a claim, computed; what it says was worked out by hand from document 01. Assumes nothing.
-use Rattle.std.specs.Prelude.{refl, ◌≡◌, ℕ, ◌+◌, ◌-◌, List, [], ◌∷◌, ◌++◌, map, Bool, true, false, replicate}
+use Rattle.std.specs.Prelude.{refl, ◌≡◌, ℕ, ◌-◌, List, [], ◌∷◌, ◌++◌, map, Bool, true, false, replicate}
 use Rattle.std.proofs.Math.Option.{none, some}
 use Prim.Native.String.{String}
 use Rattle.rules.specs.Text.{ascii, nibble, hex_from, hex}

@@ -1,8 +1,8 @@
 -- What a host is shown: what one stream shows of a trace, and what a trace says of the connection. Only calls and answers are looked at: no row, no connection record. Assumes nothing.
-use Rattle.std.specs.Prelude.{ℕ, zero, suc, ◌+◌, ◌*◌, ◌-◌, ◌<◌, ◌^◌, List, [], ◌∷◌, ◌++◌, take, ◌≡◌, Bool, true, false}
+use Rattle.std.specs.Prelude.{ℕ, suc, ◌+◌, ◌*◌, ◌-◌, ◌<◌, ◌^◌, List, [], ◌∷◌, ◌++◌, take, ◌≡◌, Bool, false}
 use Rattle.std.proofs.Math.Decide.{ℕ_discrete}
 use Rattle.rules.specs.Numbers.{Code, of_stream, of_connection, ConnectionFault}
-use Rattle.rules.specs.Calls.{Notice, Event, content_in, section_in, notices_in, qpack_in, Gave, done, fed, Left, whole, freed, Own, feed, section, end, reset, Machine, pick, Call, start, open', on, goaway, Answer, gave, left, house, code, Entry, Kind, request, one_way, kind_of, over}
+use Rattle.rules.specs.Calls.{Notice, Event, content_in, section_in, notices_in, qpack_in, Gave, done, fed, whole, freed, Own, feed, section, end, reset, Machine, pick, Call, start, open', on, goaway, Answer, gave, left, house, code, Entry, Kind, request, one_way, kind_of, over}
 use Rattle.std.proofs.Math.Option.{Option, none, some}
 
 -- bytes consumed, sections accepted, section bytes and content handed over, headers finished; and of a one-way stream what it reported (settings,

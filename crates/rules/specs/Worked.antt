@@ -15,7 +15,7 @@ use Rattle.rules.specs.Request as R
 use Rattle.rules.specs.Request.{document, all_sound, request}
 use Rattle.rules.specs.Control as C
 use Rattle.rules.specs.OneWay.{OneWay, untyped, refused, of_control, of_qpack, passed_over, once, type_rule, typed, behind_type, one_way_read, fault_in, closed}
-use Rattle.rules.specs.Numbers.{Code, house_number, code_number, number_of, rows as number_rows, named_in, named, code_in, coded, Severity, severity, Leaves, house_leaves, leaves}
+use Rattle.rules.specs.Numbers.{Code, number_of, rows as number_rows, named_in, named, code_in, coded, Severity, severity, Leaves, house_leaves, leaves}
 use Rattle.rules.specs.Writer.{Write, wrote, refused as no_write, into, both, write_integer, frame_header_bytes, write_header, integer_frame, write_integer_frame, opening, write_opening, is_higher, bad_goaway, write_goaway}
 
 pub data Question : Type 0 where

@@ -1,5 +1,5 @@
 -- The writer (document 01, "The writer and the lister", "Calls and the host's memory"). Assumes nothing.
-use Rattle.std.specs.Prelude.{ℕ, ◌+◌, ◌%◌, List, ◌++◌, Bool, true, false, ◌||◌, not, ltb, eqb, length}
+use Rattle.std.specs.Prelude.{ℕ, ◌%◌, List, ◌++◌, Bool, true, false, ◌||◌, not, ltb, eqb, length}
 use Rattle.std.proofs.Math.Option.{Option, none, some}
 use Rattle.rules.specs.Text.{hex}
 use Rattle.rules.specs.Numbers.{ROOM-SHORT, BAD-VALUE}

@@ -1,6 +1,6 @@
 -- Words read digit by digit. Assumes nothing.
 use Rattle.std.specs.Prelude.{ℕ, suc, ◌+◌, ◌*◌, ◌-◌, ◌≤◌, ◌<◌, ◌/◌, ◌%◌, ◌≡◌, refl, List, [], ◌∷◌, ◌++◌, length, take, drop, get_or, set}
-use Rattle.std.proofs.Common.{ap, sym, ◌∙◌, append_assoc, add-one, arith, length-drop, take-suc, take-suc-set, get_or-drop, lt-ltb, le-ltb}
+use Rattle.std.proofs.Common.{ap, sym, ◌∙◌, add-one, arith, length-drop, take-suc, take-suc-set, get_or-drop, lt-ltb, le-ltb}
 use Rattle.listing.specs.Text.{decimal}
 use Rattle.listing.specs.Put.{one_digit, last_digit}
 use Rattle.script.specs.Words.{hex_digit, hexes, hex_word, between, Spelt, NumberAt, Decoded, BytesAt, no_line, EndedAs, LineAt}

@@ -1,5 +1,5 @@
 -- The words of a script's line, and what is known of a line that was read. Assumes nothing.
-use Rattle.std.specs.Prelude.{ℕ, ◌+◌, ◌*◌, ◌-◌, ◌≤◌, ◌<◌, ◌/◌, ◌%◌, ◌≡◌, List, [], ◌∷◌, ◌++◌, true, false, ltb, length, take, drop}
+use Rattle.std.specs.Prelude.{ℕ, ◌+◌, ◌-◌, ◌≤◌, ◌<◌, ◌/◌, ◌%◌, ◌≡◌, List, [], ◌∷◌, true, false, ltb, length, take, drop}
 use Rattle.listing.specs.Text.{decimal}
 use Rattle.script.specs.declared.Number.{Number}
 use Rattle.script.specs.declared.Number.TheVariants.{Is, Nothing}

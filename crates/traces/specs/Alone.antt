@@ -1,14 +1,14 @@
 -- INDEPENDENCE: a call on one stream touches no other record, and a request stream is what its own calls made of it. Assumes nothing.
-use Rattle.std.specs.Prelude.{◌≡◌, ℕ, zero, suc, ◌+◌, ◌<◌, ◌≤◌}
+use Rattle.std.specs.Prelude.{◌≡◌, ℕ, ◌<◌}
 use Rattle.std.proofs.Math.Path.{refl, ap}
 use Rattle.std.proofs.Common.{sym, ◌∙◌, subst, arith}
 use Rattle.std.proofs.Math.Decide.{ℕ_discrete}
 use mathlib.Core.List.{List, [], ◌∷◌, ◌++◌}
 use Rattle.std.proofs.Math.Option.{Option, none, some, none-ne-some, some-ne-none, some-injective}
 use Rattle.rules.specs.Numbers.{ConnectionFault, Code, of_stream, of_connection}
-use Rattle.rules.specs.Calls.{Gave, done, Left, Own, Out, refuse, step, leave, fault, Machine, act, map_out, pick, Kind, request, one_way, kind_of, Stream, asking, telling, Slot, free, held, Row, Conn, Pair, Held, Call, start, open', on, goaway, Answer, gave, left, house, code, Result, next_of, spend, killed, keeping, limited, find, put, same, with, alive, faulted, act_on, settle, acting, fresh, first, call, run}
-use Rattle.traces.specs.Row.{Distinct, Seated, find_seat_same, find_put_same, find_put_other, find_free_other, find_free_same, find_seat_other, pick_yes, pick_no}
-use Rattle.traces.specs.Went.{Alive, pair, Went, restarted, still_dead, by_house, barring, faulting, dying, opening, stepping, leaving, sending, went}
+use Rattle.rules.specs.Calls.{Gave, done, Own, Out, refuse, step, leave, fault, Machine, act, map_out, pick, Kind, request, one_way, kind_of, Stream, asking, held, Conn, Pair, Call, start, open', on, goaway, Answer, gave, left, house, code, next_of, spend, killed, keeping, limited, find, same, with, alive, faulted, act_on, settle, acting, fresh, first, call, run}
+use Rattle.traces.specs.Row.{Seated, find_seat_same, find_put_same, find_put_other, find_free_other, find_free_same, find_seat_other}
+use Rattle.traces.specs.Went.{Alive, Went, restarted, still_dead, by_house, barring, faulting, dying, opening, stepping, leaving, sending, went}
 use Rattle.traces.specs.Sound.{Sound, Spent, next_absent, next_spent, spent_spend, spent_as, next_keeping, next_limited, next_killed, sound_call, sound_run, sound_fresh}
 
 -- ---- the statements' words

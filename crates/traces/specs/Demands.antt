@@ -1,15 +1,14 @@
 -- The demands over traces, from what is proved of one request stream by itself. No row and no connection record is in a statement.
 -- Assumes nothing.
-use Rattle.std.specs.Prelude.{◌≡◌, ℕ, zero, suc, ◌+◌, List, [], ◌∷◌, ◌++◌, Bool, length}
+use Rattle.std.specs.Prelude.{◌≡◌, ℕ, List, [], ◌∷◌, ◌++◌, Bool, length}
 use Rattle.std.proofs.Math.Path.{refl}
 use Rattle.std.proofs.Common.{sym, ap, ap₂, ◌∙◌, subst, arith, append-nil, append_assoc, length-append}
 use Rattle.std.proofs.Math.Bool.{true, false}
-use Rattle.std.proofs.Math.Option.{Option, none, some}
+use Rattle.std.proofs.Math.Option.{some}
 use Rattle.std.proofs.Math.ListN.{take}
 use Rattle.rules.specs.Numbers.{StreamFault, Code, of_stream, of_connection, section_due}
-use Rattle.rules.specs.Calls.{Fed, goes, faults, Given, sound, unsound, Ended, is_whole, broken, Own, end, Out, refuse, leave, fault, of_ended, map_out, whole, Machine, act, either, Kind, request, kind_of, asking, Pair, Call, on, Answer, gave, left, house, code, same, with, faulted, settle, find, fresh, call, run, trace}
-use Rattle.rules.specs.Shown.{Shown, Fate, unopened, spent, running, ended, dropped, refused, lost, View, plus_feed, plus_bytes, plus_section, nothing, view}
-use Rattle.traces.specs.Went.{Alive}
+use Rattle.rules.specs.Calls.{faults, unsound, Ended, is_whole, broken, end, refuse, of_ended, map_out, whole, Machine, act, either, request, kind_of, asking, Pair, Call, on, Answer, left, house, code, same, with, faulted, settle, fresh, call, run, trace}
+use Rattle.rules.specs.Shown.{Shown, Fate, unopened, spent, running, ended, dropped, refused, lost, View, plus_bytes, plus_section, view}
 use Rattle.traces.specs.Alone.{call_on_asking}
 use Rattle.traces.specs.Story.{Reached, at_first, Story, not_yet, never, to_the_end, given_up, cut_off, bad_feed, bad_section, bad_end, Asks, asks, story, shut}
 use Rattle.traces.specs.Follow.{Agrees, open_still, over, agrees, not_running}

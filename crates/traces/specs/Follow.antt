@@ -2,12 +2,12 @@
 -- is known of it by itself (a `Tale`). Assumes nothing.
 use Rattle.std.specs.Prelude.{◌≡◌, ℕ}
 use Rattle.std.proofs.Math.Path.{refl}
-use Rattle.std.proofs.Common.{sym, ap, ◌∙◌, subst}
+use Rattle.std.proofs.Common.{sym, ◌∙◌, subst}
 use Rattle.std.proofs.Math.Decide.{ℕ_discrete}
 use mathlib.Core.List.{List, [], ◌∷◌}
-use Rattle.std.proofs.Math.Option.{Option, none, some, none-ne-some, some-ne-none, some-injective}
-use Rattle.rules.specs.Numbers.{House, ConnectionFault, Code, of_stream, of_connection}
-use Rattle.rules.specs.Calls.{Own, feed, section, end, reset, Out, refuse, step, leave, fault, Machine, pick, Kind, kind_of, Stream, held, Conn, Pair, Held, Call, start, open', on, goaway, Answer, gave, left, house, code, spend, killed, keeping, limited, find, same, with, fresh, first, faulted, act_on, settle, call, run, trace}
+use Rattle.std.proofs.Math.Option.{none, some, none-ne-some, some-ne-none, some-injective}
+use Rattle.rules.specs.Numbers.{House, ConnectionFault, of_stream, of_connection}
+use Rattle.rules.specs.Calls.{Own, feed, section, end, reset, Out, refuse, step, leave, fault, Machine, pick, Kind, kind_of, Stream, held, Pair, Held, Call, start, open', on, goaway, Answer, gave, left, house, code, killed, keeping, limited, find, same, with, fresh, first, faulted, act_on, settle, call, run, trace}
 use Rattle.rules.specs.Shown.{Shown, Fate, unopened, spent, running, ended, dropped, refused, lost, View, nothing, struck, elsewhere, mine, if_running, opened, unseen, restarted as anew, seen, view_from, view}
 use Rattle.traces.specs.Row.{Seated, find_put_same, find_free_same, find_seat_same, find_empty}
 use Rattle.traces.specs.Went.{Alive, pair, Went, restarted, still_dead, by_house, barring, faulting, dying, opening, stepping, leaving, sending, went}

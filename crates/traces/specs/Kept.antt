@@ -1,16 +1,16 @@
 -- What the connection keeps is what the one control stream has reported, and there is at most one: requests and other one-way streams leave it
 -- alone. Over what is known of a one-way stream's step. Assumes nothing.
 use Rattle.std.proofs.Math.Path.{◌≡◌, refl, sym}
-use Rattle.std.proofs.Common.{ap, ◌∙◌, subst, arith, true≢false}
+use Rattle.std.proofs.Common.{◌∙◌, arith, true≢false}
 use Rattle.std.specs.Prelude.{ℕ, Bool, true, false}
 use Rattle.std.proofs.Math.Decide.{ℕ_discrete}
 use mathlib.Core.List.{List, [], ◌∷◌}
-use Rattle.std.proofs.Math.Option.{Option, none, some, none-ne-some, some-ne-none, some-injective}
-use Rattle.rules.specs.Numbers.{ConnectionFault, Code}
-use Rattle.rules.specs.Calls.{Event, Fed, goes, faults, Own, feed, section, end, reset, Gave, Out, refuse, step, leave, fault, of_fed, of_closed, map_out, Machine, act, act₁, Kind, request, one_way, Stream, asking, telling, Slot, free, held, Row, Conn, Pair, Held, Call, Answer, spend, killed, keeping, limited, find, put, fresh, first, act_on, call, run}
+use Rattle.std.proofs.Math.Option.{Option, none, some, none-ne-some, some-injective}
+use Rattle.rules.specs.Numbers.{ConnectionFault}
+use Rattle.rules.specs.Calls.{Event, Fed, goes, faults, Own, feed, section, end, reset, Gave, Out, refuse, step, leave, fault, of_fed, of_closed, map_out, Machine, act, act₁, Kind, request, one_way, Stream, asking, telling, free, held, Conn, Pair, Held, Call, Answer, spend, killed, keeping, limited, find, put, fresh, first, act_on, call, run}
 use Rattle.traces.specs.Row.{find_put_same, find_put_other, find_free_other, find_free_same, find_seat_same, find_seat_other, find_empty}
-use Rattle.traces.specs.Went.{Alive, pair, Went, restarted, still_dead, by_house, barring, faulting, dying, opening, stepping, leaving, sending, went}
-use Rattle.traces.specs.Sound.{Sound, next_absent, sound_call, sound_run, sound_fresh}
+use Rattle.traces.specs.Went.{pair, Went, restarted, still_dead, by_house, barring, faulting, dying, opening, stepping, leaving, sending, went}
+use Rattle.traces.specs.Sound.{Sound, next_absent, sound_call, sound_fresh}
 use Rattle.traces.specs.Oneways.{Both}
 
 module _ (M : Machine) (Mirror : Type 0) (mirror : M.Kept → Mirror) (claimed : M.Kept → Bool) (told : M.Oneway → Option Mirror) where

@@ -1,13 +1,12 @@
 -- Document 01's table "Numbers and what they leave", stated apart from the calls, and proved of every call. Assumes nothing.
 use Rattle.std.specs.Prelude.{◌≡◌, ℕ, length}
 use Rattle.std.proofs.Math.Path.{refl}
-use Rattle.std.proofs.Common.{sym, ap, ◌∙◌}
 use Rattle.std.proofs.Math.Decide.{ℕ_discrete}
-use Rattle.std.proofs.Math.Option.{Option, none, some}
-use Rattle.rules.specs.Numbers.{House, other_row, StreamFault, request_rejected, ConnectionFault, Code, of_stream, of_connection}
-use Rattle.rules.specs.Calls.{Gave, Left, Own, Machine, pick, Kind, kind_of, Slot, free, Row, Conn, Pair, Call, start, open', on, goaway, Answer, gave, left, house, code, same, spend, killed, call, rowed, lent}
+use Rattle.std.proofs.Math.Option.{some}
+use Rattle.rules.specs.Numbers.{House, other_row, StreamFault, request_rejected, ConnectionFault, of_stream, of_connection}
+use Rattle.rules.specs.Calls.{Gave, Left, Own, Machine, pick, Kind, kind_of, free, Row, Pair, Call, start, open', on, goaway, Answer, gave, left, house, code, same, spend, killed, call, rowed, lent}
 use Rattle.traces.specs.Row.{Replaced, put_replaces, pick_yes, pick_no}
-use Rattle.traces.specs.Went.{Alive, pair, Went, restarted, still_dead, by_house, barring, faulting, dying, opening, stepping, leaving, sending, went}
+use Rattle.traces.specs.Went.{pair, Went, restarted, still_dead, by_house, barring, faulting, dying, opening, stepping, leaving, sending, went}
 
 pub data Leaves {M : Machine} (p : Pair M) : Call M → Answer → Pair M → Type 0 where
   -- 1 to 9: nothing altered

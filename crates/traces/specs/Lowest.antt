@@ -1,16 +1,16 @@
 -- The next ID of a kind is the lowest one that no opening of the trace spent: `next` of the five conditions, read from the views.
 -- Assumes nothing.
-use Rattle.std.specs.Prelude.{◌≡◌, refl, ℕ, zero, suc, ◌+◌, ◌*◌, ◌%◌, ◌<◌, ◌≤◌, ◌↔◌}
-use Rattle.std.proofs.Common.{sym, ap, ◌∙◌, subst}
+use Rattle.std.specs.Prelude.{◌≡◌, refl, ℕ, ◌+◌, ◌*◌, ◌%◌, ◌<◌, ◌≤◌, ◌↔◌}
+use Rattle.std.proofs.Common.{sym, ap, ◌∙◌}
 use Rattle.std.proofs.Math.Decide.{ℕ_discrete, dec_lt}
 use native.Mathlib.Omega.{arith}
 use mathlib.Core.List.{List, [], ◌∷◌}
-use Rattle.std.proofs.Math.Option.{Option, none, some, none-ne-some, some-injective}
-use Rattle.rules.specs.Numbers.{StreamFault, ConnectionFault, Code, of_stream, of_connection}
-use Rattle.rules.specs.Calls.{Gave, Left, whole, freed, Own, feed, section, end, reset, Machine, pick, Kind, request, one_way, kind_of, Conn, Pair, Call, start, open', on, goaway, Answer, gave, left, house, code, next_of, spend, killed, keeping, limited, fresh, same, call, run, Entry, trace}
+use Rattle.std.proofs.Math.Option.{none, some, none-ne-some, some-injective}
+use Rattle.rules.specs.Numbers.{of_stream, of_connection}
+use Rattle.rules.specs.Calls.{whole, freed, Own, feed, section, end, reset, Machine, pick, Kind, request, one_way, kind_of, Conn, Pair, Call, start, open', on, goaway, Answer, gave, left, house, code, next_of, spend, fresh, same, call, run, Entry, trace}
 use Rattle.rules.specs.Shown.{Shown, Fate, unopened, spent, running, ended, dropped, refused, lost, View, struck, elsewhere, mine, if_running, opened, unseen, restarted as anew, seen, view_from, view, Ledger, ledger, next_in}
 use Rattle.traces.specs.Row.{pick_yes, pick_no}
-use Rattle.traces.specs.Went.{Alive, pair, Went, restarted, still_dead, by_house, barring, faulting, dying, opening, stepping, leaving, sending, went}
+use Rattle.traces.specs.Went.{Went, restarted, still_dead, by_house, barring, faulting, dying, opening, stepping, leaving, sending, went}
 use Rattle.traces.specs.Sound.{next_grows, next_spent, next_keeping, next_limited, next_killed}
 use Rattle.traces.specs.Opening.{next_told}
 

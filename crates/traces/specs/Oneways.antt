@@ -1,13 +1,12 @@
 -- One-way streams. By itself such a stream is a machine of its own bytes; the connection adds one thing only: a second stream of a type that
 -- may come once is refused. Then what a trace shows of it follows from its own bytes as for requests. Assumes nothing.
-use Rattle.std.specs.Prelude.{◌≡◌, ℕ, List, [], ◌∷◌}
+use Rattle.std.specs.Prelude.{◌≡◌, ℕ, List}
 use Rattle.std.proofs.Math.Path.{refl}
-use Rattle.std.proofs.Common.{sym, ap, ◌∙◌}
 use Rattle.std.proofs.Math.Option.{Option, none, some}
-use Rattle.rules.specs.Numbers.{ConnectionFault, stream_creation_error, Code, of_stream, of_connection, no_section}
-use Rattle.rules.specs.Calls.{Event, Fed, goes, faults, Own, feed, section, end, reset, Out, refuse, step, leave, fault, of_fed, of_closed, map_out, Left, freed, Machine, act₁, Kind, one_way, kind_of, Stream, telling, first, act_on, Call, fresh, run, trace}
-use Rattle.rules.specs.Shown.{Shown, Fate, unopened, spent, running, ended, dropped, refused, lost, nothing, plus_feed, plus_bytes, fedly, mine, view}
-use Rattle.traces.specs.Follow.{Shut, GoesOn, goes_on, Next, Tale, Agrees, agrees}
+use Rattle.rules.specs.Numbers.{ConnectionFault, stream_creation_error, Code, of_connection}
+use Rattle.rules.specs.Calls.{Event, Fed, goes, faults, Own, feed, section, end, reset, Out, of_fed, of_closed, map_out, Machine, act₁, one_way, kind_of, Stream, telling, first, act_on, Call, fresh, run, trace}
+use Rattle.rules.specs.Shown.{Shown, Fate, unopened, spent, dropped, refused, lost, nothing, plus_feed, plus_bytes, fedly, mine, view}
+use Rattle.traces.specs.Follow.{Shut, goes_on, Next, Tale, Agrees, agrees}
 
 abbrev pub Both : Machine → Type 0
 Both M = record { state : M.Oneway; kept : M.Kept }

@@ -1,16 +1,16 @@
 -- Opening is accepted exactly if the five conditions hold, all of them read from the trace. Assumes nothing.
-use Rattle.std.specs.Prelude.{◌≡◌, Bool, true, false, ◌↔◌, length}
+use Rattle.std.specs.Prelude.{◌≡◌, false, ◌↔◌}
 use Rattle.std.proofs.Math.Path.{refl, sym, ap}
-use Rattle.std.proofs.Common.{◌∙◌, subst, arith}
-use Prim.Native.Nat.{ℕ, zero, suc, ◌+◌, ◌*◌, ◌-◌, ◌<◌, ◌≤◌, ◌^◌}
+use Rattle.std.proofs.Common.{◌∙◌, arith}
+use Prim.Native.Nat.{ℕ, suc, ◌+◌, ◌*◌, ◌-◌, ◌<◌, ◌^◌}
 use Rattle.std.proofs.Math.Decide.{ℕ_discrete, dec_lt}
 use mathlib.Core.List.{List, [], ◌∷◌}
-use Rattle.std.proofs.Math.Option.{Option, none, some, none-ne-some}
-use Rattle.rules.specs.Numbers.{House, not_next, no_record, request_rejected, ConnectionFault, Code, of_stream, of_connection}
-use Rattle.rules.specs.Calls.{Gave, done, Own, Machine, either, pick, Kind, request, one_way, kind_of, over, Slot, free, held, Row, Conn, Pair, Call, start, open', on, goaway, Answer, gave, left, house, code, Result, Entry, next_of, spend, killed, keeping, limited, barred, find, put, seat, same, with, alive, fresh, first, seated, opening as opening-at, call, run, trace}
-use Rattle.traces.specs.Row.{Seated, Replaced, put_replaces, taken, taken_seat, taken_held, taken_free, taken_empty, room_before, seat_room, pick_yes}
+use Rattle.std.proofs.Math.Option.{some}
+use Rattle.rules.specs.Numbers.{request_rejected, of_stream}
+use Rattle.rules.specs.Calls.{done, Machine, either, Kind, request, one_way, kind_of, over, free, held, Row, Pair, Call, open', Answer, gave, code, next_of, spend, killed, keeping, limited, barred, put, seat, with, alive, fresh, first, seated, opening as opening-at, call, run, trace}
+use Rattle.traces.specs.Row.{put_replaces, taken, taken_seat, taken_held, taken_free, taken_empty, room_before, seat_room, pick_yes}
 use Rattle.traces.specs.Went.{Alive, pair, Went, restarted, still_dead, by_house, barring, faulting, dying, opening, stepping, leaving, sending, went}
-use Rattle.traces.specs.Sound.{Sound, next_absent, sound_call, sound_run, sound_fresh}
+use Rattle.traces.specs.Sound.{Sound, sound_run, sound_fresh}
 use Rattle.traces.specs.Alone.{no_code, no_house}
 use Rattle.rules.specs.Shown.{Ledger, blank, opens, counts, dies, limits, noted, ledger_from, ledger, next_in, barred_in, MayOpen}
 

@@ -8,7 +8,7 @@ use Rattle.std.proofs.Math.Option.{some}
 use Rattle.std.proofs.Math.ListN.{take}
 use Rattle.rules.specs.Numbers.{StreamFault, Code, of_stream, of_connection, section_due, no_section, unreadable}
 use Rattle.rules.specs.Calls.{Event, Fed, goes, faults, Given, sound, unsound, Ended, is_whole, broken, Own, feed, section, refuse, of_fed, of_given, map_out, done, fed, Machine, act, either, request, kind_of, asking, Pair, Call, on, Answer, gave, house, code, same, with, faulted, settle, fresh, call, run, trace}
-use Rattle.rules.specs.Shown.{Shown, View, Fate, running, refused, plus_feed, plus_bytes, plus_section, mine, fedly, view}
+use Rattle.rules.specs.Shown.{Shown, View, running, refused, plus_feed, plus_bytes, plus_section, mine, view}
 use Rattle.traces.specs.Alone.{call_on_asking}
 use Rattle.traces.specs.Story.{Reached, by_feed, by_section, Asks, asks, Story, story, shut}
 use Rattle.traces.specs.Follow.{Agrees, open_still, over, agrees, not_running}

@@ -1,14 +1,14 @@
 -- The invariant of the pair, and that every call keeps it. Assumes nothing.
-use Rattle.std.specs.Prelude.{◌≡◌, ℕ, zero, suc, ◌+◌, ◌<◌, ◌≤◌, length}
+use Rattle.std.specs.Prelude.{◌≡◌, ℕ, ◌+◌, ◌<◌, ◌≤◌, length}
 use Rattle.std.proofs.Math.Path.{refl}
-use Rattle.std.proofs.Common.{sym, ap, ◌∙◌}
+use Rattle.std.proofs.Common.{sym, ◌∙◌}
 use Rattle.std.proofs.Math.Decide.{ℕ_discrete}
 use native.Mathlib.Omega.{arith}
 use mathlib.Core.List.{List, [], ◌∷◌}
 use Rattle.std.proofs.Math.Option.{Option, none, some, none-ne-some, some-injective}
-use Rattle.rules.specs.Calls.{Machine, Kind, request, one_way, kind_of, Stream, Slot, free, held, Row, Conn, Pair, Call, Answer, Held, next_of, spend, killed, keeping, limited, find, put, fresh, first, call, run}
-use Rattle.traces.specs.Row.{Distinct, Seated, find_put_same, find_put_other, find_free_other, find_free_same, distinct_held, distinct_free, length_put, find_seat_same, find_seat_other, distinct_seat, length_seat, find_empty, distinct_empty}
-use Rattle.traces.specs.Went.{Alive, pair, Went, restarted, still_dead, by_house, barring, faulting, dying, opening, stepping, leaving, sending, went}
+use Rattle.rules.specs.Calls.{Machine, Kind, request, one_way, kind_of, Stream, free, held, Row, Conn, Pair, Call, Answer, next_of, spend, killed, keeping, limited, find, put, fresh, first, call, run}
+use Rattle.traces.specs.Row.{Distinct, Seated, find_put_other, find_free_other, find_free_same, distinct_held, distinct_free, length_put, find_seat_other, distinct_seat, length_seat, find_empty, distinct_empty}
+use Rattle.traces.specs.Went.{pair, Went, restarted, still_dead, by_house, barring, faulting, dying, opening, stepping, leaving, sending, went}
 
 -- the ID was opened, or its opening barred: it is below the next of its kind
 pub record Spent {M : Machine} (c : Conn M) (id : ℕ) : Type 0 where

@@ -1,12 +1,12 @@
 -- What the view of a request stream says of its machine: the accepted feeds and sections that led to where it is, and how it came to its
 -- fate. Assumes nothing.
-use Rattle.std.specs.Prelude.{◌≡◌, ℕ, List, [], ◌∷◌, Bool}
+use Rattle.std.specs.Prelude.{◌≡◌, ℕ, List, Bool}
 use Rattle.std.proofs.Math.Path.{refl}
 use Rattle.std.proofs.Math.Bool.{true, false}
-use Rattle.rules.specs.Numbers.{StreamFault, Code, of_stream, of_connection, section_due, no_section, unreadable}
-use Rattle.rules.specs.Calls.{Event, Fed, goes, faults, Given, sound, unsound, Ended, is_whole, broken, Own, feed, section, end, reset, Out, refuse, step, leave, fault, of_fed, of_given, of_ended, map_out, Gave, done, Left, whole, freed, Machine, act, either, Kind, request, Stream, asking, first, act_on}
-use Rattle.rules.specs.Shown.{Shown, Fate, unopened, spent, running, ended, dropped, refused, lost, nothing, plus_feed, plus_bytes, plus_section, fedly, mine}
-use Rattle.traces.specs.Follow.{Shut, GoesOn, goes_on, Next, Tale}
+use Rattle.rules.specs.Numbers.{StreamFault, Code, of_stream, section_due, no_section, unreadable}
+use Rattle.rules.specs.Calls.{Event, Fed, goes, faults, Given, sound, unsound, Ended, is_whole, broken, Own, feed, section, end, reset, Out, refuse, of_fed, of_given, of_ended, map_out, Machine, act, either, request, Stream, asking, first, act_on}
+use Rattle.rules.specs.Shown.{Shown, Fate, unopened, spent, ended, dropped, refused, lost, nothing, plus_feed, plus_bytes, plus_section, fedly, mine}
+use Rattle.traces.specs.Follow.{Shut, goes_on, Next, Tale}
 
 -- accepted feeds and sections lead a fresh request stream to r, showing s
 pub data Reached {M : Machine} : Shown M → M.Request → Type 0 where

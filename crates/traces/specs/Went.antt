@@ -1,11 +1,10 @@
 -- Every way a call can go, as one table stated apart from the calls: the answer, and what it leaves. Assumes nothing.
-use Rattle.std.specs.Prelude.{◌≡◌, ℕ, zero, suc, ◌+◌, ◌<◌, ◌≤◌, ◌^◌, List, [], ◌∷◌, Bool}
+use Rattle.std.specs.Prelude.{◌≡◌, ℕ, ◌<◌, ◌≤◌, ◌^◌, Bool}
 use Rattle.std.proofs.Math.Path.{refl}
-use Rattle.std.proofs.Common.{sym, ap, ◌∙◌}
 use Rattle.std.proofs.Math.Decide.{ℕ_discrete, dec_le, dec_lt}
 use Rattle.std.proofs.Math.Bool.{true, false}
 use Rattle.std.proofs.Math.Option.{Option, none, some}
-use Rattle.rules.specs.Numbers.{House, StreamFault, request_rejected, ConnectionFault, Code, of_stream, of_connection}
+use Rattle.rules.specs.Numbers.{House, StreamFault, request_rejected, ConnectionFault, of_stream, of_connection}
 use Rattle.rules.specs.Calls.{Gave, done, Left, Own, Out, refuse, step, leave, fault, Machine, either, pick, Kind, kind_of, Stream, Slot, free, held, Row, Conn, Pair, Held, Call, start, open', on, goaway, Answer, gave, left, house, code, Result, next_of, spend, killed, keeping, limited, barred, find, put, seat, same, with, alive, fresh, first, seated, faulted, act_on, settle, acting, goaway_size, call}
 use Rattle.rules.specs.Writer.{bad_goaway}
 use Rattle.rules.specs.Calls

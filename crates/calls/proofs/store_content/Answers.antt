@@ -1,6 +1,6 @@
 -- Three stores into a record, each over what the one before it left, are one. Assumes nothing.
 use Rattle.std.specs.Prelude.{◌≡◌, ℕ, ◌<◌, List, length, set, get_or}
-use Rattle.std.proofs.Common.{◌∙◌, ap, arith, length-set}
+use Rattle.std.proofs.Common.{◌∙◌, ap, length-set}
 use Rattle.std.proofs.Math.Seq.{set-set}
 use Rattle.std.proofs.lemmas.List.{get_or-set_same}
 use Rattle.record.specs.declared.Record.{Record}

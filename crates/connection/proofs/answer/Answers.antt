@@ -1,6 +1,5 @@
 use mathlib.Core.Path.{refl}
 use Rattle.connection.specs.Nearly.{near_other, near_dead, near_opens, near-past, near-request, near-aside}
-use borrow.Author.Rules.{rules}
 use Rattle.connection.proofs.answer.Goals as goal
 
 pub returns-then-f-ne24 : goal.returns-then-f-ne24

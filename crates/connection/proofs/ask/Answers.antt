@@ -1,5 +1,4 @@
 use Rattle.connection.specs.Ways.{asks_feed, asks_give, asks_end, asks_reset}
-use borrow.Author.Rules.{rules}
 use Rattle.connection.proofs.ask.Goals as goal
 
 pub returns-in-Feed : goal.returns-in-Feed

@@ -1,5 +1,4 @@
 use Rattle.connection.specs.Ways.{begun_fresh, begun_other}
-use borrow.Author.Rules.{rules}
 use Rattle.connection.proofs.begin.Goals as goal
 
 pub returns-then-len-eq24 : goal.returns-then-len-eq24

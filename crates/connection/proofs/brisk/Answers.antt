@@ -1,5 +1,4 @@
 use Rattle.connection.specs.Briefly.{briefly_not, briefly_so}
-use borrow.Author.Rules.{rules}
 use Rattle.connection.proofs.brisk.Goals as goal
 
 pub returns-then-row-eq-REQUEST_KIND : goal.returns-then-row-eq-REQUEST_KIND

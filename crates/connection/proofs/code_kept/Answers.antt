@@ -1,5 +1,4 @@
 use mathlib.Core.Path.{refl}
-use borrow.Author.Rules.{rules}
 use Rattle.connection.specs.Faults.{kept_so, kept_not}
 use Rattle.connection.proofs.code_kept.Goals as goal
 

@@ -1,5 +1,4 @@
 use Rattle.connection.specs.Nearly.{turned_near, turned_opens, turned_aside}
-use borrow.Author.Rules.{rules}
 use Rattle.connection.proofs.decide.Goals as goal
 
 pub returns-then-n : goal.returns-then-n

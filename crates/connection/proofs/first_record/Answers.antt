@@ -1,5 +1,4 @@
 use Rattle.connection.specs.Ways.{first_request, first_one_way}
-use borrow.Author.Rules.{rules}
 use Rattle.connection.proofs.first_record.Goals as goal
 
 pub returns-then-id-eq0 : goal.returns-then-id-eq0

@@ -1,7 +1,6 @@
 use mathlib.Core.Path.{ap, ◌∙◌}
 use Rattle.connection.specs.Openings.{fresh_doors}
 use Rattle.connection.specs.Halves.{both}
-use borrow.Author.Rules.{rules}
 use Rattle.connection.proofs.fresh.Goals as goal
 
 pub returns : goal.returns

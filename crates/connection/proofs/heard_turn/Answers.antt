@@ -1,7 +1,6 @@
 use mathlib.Core.Path.{ap}
 use Rattle.connection.specs.Halves.{both}
 use Rattle.connection.specs.Turned.{turn, told}
-use borrow.Author.Rules.{rules}
 use Rattle.connection.proofs.heard_turn.Goals as goal
 
 pub returns : goal.returns

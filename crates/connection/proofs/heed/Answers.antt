@@ -1,5 +1,4 @@
 use Rattle.connection.specs.Ways.{hears_feed, hears_give, hears_end, hears_reset}
-use borrow.Author.Rules.{rules}
 use Rattle.connection.proofs.heed.Goals as goal
 
 pub returns-in-Feed : goal.returns-in-Feed

@@ -1,5 +1,4 @@
 use Rattle.connection.specs.Ways.{opened_so}
-use borrow.Author.Rules.{rules}
 use Rattle.connection.proofs.open_stream.Goals as goal
 
 pub returns : goal.returns

@@ -1,6 +1,5 @@
 use mathlib.Core.Path.{ap}
 use Rattle.connection.specs.Turned.{near}
-use borrow.Author.Rules.{rules}
 use Rattle.connection.proofs.refused.Goals as goal
 
 pub returns : goal.returns

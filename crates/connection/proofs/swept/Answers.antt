@@ -1,6 +1,5 @@
 use mathlib.Core.Path.{refl}
 use Rattle.connection.specs.Ways.{swept_free, swept_other}
-use borrow.Author.Rules.{rules}
 use Rattle.connection.proofs.swept.Goals as goal
 
 pub returns-then-len-eq24 : goal.returns-then-len-eq24

@@ -1,6 +1,5 @@
 use mathlib.Core.Path.{refl}
 use Rattle.connection.specs.Ways.{taken_first, taken_none}
-use borrow.Author.Rules.{rules}
 use Rattle.connection.proofs.taken_by.Goals as goal
 
 pub returns-then-number-eq0 : goal.returns-then-number-eq0

@@ -1,5 +1,4 @@
 use Rattle.connection.specs.Whose.{wanted_vacant, wanted_own, wanted_free, wanted_other}
-use borrow.Author.Rules.{rules}
 use Rattle.connection.proofs.wanted.Goals as goal
 
 pub returns-then-r-id : goal.returns-then-r-id

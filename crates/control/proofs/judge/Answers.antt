@@ -1,5 +1,4 @@
 use Rattle.control.specs.Judged.{judged_settings, judged_integer}
-use borrow.Author.Rules.{rules}
 use Rattle.control.proofs.judge.Goals as goal
 
 pub returns-then-kept-eq0 : goal.returns-then-kept-eq0

@@ -1,5 +1,4 @@
 use Rattle.control.specs.Judged.{goaway_first, goaway_above, goaway_lower}
-use borrow.Author.Rules.{rules}
 use Rattle.control.proofs.judge_goaway.Goals as goal
 
 pub returns-then-kept-eq0 : goal.returns-then-kept-eq0

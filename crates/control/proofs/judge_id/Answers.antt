@@ -1,5 +1,4 @@
 use Rattle.control.specs.Judged.{id_goaway, id_max_push, id_settings, id_cancel}
-use borrow.Author.Rules.{rules}
 use Rattle.control.proofs.judge_id.Goals as goal
 
 pub returns-then-which-eq9 : goal.returns-then-which-eq9

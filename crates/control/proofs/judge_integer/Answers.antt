@@ -1,5 +1,4 @@
 use Rattle.control.specs.Judged.{integer_not, integer_is}
-use borrow.Author.Rules.{rules}
 use Rattle.control.proofs.judge_integer.Goals as goal
 
 pub returns-in-Not : goal.returns-in-Not

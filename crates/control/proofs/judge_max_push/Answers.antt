@@ -1,5 +1,4 @@
 use Rattle.control.specs.Judged.{max_push_first, max_push_below, max_push_higher}
-use borrow.Author.Rules.{rules}
 use Rattle.control.proofs.judge_max_push.Goals as goal
 
 pub returns-then-kept-eq0 : goal.returns-then-kept-eq0

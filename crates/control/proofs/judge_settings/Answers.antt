@@ -1,5 +1,4 @@
 use Rattle.control.specs.Judged.{settings_refused, settings_kept_lem}
-use borrow.Author.Rules.{rules}
 use Rattle.control.proofs.judge_settings.Goals as goal
 
 pub returns-in-Refused : goal.returns-in-Refused

@@ -1,5 +1,4 @@
 use Rattle.control.specs.Judged.{size_unlimited, size_limited}
-use borrow.Author.Rules.{rules}
 use Rattle.control.proofs.keep_settings.Goals as goal
 
 pub returns-in-Unlimited : goal.returns-in-Unlimited

@@ -4,7 +4,6 @@ use Prim.Native.Nat.{ℕ}
 use lib.Dec.{ltb}
 use lib.ListN.{length}
 use Rattle.fields.specs.Spots.{run_any}
-use borrow.Author.Rules.{rules}
 use Rattle.fields.proofs.any_outside.Goals as goal
 
 pub returns : goal.returns

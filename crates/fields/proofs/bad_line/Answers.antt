@@ -1,7 +1,6 @@
 -- `fields::bad_line` meets its contract. Assumes nothing.
 use mathlib.Core.Path.{◌∙◌, ap}
 use Rattle.fields.specs.Spots.{is_some, line_bad}
-use borrow.Author.Rules.{rules}
 use Rattle.fields.proofs.bad_line.Goals as goal
 
 pub returns : goal.returns

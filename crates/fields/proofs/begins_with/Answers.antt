@@ -1,7 +1,6 @@
 -- `fields::begins_with` meets its contract. Assumes nothing.
 use mathlib.Core.Path.{sym}
 use Rattle.fields.specs.Laws.{begins_first, begins_none}
-use borrow.Author.Rules.{rules}
 use Rattle.fields.proofs.begins_with.Goals as goal
 
 pub returns-then-v-eq0 : goal.returns-then-v-eq0

@@ -1,10 +1,9 @@
 -- `fields::decimal_of` meets its contract: the invariant: the digits from `i` on, behind the total, give the value, but for the cap. Assumes nothing.
-use Prim.Native.Nat.{◌≤◌, ◌-◌, ◌^◌}
-use mathlib.Core.Path.{◌≡◌, refl, sym, ap, ◌∙◌}
+use Prim.Native.Nat.{◌≤◌, ◌^◌}
+use mathlib.Core.Path.{refl, sym, ap, ◌∙◌}
 use native.Mathlib.Omega.{arith}
-use lib.ListN.{length, drop}
 use borrow.Author.Rules.{rules}
-use Rattle.rules.specs.Section.{decimal, decimal_from}
+use Rattle.rules.specs.Section.{decimal}
 use Rattle.fields.specs.Decimal.{capped, capped_self, capped_le, capped_on, decimal_here, decimal_none}
 use Rattle.fields.proofs.decimal_of.Goals as goal
 

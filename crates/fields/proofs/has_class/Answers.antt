@@ -4,7 +4,6 @@ use mathlib.Core.Path.{ap}
 use mathlib.Core.Bool.{not}
 use lib.Dec.{eqb}
 use lib.Bits.{bit_and}
-use borrow.Author.Rules.{rules}
 use Rattle.fields.proofs.has_class.Goals as goal
 
 pub returns : goal.returns

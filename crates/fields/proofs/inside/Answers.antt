@@ -1,9 +1,6 @@
 -- `fields::inside` meets its contract. Assumes nothing.
-use Rattle.fields.specs.Spots.{run, run_stops, run_goes, run_none}
-use Prim.Native.Nat.{◌+◌, ◌≤◌, ◌-◌}
-use mathlib.Core.Path.{◌≡◌, refl, sym, ◌∙◌}
+use Rattle.fields.specs.Spots.{run_stops, run_goes, run_none}
 use native.Mathlib.Omega.{arith}
-use lib.ListN.{length, drop}
 use borrow.Author.Rules.{rules}
 use Rattle.fields.specs.Bytes.{is_in}
 use Rattle.fields.proofs.inside.Goals as goal

@@ -1,10 +1,8 @@
 -- `fields::inside` meets its contract. Assumes nothing.
-use Rattle.fields.specs.Spots.{run, run_stops, run_goes, run_none}
+use Rattle.fields.specs.Spots.{run}
 use Prim.Native.Nat.{◌+◌, ◌≤◌, ◌-◌}
-use mathlib.Core.Path.{◌≡◌, refl, sym, ◌∙◌}
-use native.Mathlib.Omega.{arith}
+use mathlib.Core.Path.{◌≡◌}
 use lib.ListN.{length, drop}
-use borrow.Author.Rules.{rules}
 use Rattle.fields.specs.Bytes.{is_in}
 use Rattle.fields.proofs.inside.Given as goal
 

@@ -1,6 +1,5 @@
 -- `fields::line_at` meets its contract: the tests in the order of the definition. Assumes nothing.
 use borrow.Author.Tests.{le-leb, lt-leb, lt-ltb, le-ltb, eq-eqb, ne_eqb}
-use borrow.Author.Rules.{rules}
 use Rattle.fields.specs.Walk.{record_at, record_from}
 use Rattle.fields.proofs.line_at.Goals as goal
 

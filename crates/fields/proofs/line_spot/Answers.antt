@@ -1,7 +1,6 @@
 -- `fields::line_spot` meets its contract. Assumes nothing.
 use mathlib.Core.Path.{sym, ◌∙◌}
 use Rattle.fields.specs.Spots.{name_first, value_then}
-use borrow.Author.Rules.{rules}
 use Rattle.fields.proofs.line_spot.Goals as goal
 
 pub returns-then-is_somewhere : goal.returns-then-is_somewhere

@@ -2,7 +2,6 @@
 use mathlib.Core.Path.{sym, ◌∙◌}
 use Rattle.fields.specs.Spots.{name_pseudo, name_empty, name_in, name-capital, name-other}
 use native.Mathlib.Omega.{arith}
-use borrow.Author.Rules.{rules}
 use Rattle.fields.proofs.name_spot.Goals as goal
 
 pub returns-then-begins_with : goal.returns-then-begins_with

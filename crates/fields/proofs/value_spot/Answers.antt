@@ -2,7 +2,6 @@
 use mathlib.Core.Path.{sym, ◌∙◌}
 use Rattle.fields.specs.Spots.{value_none, value_blank_first, value_out, value-blank-last, value-sound}
 use native.Mathlib.Omega.{arith}
-use borrow.Author.Rules.{rules}
 use Rattle.fields.proofs.value_spot.Goals as goal
 
 pub returns-then-value-eq0 : goal.returns-then-value-eq0

@@ -1,8 +1,6 @@
 use native.Mathlib.Omega.{arith}
 use Prim.Native.Nat.{ℕ, ◌+◌, ◌-◌, ◌*◌, ◌<◌, ◌≤◌}
 use mathlib.Core.Path.{◌≡◌, sym, subst, ◌∙◌}
-use borrow.Author.Rules.{rules}
-use lib.ListN.{length}
 use Rattle.frames.specs.Uses.{not_none}
 use Rattle.frames.specs.Stops.{ruling_lawful, stop_header, stop_here, header_stop, passed_fits, pass_stop, found, unready_type, unready_length}
 use Rattle.frames.proofs.+header_payload.Goals as goal

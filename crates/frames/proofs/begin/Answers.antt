@@ -1,5 +1,4 @@
 use Rattle.frames.specs.Begun.{begin_skip, begin_fresh}
-use borrow.Author.Rules.{rules}
 use Rattle.frames.proofs.begin.Goals as goal
 
 pub returns-then-c-eq-IN_SKIPPED : goal.returns-then-c-eq-IN_SKIPPED

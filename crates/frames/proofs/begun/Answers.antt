@@ -3,7 +3,6 @@ use mathlib.Core.Path.{sym, ◌∙◌}
 use Rattle.frames.specs.Uses.{not_none}
 use Rattle.frames.specs.Stops.{ruling_lawful}
 use Rattle.frames.specs.Begun.{begin_held, begin_whole, begin_cut}
-use borrow.Author.Rules.{rules}
 use Rattle.frames.proofs.begun.Goals as goal
 
 pub returns-then-allow-eq0 : goal.returns-then-allow-eq0

@@ -2,7 +2,6 @@ use native.Mathlib.Omega.{arith}
 use Prim.Native.Nat.{zero-le}
 use Rattle.frames.specs.Begun.{numbers_more}
 use Rattle.frames.specs.Fed.{fed_content, unsaid, data_law, fed-data}
-use borrow.Author.Rules.{rules}
 use Rattle.frames.proofs.brisk.Goals as goal
 
 pub handed-requires : goal.handed-requires

@@ -3,7 +3,6 @@ use Rattle.rules.specs.Reading.{goaway, max_push_id, cancel_push}
 use Rattle.meaning.specs.ControlLaws.{type_of, integer_kind}
 use Rattle.frames.specs.Uses.{kept_number}
 use Rattle.frames.specs.Ruled.{first_long_number, first_number, not_settings, integer_frame, control_low, control_other}
-use borrow.Author.Rules.{rules}
 use Rattle.frames.proofs.control_rule.Goals as goal
 
 pub returns-then-len-gt256 : goal.returns-then-len-gt256

@@ -1,7 +1,6 @@
 use native.Mathlib.Omega.{arith}
 use Rattle.varint.specs.ByByte.{fresh_good}
 use Rattle.frames.specs.Begun.{cut_answer}
-use borrow.Author.Rules.{rules}
 use Rattle.frames.proofs.cut_header.Goals as goal
 
 pub head_on-e-requires : goal.head_on-e-requires

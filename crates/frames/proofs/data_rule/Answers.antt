@@ -1,6 +1,5 @@
 use native.Mathlib.Omega.{arith}
 use Rattle.frames.specs.Ruled.{past_limit, in_limit, past_stated, in_stated}
-use borrow.Author.Rules.{rules}
 use Rattle.frames.proofs.data_rule.Goals as goal
 
 pub returns-then-total-gt1048576 : goal.returns-then-total-gt1048576

@@ -1,7 +1,6 @@
 use native.Mathlib.Omega.{arith}
 use Rattle.rules.specs.Reading.{header_section, trailers}
 use Rattle.frames.specs.End.{end_due, end_inside, end_between}
-use borrow.Author.Rules.{rules}
 use Rattle.frames.proofs.end.Goals as goal
 
 pub returns-then-c-eq-HEADER_SECTION_DUE : goal.returns-then-c-eq-HEADER_SECTION_DUE

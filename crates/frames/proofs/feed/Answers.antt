@@ -1,7 +1,6 @@
 use native.Mathlib.Omega.{arith}
 use Prim.Native.Nat.{zero-le}
 use Rattle.frames.specs.Fed.{fed_payload, fed_due}
-use borrow.Author.Rules.{rules}
 use Rattle.frames.proofs.feed.Goals as goal
 
 pub handed-requires : goal.handed-requires

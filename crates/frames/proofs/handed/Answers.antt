@@ -1,6 +1,5 @@
 use native.Mathlib.Omega.{arith}
 use Rattle.frames.specs.Handed.{none_here, handed_over, handed_on, content_on, content_past}
-use borrow.Author.Rules.{rules}
 use Rattle.frames.proofs.handed.Goals as goal
 
 pub returns-then-left-room : goal.returns-then-left-room

@@ -1,7 +1,5 @@
-use Prim.Native.Nat.{◌-◌}
 use native.Mathlib.Omega.{arith}
-use lib.ListN.{length}
-use Rattle.frames.specs.Heads.{OnWay, way_begins, way_on, way_whole, way_ends}
+use Rattle.frames.specs.Heads.{way_begins, way_on, way_whole, way_ends}
 use Rattle.frames.proofs.head_on.Goals as goal
 
 pub loop-i-init : goal.loop-i-init

@@ -1,7 +1,6 @@
 use Prim.Native.Nat.{◌-◌}
-use native.Mathlib.Omega.{arith}
 use lib.ListN.{length}
-use Rattle.frames.specs.Heads.{OnWay, way_begins, way_on, way_whole, way_ends}
+use Rattle.frames.specs.Heads.{OnWay}
 use Rattle.frames.proofs.head_on.Given as goal
 
 abbrev pub invariant-loop-i : goal.invariant-loop-i

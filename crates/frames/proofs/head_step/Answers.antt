@@ -1,5 +1,4 @@
 use Rattle.frames.specs.Heads.{step_more, step_typed, step_whole}
-use borrow.Author.Rules.{rules}
 use Rattle.frames.proofs.head_step.Goals as goal
 
 pub read_step-requires : goal.read_step-requires

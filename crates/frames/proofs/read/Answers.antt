@@ -1,5 +1,4 @@
 use Rattle.frames.specs.Fed.{fed_stays, fed_read}
-use borrow.Author.Rules.{rules}
 use Rattle.frames.proofs.read.Goals as goal
 
 pub returns-then-b-eq-NO_USE : goal.returns-then-b-eq-NO_USE

@@ -1,6 +1,5 @@
 use mathlib.Core.Path.{◌∙◌}
 use Rattle.frames.specs.Ruled.{is_data, not_data, third, too_long, a_header, a_trailer, low, thirteen, other}
-use borrow.Author.Rules.{rules}
 use Rattle.frames.proofs.request_rule.Goals as goal
 
 pub returns-then-phase-eq-BODY : goal.returns-then-phase-eq-BODY

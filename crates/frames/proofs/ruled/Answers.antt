@@ -1,6 +1,5 @@
 use mathlib.Core.Path.{◌∙◌}
 use Rattle.frames.specs.Ruled.{control_place}
-use borrow.Author.Rules.{rules}
 use Rattle.frames.proofs.ruled.Goals as goal
 
 pub returns-else-phase-lt-UNSET : goal.returns-else-phase-lt-UNSET

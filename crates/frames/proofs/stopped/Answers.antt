@@ -1,7 +1,6 @@
 use native.Mathlib.Omega.{arith}
 use Rattle.frames.specs.Stopped.{stop_fault, stop_out, stop_skip, stop_content, stop_section, stop_kept}
 use Rattle.frames.specs.Begun.{stop_cut, numbers_more}
-use borrow.Author.Rules.{rules}
 use Rattle.frames.proofs.stopped.Goals as goal
 
 pub more_sum-requires : goal.more_sum-requires

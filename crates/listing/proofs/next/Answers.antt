@@ -2,7 +2,6 @@
 use mathlib.Core.Path.{◌∙◌}
 use native.Mathlib.Omega.{arith}
 use Rattle.listing.specs.At.{line_too_long, line_heading, line-end, line-cut-type, line-cut-length, line-header}
-use borrow.Author.Rules.{rules}
 use Rattle.listing.proofs.next.Goals as goal
 
 pub returns-then-total-gt65536 : goal.returns-then-total-gt65536

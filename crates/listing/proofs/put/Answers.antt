@@ -1,10 +1,6 @@
 -- `listing::put` meets its contract: the invariant is what the stores so far leave. Assumes nothing.
-use Prim.Native.Nat.{◌≤◌, ◌-◌}
-use mathlib.Core.Path.{◌≡◌, refl}
+use mathlib.Core.Path.{refl}
 use native.Mathlib.Omega.{arith}
-use lib.ListN.{length, take}
-use lib.Seq.{sets}
-use borrow.Author.Rules.{rules}
 use Rattle.listing.specs.Put.{step_put, end_put}
 use Rattle.listing.proofs.put.Goals as goal
 

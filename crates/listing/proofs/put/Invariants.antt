@@ -1,11 +1,8 @@
 -- `listing::put` meets its contract: the invariant is what the stores so far leave. Assumes nothing.
 use Prim.Native.Nat.{◌≤◌, ◌-◌}
-use mathlib.Core.Path.{◌≡◌, refl}
-use native.Mathlib.Omega.{arith}
+use mathlib.Core.Path.{◌≡◌}
 use lib.ListN.{length, take}
 use lib.Seq.{sets}
-use borrow.Author.Rules.{rules}
-use Rattle.listing.specs.Put.{step_put, end_put}
 use Rattle.listing.proofs.put.Given as goal
 
 abbrev pub invariant-loop-i : goal.invariant-loop-i

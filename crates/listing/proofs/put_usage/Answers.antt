@@ -3,7 +3,6 @@ use Rattle.rules.specs.Text.{ascii}
 use Rattle.listing.specs.Text.{word}
 use Rattle.listing.specs.Lines.{use_of}
 use Rattle.listing.specs.Put.{put_word}
-use borrow.Author.Rules.{rules}
 use Rattle.listing.proofs.put_usage.Goals as goal
 
 pub returns-in-Skipped : goal.returns-in-Skipped

@@ -5,7 +5,6 @@ use native.Mathlib.Omega.{arith}
 use Rattle.frames.specs.Both.{rule}
 use Rattle.frames.specs.Uses.{place_of, number_of}
 use Rattle.listing.specs.Ruled.{line_skipped, line_content, line_header_section, line_trailers, line_refused, content_fits}
-use borrow.Author.Rules.{rules}
 use Rattle.listing.proofs.ruled_line.Goals as goal
 
 -- the table's number, by the capped sum

@@ -3,7 +3,6 @@ use Rattle.rules.specs.Text.{ascii}
 use Rattle.listing.specs.Text.{text_of}
 use Rattle.listing.specs.Lines.{entry_of}
 use Rattle.listing.specs.Put.{put_entry}
-use borrow.Author.Rules.{rules}
 use Rattle.listing.proofs.text.Goals as goal
 
 pub returns-in-Heading : goal.returns-in-Heading

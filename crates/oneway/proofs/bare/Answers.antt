@@ -1,6 +1,5 @@
 use Rattle.oneway.specs.Fed.{bare_skipped, bare_bytes, bare_none}
 use native.Mathlib.Omega.{arith}
-use borrow.Author.Rules.{rules}
 use Rattle.oneway.proofs.bare.Goals as goal
 
 pub returns-then-w-gt-DECODER : goal.returns-then-w-gt-DECODER

@@ -1,6 +1,5 @@
 use Rattle.oneway.specs.Frames.{rest_fed, used_fits, start_fits, control_low, control_fault, control_complete, control_part}
 use native.Mathlib.Omega.{arith}
-use borrow.Author.Rules.{rules}
 use Rattle.oneway.proofs.control.Goals as goal
 
 pub overflow_add-result : goal.overflow_add-result

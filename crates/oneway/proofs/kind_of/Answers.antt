@@ -1,5 +1,4 @@
 use Rattle.oneway.specs.Types.{kind_control, kind_push, kind_encoder, kind_decoder, kind_other}
-use borrow.Author.Rules.{rules}
 use Rattle.oneway.proofs.kind_of.Goals as goal
 
 pub returns-then-t-eq0 : goal.returns-then-t-eq0

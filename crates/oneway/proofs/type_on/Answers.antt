@@ -1,8 +1,5 @@
-use Prim.Native.Nat.{◌-◌}
 use native.Mathlib.Omega.{arith}
-use lib.ListN.{length}
-use borrow.Author.Rules.{rules}
-use Rattle.oneway.specs.Typed.{OnType, type_begins, type_on, type_whole, type_ends}
+use Rattle.oneway.specs.Typed.{type_begins, type_on, type_whole, type_ends}
 use Rattle.oneway.proofs.type_on.Goals as goal
 
 pub loop-i-init : goal.loop-i-init

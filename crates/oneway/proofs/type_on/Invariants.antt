@@ -1,8 +1,6 @@
 use Prim.Native.Nat.{◌-◌}
-use native.Mathlib.Omega.{arith}
 use lib.ListN.{length}
-use borrow.Author.Rules.{rules}
-use Rattle.oneway.specs.Typed.{OnType, type_begins, type_on, type_whole, type_ends}
+use Rattle.oneway.specs.Typed.{OnType}
 use Rattle.oneway.proofs.type_on.Given as goal
 
 abbrev pub invariant-loop-i : goal.invariant-loop-i

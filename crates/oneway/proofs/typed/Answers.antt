@@ -1,6 +1,5 @@
 use native.Mathlib.Omega.{arith}
 use Rattle.oneway.specs.Fed.{typed_cut, typed_refused, frames_ask, typed_control, kind_bare, typed_bare}
-use borrow.Author.Rules.{rules}
 use Rattle.oneway.proofs.typed.Goals as goal
 
 pub returns-then-e-eq0 : goal.returns-then-e-eq0

@@ -1,5 +1,4 @@
 use Rattle.record.specs.Tests.{as_well, refuses}
-use borrow.Author.Rules.{rules}
 use Rattle.record.proofs.fits.Goals as goal
 
 pub returns-then-sane : goal.returns-then-sane

@@ -1,7 +1,6 @@
 use native.Mathlib.Omega.{arith}
 use mathlib.Core.Path.{ap, ◌∙◌}
 use Rattle.record.specs.Row.{record_at}
-use borrow.Author.Rules.{rules}
 use Rattle.record.proofs.free.Goals as goal
 
 pub record_at-requires : goal.record_at-requires

@@ -1,6 +1,5 @@
 use native.Mathlib.Omega.{arith}
 use Rattle.record.specs.Tests.{accepts, refuses, good_within, good_past}
-use borrow.Author.Rules.{rules}
 use Rattle.record.proofs.good.Goals as goal
 
 pub returns-then-due-gt7 : goal.returns-then-due-gt7

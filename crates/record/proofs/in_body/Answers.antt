@@ -1,6 +1,5 @@
 use native.Mathlib.Omega.{arith}
 use Rattle.record.specs.Body.{said_no, content_sound, between_sound}
-use borrow.Author.Rules.{rules}
 use Rattle.record.proofs.in_body.Goals as goal
 
 pub returns-then-r-eq0 : goal.returns-then-r-eq0

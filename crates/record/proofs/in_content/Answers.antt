@@ -1,4 +1,3 @@
-use borrow.Author.Rules.{rules}
 use Rattle.record.proofs.in_content.Goals as goal
 
 pub returns : goal.returns

@@ -1,7 +1,6 @@
 use native.Mathlib.Omega.{arith}
 use mathlib.Core.Path.{ap}
 use Rattle.record.specs.Tests.{refuses, free_is}
-use borrow.Author.Rules.{rules}
 use Rattle.record.proofs.is_free.Goals as goal
 
 pub returns-then-r-ne-FREE_KIND : goal.returns-then-r-ne-FREE_KIND

@@ -1,7 +1,6 @@
 use native.Mathlib.Omega.{arith}
 use mathlib.Core.Path.{ap}
 use Rattle.record.specs.Tests.{refuses, row_is}
-use borrow.Author.Rules.{rules}
 use Rattle.record.proofs.is_row.Goals as goal
 
 pub returns-then-r-ne0 : goal.returns-then-r-ne0

@@ -1,5 +1,4 @@
 use Rattle.record.specs.ReadWrite.{read_free, read_unfit, read-sound, read-other}
-use borrow.Author.Rules.{rules}
 use Rattle.record.proofs.read.Goals as goal
 
 pub returns-then-is_free : goal.returns-then-is_free

@@ -1,7 +1,6 @@
 use native.Mathlib.Omega.{arith}
 use Rattle.record.specs.ReadWrite.{write_open}
 use Rattle.record.specs.Tidy.{tidy_less}
-use borrow.Author.Rules.{rules}
 use Rattle.record.proofs.row.Goals as goal
 
 pub record_at-requires : goal.record_at-requires

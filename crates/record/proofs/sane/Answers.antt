@@ -1,6 +1,5 @@
 use native.Mathlib.Omega.{arith}
 use Rattle.record.specs.Tests.{accepts, refuses, as_well, sane_with}
-use borrow.Author.Rules.{rules}
 use Rattle.record.proofs.sane.Goals as goal
 
 pub returns-then-c-gt-IN_CANCEL_PUSH : goal.returns-then-c-gt-IN_CANCEL_PUSH

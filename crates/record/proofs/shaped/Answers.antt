@@ -1,6 +1,5 @@
 use native.Mathlib.Omega.{arith}
 use Rattle.record.specs.Tests.{refuses}
-use borrow.Author.Rules.{rules}
 use Rattle.record.proofs.shaped.Goals as goal
 
 pub returns-then-id-ge4611686018427387904 : goal.returns-then-id-ge4611686018427387904

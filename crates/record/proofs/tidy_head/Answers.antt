@@ -1,6 +1,5 @@
 use native.Mathlib.Omega.{arith}
 use Rattle.record.specs.Tidy.{tidy_type, tidy_length, tidy_due, tidy_payload}
-use borrow.Author.Rules.{rules}
 use Rattle.rules.specs.Reading.{header_section, trailers}
 use Rattle.record.proofs.tidy_head.Goals as goal
 

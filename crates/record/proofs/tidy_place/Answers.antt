@@ -1,6 +1,5 @@
 use native.Mathlib.Omega.{arith}
 use Rattle.record.specs.Tidy.{tidy_nowhere, tidy_unstated, tidy_stated}
-use borrow.Author.Rules.{rules}
 use Rattle.record.proofs.tidy_place.Goals as goal
 
 pub returns-then-c-eq-OPENING : goal.returns-then-c-eq-OPENING

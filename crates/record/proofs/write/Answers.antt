@@ -1,5 +1,4 @@
 use Rattle.record.specs.ReadWrite.{write_none}
-use borrow.Author.Rules.{rules}
 use Rattle.record.proofs.write.Goals as goal
 
 pub row-requires : goal.row-requires

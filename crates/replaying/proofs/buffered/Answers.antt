@@ -2,7 +2,6 @@
 use native.Mathlib.Omega.{arith}
 use Rattle.replaying.specs.Calls.{in_buffer, take_short}
 use Rattle.replaying.specs.Plays.{goaway_in, write_in}
-use borrow.Author.Rules.{rules}
 use Rattle.replaying.proofs.buffered.Goals as goal
 
 pub slice_bounds-told_goaway-end : goal.slice_bounds-told_goaway-end

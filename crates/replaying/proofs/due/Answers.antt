@@ -4,7 +4,6 @@ use Rattle.rules.specs.Text.{ascii}
 use Rattle.replaying.specs.Puts.{puts_word, more, puts_none}
 use borrow.Author.Tests.{eq-eqb, ne_eqb}
 use Rattle.replaying.specs.Lines.{due_text, pick}
-use borrow.Author.Rules.{rules}
 use Rattle.replaying.proofs.due.Goals as goal
 
 pub returns-then-r-ne-REQUEST_KIND : goal.returns-then-r-ne-REQUEST_KIND

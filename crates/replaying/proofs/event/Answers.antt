@@ -4,7 +4,6 @@ use Rattle.rules.specs.Text.{ascii}
 use Rattle.replaying.specs.Puts.{puts_word, more, then_puts}
 use borrow.Author.Tests.{eq-eqb, ne_eqb}
 use Rattle.replaying.specs.Lines.{event_text, pick}
-use borrow.Author.Rules.{rules}
 use Rattle.replaying.proofs.event.Goals as goal
 
 pub returns-then-r-eq-CONTENT : goal.returns-then-r-eq-CONTENT

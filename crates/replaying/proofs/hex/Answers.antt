@@ -2,7 +2,6 @@
 use native.Mathlib.Omega.{arith}
 use Rattle.script.specs.Words.{hex_digit}
 use borrow.Author.Tests.{lt-ltb, le-ltb}
-use borrow.Author.Rules.{rules}
 use Rattle.replaying.proofs.hex.Goals as goal
 
 pub returns-then-n-lt10 : goal.returns-then-n-lt10

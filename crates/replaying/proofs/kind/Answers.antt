@@ -3,7 +3,6 @@ use Rattle.rules.specs.Text.{ascii}
 use Rattle.replaying.specs.Puts.{puts_word}
 use borrow.Author.Tests.{eq-eqb, ne_eqb}
 use Rattle.replaying.specs.Lines.{kind_text, pick}
-use borrow.Author.Rules.{rules}
 use Rattle.replaying.proofs.kind.Goals as goal
 
 pub returns-then-k-eq-REQUEST : goal.returns-then-k-eq-REQUEST

@@ -4,7 +4,6 @@ use Rattle.rules.specs.Text.{ascii}
 use Rattle.replaying.specs.Puts.{puts_word, more}
 use borrow.Author.Tests.{eq-eqb, ne_eqb}
 use Rattle.replaying.specs.Lines.{maybe, pick}
-use borrow.Author.Rules.{rules}
 use Rattle.replaying.proofs.maybe.Goals as goal
 
 pub returns-then-there-eq0 : goal.returns-then-there-eq0

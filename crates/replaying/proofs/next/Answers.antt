@@ -8,7 +8,6 @@ use Rattle.replaying.specs.Lines.{long_line, bad_line}
 use Rattle.replaying.specs.Plays.{too_long, at_end, bad, plays, told}
 use Rattle.replaying.specs.Puts.{puts_none}
 use Rattle.replaying.specs.Runs.{stops}
-use borrow.Author.Rules.{rules}
 use Rattle.replaying.proofs.next.Goals as goal
 
 pub returns-then-script-gt1048576 : goal.returns-then-script-gt1048576

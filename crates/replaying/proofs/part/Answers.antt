@@ -1,7 +1,6 @@
 -- `replaying::part` meets its contract: its parts, one behind the other, within the room. Assumes nothing.
 use native.Mathlib.Omega.{arith}
 use Rattle.replaying.specs.Puts.{puts_word, more, then_puts}
-use borrow.Author.Rules.{rules}
 use Rattle.replaying.proofs.part.Goals as goal
 
 pub returns : goal.returns

@@ -1,7 +1,6 @@
 -- `replaying::play` meets its contract: a call for each letter. Assumes nothing.
 use mathlib.Core.Path.{refl}
 use Rattle.replaying.specs.Plays.{starts, opens, feeds, gives, ends, resets, shows, Plays.reads as read_by_lem, writes, lined, told}
-use borrow.Author.Rules.{rules}
 use Rattle.replaying.proofs.play.Goals as goal
 
 pub returns-then-l-eq83 : goal.returns-then-l-eq83

@@ -1,12 +1,8 @@
 -- `replaying::records` meets its contract: the invariant is the text of the records so far. Assumes nothing.
-use mathlib.Core.Path.{◌≡◌}
-use Rattle.record.specs.Row.{free_record}
-use borrow.Author.Rules.{rules}
 use Prim.Native.Nat.{◌*◌, ◌≤◌, ◌-◌}
 use lib.ListN.{take}
-use native.Mathlib.Omega.{arith}
 use Rattle.replaying.specs.Lines.{rows_text}
-use Rattle.replaying.specs.Puts.{Puts, more, puts_none, next_record}
+use Rattle.replaying.specs.Puts.{Puts}
 use Rattle.replaying.proofs.records.Given as goal
 
 abbrev pub invariant-loop-i : goal.invariant-loop-i

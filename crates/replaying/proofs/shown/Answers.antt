@@ -4,7 +4,6 @@ use Rattle.rules.specs.Text.{ascii}
 use Rattle.replaying.specs.Puts.{puts_word, more, then_puts, puts_none}
 use borrow.Author.Tests.{eq-eqb, ne_eqb}
 use Rattle.replaying.specs.Lines.{record_text, pick}
-use borrow.Author.Rules.{rules}
 use Rattle.replaying.proofs.shown.Goals as goal
 
 pub returns-then-r-eq-FREE_KIND : goal.returns-then-r-eq-FREE_KIND

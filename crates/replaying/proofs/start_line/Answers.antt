@@ -2,7 +2,6 @@
 use Rattle.rules.specs.Text.{ascii}
 use Rattle.replaying.specs.Puts.{puts_word, then_puts}
 use Rattle.replaying.specs.Lines.{start_line}
-use borrow.Author.Rules.{rules}
 use Rattle.replaying.proofs.start_line.Goals as goal
 
 pub returns : goal.returns

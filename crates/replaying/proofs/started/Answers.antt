@@ -1,7 +1,6 @@
 -- `replaying::started` meets its contract: lent the kept row, or another. Assumes nothing.
 use mathlib.Core.Path.{refl}
 use Rattle.replaying.specs.Plays.{start_here, start_other, lined}
-use borrow.Author.Rules.{rules}
 use Rattle.replaying.proofs.started.Goals as goal
 
 pub returns-then-n-eq24 : goal.returns-then-n-eq24

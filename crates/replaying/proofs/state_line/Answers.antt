@@ -2,7 +2,6 @@
 use Rattle.rules.specs.Text.{ascii}
 use Rattle.replaying.specs.Lines.{state_line}
 use Rattle.replaying.specs.Puts.{then_puts, puts_word}
-use borrow.Author.Rules.{rules}
 use Rattle.replaying.proofs.state_line.Goals as goal
 
 pub returns : goal.returns

@@ -1,7 +1,6 @@
 -- `replaying::streamed` meets its contract: lent the kept row, or another. Assumes nothing.
 use mathlib.Core.Path.{refl}
 use Rattle.replaying.specs.Plays.{step_here, step_other, lined}
-use borrow.Author.Rules.{rules}
 use Rattle.replaying.proofs.streamed.Goals as goal
 
 pub returns-then-n-eq24 : goal.returns-then-n-eq24

@@ -3,7 +3,6 @@ use native.Mathlib.Omega.{arith}
 use Rattle.rules.specs.Text.{ascii}
 use Rattle.replaying.specs.Calls.{read_cut, read_value}
 use Rattle.replaying.specs.Puts.{puts_as, more, puts_word}
-use borrow.Author.Rules.{rules}
 use Rattle.replaying.proofs.value.Goals as goal
 
 pub returns-in-Short : goal.returns-in-Short

@@ -1,7 +1,6 @@
 -- `replaying::written` meets its contract: a line for each answer. Assumes nothing.
 use Rattle.replaying.specs.Calls.{write_refused, write_count}
 use Rattle.replaying.specs.Puts.{puts_as}
-use borrow.Author.Rules.{rules}
 use Rattle.replaying.proofs.written.Goals as goal
 
 pub returns-in-Refused : goal.returns-in-Refused

@@ -1,7 +1,6 @@
 -- `replaying::wrote` meets its contract: one write for each letter. Assumes nothing.
 use borrow.Author.Tests.{eq-eqb, ne_eqb}
 use Rattle.replaying.specs.Lines.{write_of, pick_write}
-use borrow.Author.Rules.{rules}
 use Rattle.replaying.proofs.wrote.Goals as goal
 
 pub returns-then-letter-eq87 : goal.returns-then-letter-eq87

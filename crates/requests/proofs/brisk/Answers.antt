@@ -5,7 +5,6 @@ use Rattle.frames.specs.Fed.{Fed}
 use Rattle.record.specs.Sound.{cells_in}
 use Rattle.requests.specs.Reply.{Open}
 use Rattle.requests.specs.Feeds.{feed-content}
-use borrow.Author.Rules.{rules}
 use Rattle.requests.proofs.brisk.Goals as goal
 
 pub brisk-b-requires : goal.brisk-b-requires

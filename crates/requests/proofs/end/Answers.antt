@@ -1,7 +1,6 @@
 use Rattle.requests.specs.Reply.{shut}
 use Rattle.requests.specs.Answered.{read_open, read_shut}
 use Rattle.requests.specs.Told.{end_whole, end_code}
-use borrow.Author.Rules.{rules}
 use Rattle.requests.proofs.end.Goals as goal
 
 pub returns-then-n-eq-ACCEPTED : goal.returns-then-n-eq-ACCEPTED

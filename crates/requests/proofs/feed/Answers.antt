@@ -6,7 +6,6 @@ use Rattle.record.specs.Sound.{cells_in}
 use Rattle.requests.specs.Reply.{fed_as}
 use Rattle.requests.specs.Answered.{read_open, read_shut, keeps_shut}
 use Rattle.requests.specs.Feeds.{feed_due, feed_fault, feed-fit, feed-quiet, feed-late, feed-part}
-use borrow.Author.Rules.{rules}
 use Rattle.requests.proofs.feed.Goals as goal
 
 pub returns-then-c-eq-HEADER_SECTION_DUE : goal.returns-then-c-eq-HEADER_SECTION_DUE

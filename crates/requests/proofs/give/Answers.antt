@@ -3,7 +3,6 @@ use Rattle.requests.specs.Answered.{read_open, read_shut, keeps_shut}
 use Rattle.requests.specs.Gives.{give_fit, give_taken, give_turned}
 use mathlib.Core.Path.{ap, ◌∙◌}
 use Rattle.requests.specs.Taken.{given_of}
-use borrow.Author.Rules.{rules}
 use Rattle.requests.proofs.give.Goals as goal
 
 pub kept-requires : goal.kept-requires

@@ -1,5 +1,4 @@
 use Rattle.requests.specs.Severity.{freed_rejected, freed_cancelled, freed_incomplete, freed_malformed, left_alone}
-use borrow.Author.Rules.{rules}
 use Rattle.requests.proofs.left.Goals as goal
 
 pub returns-then-number-eq-REQUEST_REJECTED : goal.returns-then-number-eq-REQUEST_REJECTED

@@ -1,7 +1,6 @@
 use Rattle.requests.specs.Reply.{shut}
 use Rattle.requests.specs.Answered.{read_open, read_shut}
 use Rattle.requests.specs.Told.{reset_open}
-use borrow.Author.Rules.{rules}
 use Rattle.requests.proofs.reset.Goals as goal
 
 pub returns-then-s-eq-REQUEST : goal.returns-then-s-eq-REQUEST

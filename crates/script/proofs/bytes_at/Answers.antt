@@ -1,12 +1,9 @@
 -- `script::bytes_at` meets its contract: the invariant is that the digits so far spell the bytes stored. Assumes nothing.
-use lib.ListN.{length, take, length-set}
+use lib.ListN.{take, length-set}
 use lib.Seq.{length-take-le}
 use Rattle.script.specs.Laws.{next_byte, some_bytes, no_bytes, dash}
-use Prim.Native.Nat.{◌+◌, ◌≤◌, ◌-◌}
-use mathlib.Core.Path.{◌≡◌, refl}
+use mathlib.Core.Path.{refl}
 use native.Mathlib.Omega.{arith}
-use borrow.Author.Rules.{rules}
-use Rattle.script.specs.Words.{between, hexes}
 use Rattle.script.proofs.bytes_at.Goals as goal
 
 pub returns-then-s-at-eq45 : goal.returns-then-s-at-eq45

@@ -1,11 +1,7 @@
 -- `script::bytes_at` meets its contract: the invariant is that the digits so far spell the bytes stored. Assumes nothing.
-use lib.ListN.{length, take, length-set}
-use lib.Seq.{length-take-le}
-use Rattle.script.specs.Laws.{next_byte, some_bytes, no_bytes, dash}
+use lib.ListN.{length, take}
 use Prim.Native.Nat.{◌+◌, ◌≤◌, ◌-◌}
-use mathlib.Core.Path.{◌≡◌, refl}
-use native.Mathlib.Omega.{arith}
-use borrow.Author.Rules.{rules}
+use mathlib.Core.Path.{◌≡◌}
 use Rattle.script.specs.Words.{between, hexes}
 use Rattle.script.proofs.bytes_at.Given as goal
 

@@ -2,7 +2,6 @@
 use mathlib.Core.Path.{refl}
 use native.Mathlib.Omega.{arith}
 use Rattle.script.specs.Laws.{nothing_at, ended_at, decoded}
-use borrow.Author.Rules.{rules}
 use Rattle.script.proofs.call.Goals as goal
 
 pub returns-then-s-at : goal.returns-then-s-at

@@ -1,6 +1,5 @@
 -- `script::ended` meets its contract: a line whose end is not there is none. Assumes nothing.
 use native.Mathlib.Omega.{arith}
-use borrow.Author.Rules.{rules}
 use Rattle.script.proofs.ended.Goals as goal
 
 pub returns-else-ends : goal.returns-else-ends

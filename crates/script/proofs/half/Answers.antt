@@ -2,7 +2,6 @@
 use mathlib.Core.Path.{sym, ◌∙◌}
 use native.Mathlib.Omega.{arith}
 use Rattle.script.specs.Laws.{low_half, high_half}
-use borrow.Author.Rules.{rules}
 use Rattle.script.proofs.half.Goals as goal
 
 pub returns-then-x-lt58 : goal.returns-then-x-lt58

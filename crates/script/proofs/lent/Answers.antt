@@ -2,7 +2,6 @@
 use mathlib.Core.Path.{refl}
 use native.Mathlib.Omega.{arith}
 use Rattle.script.specs.Laws.{nothing_at, from_at}
-use borrow.Author.Rules.{rules}
 use Rattle.script.proofs.lent.Goals as goal
 
 pub returns-then-n-gt32 : goal.returns-then-n-gt32

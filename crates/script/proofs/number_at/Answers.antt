@@ -1,11 +1,6 @@
 -- `script::number_at` meets its contract: the invariant is that the digits so far spell the value. Assumes nothing.
-use mathlib.Core.Path.{◌≡◌, sym}
-use Prim.Native.Nat.{◌≤◌, ◌<◌, ◌-◌}
+use mathlib.Core.Path.{sym}
 use native.Mathlib.Omega.{arith}
-use lib.ListN.{length}
-use borrow.Author.Rules.{rules}
-use Rattle.listing.specs.Text.{decimal}
-use Rattle.script.specs.Words.{between}
 use Rattle.script.specs.Laws.{first_digit, next_digit}
 use Rattle.script.proofs.number_at.Goals as goal
 

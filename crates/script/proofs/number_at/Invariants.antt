@@ -1,12 +1,9 @@
 -- `script::number_at` meets its contract: the invariant is that the digits so far spell the value. Assumes nothing.
-use mathlib.Core.Path.{◌≡◌, sym}
+use mathlib.Core.Path.{◌≡◌}
 use Prim.Native.Nat.{◌≤◌, ◌<◌, ◌-◌}
-use native.Mathlib.Omega.{arith}
 use lib.ListN.{length}
-use borrow.Author.Rules.{rules}
 use Rattle.listing.specs.Text.{decimal}
 use Rattle.script.specs.Words.{between}
-use Rattle.script.specs.Laws.{first_digit, next_digit}
 use Rattle.script.proofs.number_at.Given as goal
 
 abbrev pub invariant-loop-i : goal.invariant-loop-i

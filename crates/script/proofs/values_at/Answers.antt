@@ -1,8 +1,5 @@
 -- `script::values_at` meets its contract: each number leads on. Assumes nothing.
-use Prim.Native.Nat.{◌≤◌, ◌-◌}
 use native.Mathlib.Omega.{arith}
-use lib.ListN.{length}
-use borrow.Author.Rules.{rules}
 use Rattle.script.specs.Laws.{spelt_out}
 use Rattle.script.proofs.values_at.Goals as goal
 

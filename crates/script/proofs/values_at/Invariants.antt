@@ -1,9 +1,6 @@
 -- `script::values_at` meets its contract: each number leads on. Assumes nothing.
 use Prim.Native.Nat.{◌≤◌, ◌-◌}
-use native.Mathlib.Omega.{arith}
 use lib.ListN.{length}
-use borrow.Author.Rules.{rules}
-use Rattle.script.specs.Laws.{spelt_out}
 use Rattle.script.proofs.values_at.Given as goal
 
 abbrev pub invariant-loop-j : goal.invariant-loop-j

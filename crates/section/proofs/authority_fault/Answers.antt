@@ -1,6 +1,5 @@
 -- `section::authority_fault` meets its contract. Assumes nothing.
 use Rattle.section.specs.Judging.{by_authority}
-use borrow.Author.Rules.{rules}
 use Rattle.section.proofs.authority_fault.Goals as goal
 
 pub returns : goal.returns

@@ -1,7 +1,6 @@
 -- `section::header_fault` meets its contract. Assumes nothing.
 use Rattle.section.specs.Facts.{facts_of}
 use Rattle.section.specs.Judging.{header_lowest}
-use borrow.Author.Rules.{rules}
 use Rattle.section.proofs.header_fault.Goals as goal
 
 pub returns : goal.returns

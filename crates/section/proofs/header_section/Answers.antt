@@ -4,7 +4,6 @@ use borrow.Author.Tests.{not-true, not-false}
 use Rattle.fields.specs.Lines.{held_is}
 use Rattle.section.specs.Answer.{header_answer}
 use Rattle.section.specs.Judging.{header_unread, header_refused, header_sound}
-use borrow.Author.Rules.{rules}
 use Rattle.section.proofs.header_section.Goals as goal
 
 pub returns-then-not-walked : goal.returns-then-not-walked

@@ -1,6 +1,5 @@
 -- `section::host_line` meets its contract. Assumes nothing.
 use Rattle.section.specs.Facts.{keep_at, note_by}
-use borrow.Author.Rules.{rules}
 use Rattle.section.proofs.host_line.Goals as goal
 
 pub returns : goal.returns

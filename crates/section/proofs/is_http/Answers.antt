@@ -1,7 +1,6 @@
 -- `section::is_http` meets its contract. Assumes nothing.
 use Rattle.rules.specs.Text.{ascii}
 use Rattle.section.specs.Judging.{is_http}
-use borrow.Author.Rules.{rules}
 use Rattle.section.proofs.is_http.Goals as goal
 
 pub returns : goal.returns

@@ -1,7 +1,6 @@
 -- `section::is_path` meets its contract. Assumes nothing.
 use Rattle.rules.specs.Text.{ascii}
 use Rattle.section.specs.Judging.{is_path}
-use borrow.Author.Rules.{rules}
 use Rattle.section.proofs.is_path.Goals as goal
 
 pub returns : goal.returns

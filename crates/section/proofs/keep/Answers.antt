@@ -1,6 +1,5 @@
 -- `section::keep` meets its contract. Assumes nothing.
 use Rattle.section.specs.Facts.{keep_at}
-use borrow.Author.Rules.{rules}
 use Rattle.section.proofs.keep.Goals as goal
 
 pub returns : goal.returns

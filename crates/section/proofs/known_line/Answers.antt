@@ -1,6 +1,5 @@
 -- `section::known_line` meets its contract. Assumes nothing.
 use Rattle.section.specs.Facts.{known_by, keep_at}
-use borrow.Author.Rules.{rules}
 use Rattle.section.proofs.known_line.Goals as goal
 
 pub returns : goal.returns

@@ -1,7 +1,6 @@
 -- `section::length_line` meets its contract. Assumes nothing.
 use Rattle.rules.specs.Integers.{largest}
 use Rattle.section.specs.Facts.{keep_at, note_by}
-use borrow.Author.Rules.{rules}
 use Rattle.section.proofs.length_line.Goals as goal
 
 pub returns : goal.returns

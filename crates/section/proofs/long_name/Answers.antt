@@ -1,7 +1,6 @@
 -- `section::long_name` meets its contract. Assumes nothing.
 use Rattle.rules.specs.Text.{ascii}
 use Rattle.section.specs.Names.{long_by, long_name, of_length, no_long}
-use borrow.Author.Rules.{rules}
 use Rattle.section.proofs.long_name.Goals as goal
 
 pub returns-in-14 : goal.returns-in-14

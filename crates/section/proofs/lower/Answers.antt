@@ -1,6 +1,5 @@
 -- `section::lower` meets its contract. Assumes nothing.
 use borrow.Author.Tests.{lt-ltb, le-ltb}
-use borrow.Author.Rules.{rules}
 use Rattle.section.proofs.lower.Goals as goal
 
 pub returns-then-check-first : goal.returns-then-check-first

@@ -1,6 +1,5 @@
 -- `section::method_line` meets its contract. Assumes nothing.
 use Rattle.section.specs.Facts.{known_by, note_by}
-use borrow.Author.Rules.{rules}
 use Rattle.section.proofs.method_line.Goals as goal
 
 pub returns : goal.returns

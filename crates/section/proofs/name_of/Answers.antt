@@ -1,7 +1,6 @@
 -- `section::name_of` meets its contract. Assumes nothing.
 use Rattle.rules.specs.Text.{ascii}
 use Rattle.section.specs.Names.{name_by, name_of, of_length, no_short}
-use borrow.Author.Rules.{rules}
 use Rattle.section.proofs.name_of.Goals as goal
 
 pub returns-in-7 : goal.returns-in-7

@@ -3,7 +3,6 @@ use mathlib.Core.Path.{sym, ◌∙◌}
 use Rattle.fields.specs.Laws.{empty_is}
 use Rattle.fields.specs.Outside.{outside_all}
 use borrow.Author.Tests.{eq-eqb, ne_eqb}
-use borrow.Author.Rules.{rules}
 use Rattle.section.proofs.not_all.Goals as goal
 
 pub returns-then-v-eq0 : goal.returns-then-v-eq0

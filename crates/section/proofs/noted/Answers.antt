@@ -3,7 +3,6 @@ use Rattle.section.specs.Laws.{none_below}
 use Rattle.section.specs.Facts.{note_by, of_kind}
 use native.Mathlib.Omega.{arith}
 use mathlib.Core.Path.{◌≡◌}
-use borrow.Author.Rules.{rules}
 use Rattle.section.proofs.noted.Goals as goal
 
 pub returns-in-0 : goal.returns-in-0

@@ -2,7 +2,6 @@
 use Rattle.rules.specs.Text.{ascii}
 use Rattle.section.specs.Laws.{chosen, otherwise}
 use Rattle.section.specs.Names.{of_seven}
-use borrow.Author.Rules.{rules}
 use Rattle.section.proofs.of_seven.Goals as goal
 
 pub returns-then-same_bytes : goal.returns-then-same_bytes

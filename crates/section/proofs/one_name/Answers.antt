@@ -1,7 +1,6 @@
 -- `section::one_name` meets its contract. Assumes nothing.
 use Rattle.section.specs.Laws.{chosen, otherwise}
 use Rattle.section.specs.Names.{one_name}
-use borrow.Author.Rules.{rules}
 use Rattle.section.proofs.one_name.Goals as goal
 
 pub returns-then-same_bytes : goal.returns-then-same_bytes

@@ -2,7 +2,6 @@
 use mathlib.Core.Path.{refl}
 use Rattle.section.specs.Laws.{chosen, otherwise}
 use Rattle.section.specs.Names.{other_name}
-use borrow.Author.Rules.{rules}
 use Rattle.section.proofs.other_name.Goals as goal
 
 pub returns-then-begins_with : goal.returns-then-begins_with

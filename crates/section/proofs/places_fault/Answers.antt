@@ -1,7 +1,6 @@
 -- `section::places_fault` meets its contract. Assumes nothing.
 use Rattle.rules.specs.Section.{size_limit, length_limit}
 use Rattle.section.specs.Judging.{by_places}
-use borrow.Author.Rules.{rules}
 use Rattle.section.proofs.places_fault.Goals as goal
 
 pub returns : goal.returns

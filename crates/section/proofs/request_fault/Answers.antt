@@ -1,7 +1,6 @@
 -- `section::request_fault` meets its contract. Assumes nothing.
 use Rattle.rules.specs.Text.{ascii}
 use Rattle.section.specs.Judging.{by_request}
-use borrow.Author.Rules.{rules}
 use Rattle.section.proofs.request_fault.Goals as goal
 
 pub returns : goal.returns

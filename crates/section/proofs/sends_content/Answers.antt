@@ -1,7 +1,6 @@
 -- `section::sends_content` meets its contract. Assumes nothing.
 use Rattle.rules.specs.Text.{ascii}
 use Rattle.section.specs.Judging.{sends_content}
-use borrow.Author.Rules.{rules}
 use Rattle.section.proofs.sends_content.Goals as goal
 
 pub returns : goal.returns

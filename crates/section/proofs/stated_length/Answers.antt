@@ -2,7 +2,6 @@
 use Rattle.section.specs.Judging.{stated_by}
 use Rattle.section.specs.Answer.{stated_of}
 use borrow.Author.Tests.{eq-eqb, ne_eqb}
-use borrow.Author.Rules.{rules}
 use Rattle.section.proofs.stated_length.Goals as goal
 
 pub returns-then-f-eq0 : goal.returns-then-f-eq0

@@ -4,7 +4,6 @@ use borrow.Author.Tests.{not-true, not-false}
 use Rattle.fields.specs.Lines.{held_is}
 use Rattle.section.specs.Answer.{trailer_answer}
 use Rattle.section.specs.Judging.{by_trailers, trailers_unread, trailers_refused, trailers_sound}
-use borrow.Author.Rules.{rules}
 use Rattle.section.proofs.trailers.Goals as goal
 
 pub returns-then-not-walked : goal.returns-then-not-walked

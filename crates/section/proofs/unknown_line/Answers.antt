@@ -1,6 +1,5 @@
 -- `section::unknown_line` meets its contract. Assumes nothing.
 use Rattle.section.specs.Facts.{note_by}
-use borrow.Author.Rules.{rules}
 use Rattle.section.proofs.unknown_line.Goals as goal
 
 pub returns : goal.returns

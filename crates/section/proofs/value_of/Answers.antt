@@ -1,7 +1,6 @@
 -- `section::value_of` meets its contract. Assumes nothing.
 use Rattle.section.specs.Places.{lies, bytes_at}
 use native.Mathlib.Omega.{arith}
-use borrow.Author.Rules.{rules}
 use Rattle.section.proofs.value_of.Goals as goal
 
 pub slice_bounds-result-count : goal.slice_bounds-result-count

@@ -1,13 +1,8 @@
 -- `section::walk_lines` meets its contract. Assumes nothing.
-use Rattle.fields.specs.Lines.{Placed, placed}
-use Rattle.fields.specs.Walk.{record_at}
-use Rattle.fields.specs.declared.Record.TheVariants.{Line}
+use Rattle.fields.specs.Lines.{placed}
 use native.Mathlib.Omega.{arith}
-use mathlib.Core.Path.{◌≡◌, sym, ◌∙◌}
-use borrow.Author.Rules.{rules}
-use Prim.Native.Nat.{◌-◌}
-use lib.ListN.{length}
-use Rattle.section.specs.Walking.{Walking, starts, ended, flawed, fits, goes}
+use mathlib.Core.Path.{sym, ◌∙◌}
+use Rattle.section.specs.Walking.{starts, ended, flawed, fits, goes}
 use Rattle.section.proofs.walk_lines.Goals as goal
 
 pub loop-name-init : goal.loop-name-init

@@ -1,13 +1,7 @@
 -- `section::walk_lines` meets its contract. Assumes nothing.
-use Rattle.fields.specs.Lines.{Placed, placed}
-use Rattle.fields.specs.Walk.{record_at}
-use Rattle.fields.specs.declared.Record.TheVariants.{Line}
-use native.Mathlib.Omega.{arith}
-use mathlib.Core.Path.{◌≡◌, sym, ◌∙◌}
-use borrow.Author.Rules.{rules}
 use Prim.Native.Nat.{◌-◌}
 use lib.ListN.{length}
-use Rattle.section.specs.Walking.{Walking, starts, ended, flawed, fits, goes}
+use Rattle.section.specs.Walking.{Walking}
 use Rattle.section.proofs.walk_lines.Given as goal
 
 abbrev pub invariant-loop-name : goal.invariant-loop-name

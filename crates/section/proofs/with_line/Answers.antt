@@ -4,7 +4,6 @@ use Rattle.section.specs.Names.{ten}
 use mathlib.Core.Path.{subst, sym}
 use Prim.Native.Nat.{ℕ, ◌<◌}
 use native.Mathlib.Omega.{arith}
-use borrow.Author.Rules.{rules}
 use Rattle.section.proofs.with_line.Goals as goal
 
 pub bad_line-bad-requires : goal.bad_line-bad-requires

@@ -1,6 +1,5 @@
 -- No byte, one byte, cut, whole. Assumes nothing.
 use native.Mathlib.Omega.{arith}
-use borrow.Author.Rules.{rules}
 use Rattle.varint.specs.Whole.{ends_none, ends_one, ends_short, ends_whole}
 use Rattle.varint.proofs.ends.Goals as goal
 

@@ -1,5 +1,4 @@
 -- The shift of a byte by its top two bits is the rule for how many bytes follow. Assumes nothing.
-use borrow.Author.Rules.{rules}
 use Rattle.varint.specs.ByByte.{follow_least, follow_is}
 use Rattle.varint.proofs.follow.Goals as goal
 

@@ -1,7 +1,6 @@
 -- The invariant: the integer is what is read so far with the bytes to come. Assumes nothing.
 use native.Mathlib.Omega.{arith}
-use borrow.Author.Rules.{rules}
-use Rattle.varint.specs.Whole.{OnWay, inside, way_start, way_step, way_end, way_fits}
+use Rattle.varint.specs.Whole.{inside, way_start, way_step, way_end, way_fits}
 use Rattle.varint.proofs.long.Goals as goal
 
 pub bounds-s-at : goal.bounds-s-at

@@ -1,7 +1,5 @@
 -- The invariant: the integer is what is read so far with the bytes to come. Assumes nothing.
-use native.Mathlib.Omega.{arith}
-use borrow.Author.Rules.{rules}
-use Rattle.varint.specs.Whole.{OnWay, inside, way_start, way_step, way_end, way_fits}
+use Rattle.varint.specs.Whole.{OnWay}
 use Rattle.varint.proofs.long.Given as goal
 
 abbrev pub invariant-loop-due : goal.invariant-loop-due

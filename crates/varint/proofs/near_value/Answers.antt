@@ -1,7 +1,6 @@
 -- One byte is its own value; two have a way of their own. Assumes nothing.
 use Prim.Native.Nat.{◌+◌}
 use native.Mathlib.Omega.{arith}
-use borrow.Author.Rules.{rules}
 use Rattle.varint.specs.Whole.{inside, value_one, two_within, value_two}
 use Rattle.varint.proofs.near_value.Goals as goal
 

@@ -2,8 +2,7 @@
 use mathlib.Core.Path.{◌∙◌}
 use native.Mathlib.Omega.{arith}
 use lib.ListN.{length-set}
-use borrow.Author.Rules.{rules}
-use Rattle.varint.specs.Shortest.{Storing, holds, store_start, store_step, store_end, put_all}
+use Rattle.varint.specs.Shortest.{holds, store_start, store_step, store_end, put_all}
 use Rattle.varint.proofs.put.Goals as goal
 
 pub overflow_sub-k : goal.overflow_sub-k

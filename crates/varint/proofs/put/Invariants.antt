@@ -1,9 +1,5 @@
 -- The invariant: the bytes to come bring the room to where the whole form brings it. Assumes nothing.
-use mathlib.Core.Path.{◌∙◌}
-use native.Mathlib.Omega.{arith}
-use lib.ListN.{length-set}
-use borrow.Author.Rules.{rules}
-use Rattle.varint.specs.Shortest.{Storing, holds, store_start, store_step, store_end, put_all}
+use Rattle.varint.specs.Shortest.{Storing}
 use Rattle.varint.proofs.put.Given as goal
 
 abbrev pub invariant-loop-k : goal.invariant-loop-k

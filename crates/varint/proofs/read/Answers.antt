@@ -1,5 +1,4 @@
 -- Where it ends and its value make the integer. Assumes nothing.
-use borrow.Author.Rules.{rules}
 use Rattle.varint.specs.Whole.{read_short, read_value}
 use Rattle.varint.proofs.read.Goals as goal
 

@@ -1,6 +1,5 @@
 -- A first byte, and a later one; a good part leaves room for a byte more. Assumes nothing.
 use native.Mathlib.Omega.{arith}
-use borrow.Author.Rules.{rules}
 use Rattle.varint.specs.ByByte.{next_fits, first_step, next_step}
 use Rattle.varint.proofs.read_step.Goals as goal
 

@@ -1,6 +1,5 @@
 -- The size of the row is the number of bytes. Assumes nothing.
 use mathlib.Core.Path.{ap, ◌∙◌}
-use borrow.Author.Rules.{rules}
 use Rattle.varint.specs.Shortest.{form_size}
 use Rattle.varint.specs.declared.Form.{Form}
 use Rattle.varint.proofs.size.Goals as goal

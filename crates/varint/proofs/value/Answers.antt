@@ -1,5 +1,4 @@
 -- One byte is its own value. Assumes nothing.
-use borrow.Author.Rules.{rules}
 use Rattle.varint.specs.Whole.{inside, value_one}
 use Rattle.varint.proofs.value.Goals as goal
 

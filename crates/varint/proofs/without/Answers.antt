@@ -1,5 +1,4 @@
 -- A shift by bytes is a division by a power of 256. Assumes nothing.
-use borrow.Author.Rules.{rules}
 use Rattle.varint.specs.Shortest.{shift_bytes}
 use Rattle.varint.proofs.without.Goals as goal
 

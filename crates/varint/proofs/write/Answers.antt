@@ -1,7 +1,6 @@
 -- Above 2^62-1, then too short, then stored. Assumes nothing.
 use mathlib.Core.Path.{sym, ◌∙◌}
 use native.Mathlib.Omega.{arith}
-use borrow.Author.Rules.{rules}
 use Rattle.varint.specs.Write.{write_above, write_short, write_done}
 use Rattle.varint.proofs.write.Goals as goal
 

@@ -1,7 +1,5 @@
 -- No multiple of 4, too high, the first one, or a later one. Assumes nothing.
 use mathlib.Core.Path.{sym, ◌∙◌}
-use borrow.Author.Tests.{not-true, not-false}
-use borrow.Author.Rules.{rules}
 use Rattle.wire.specs.Goaway.{bad_kind, bad_high, first_one, later-one}
 use Rattle.wire.proofs.bad_goaway.Goals as goal
 

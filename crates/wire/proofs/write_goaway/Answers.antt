@@ -1,6 +1,5 @@
 -- A bad ID, or an integer frame of type 7. Assumes nothing.
 use mathlib.Core.Path.{sym, ◌∙◌}
-use borrow.Author.Rules.{rules}
 use Rattle.wire.specs.Goaway.{sent_of, goaway_bad, goaway_frame}
 use Rattle.wire.proofs.write_goaway.Goals as goal
 

@@ -1,6 +1,5 @@
 -- A value above 2^62-1, a room too short, or both integers stored. Assumes nothing.
 use native.Mathlib.Omega.{arith}
-use borrow.Author.Rules.{rules}
 use Rattle.varint.specs.Shortest.{size_few}
 use Rattle.wire.specs.Frame.{header_no_type, header_no_length, header_short, header_done}
 use Rattle.wire.proofs.write_header.Goals as goal

@@ -1,6 +1,5 @@
 -- A value above 2^62-1, a room too short, or the three integers stored. Assumes nothing.
 use native.Mathlib.Omega.{arith}
-use borrow.Author.Rules.{rules}
 use Rattle.varint.specs.Shortest.{size_few}
 use Rattle.wire.specs.Frame.{length_one, frame_no_type, frame_no_value, frame_short, frame_done}
 use Rattle.wire.proofs.write_integer_frame.Goals as goal

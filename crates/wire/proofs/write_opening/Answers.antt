@@ -1,7 +1,6 @@
 -- The invariant: the bytes to come bring the room to where all twelve bring it. Assumes nothing.
-use Prim.Native.Nat.{◌-◌}
 use native.Mathlib.Omega.{arith}
-use Rattle.wire.specs.Opening.{ours, Copying, copy_start, copy_step, opening_short, opening_done}
+use Rattle.wire.specs.Opening.{ours, copy_start, copy_step, opening_short, opening_done}
 use Rattle.wire.proofs.write_opening.Goals as goal
 
 pub returns-then-room-lt12 : goal.returns-then-room-lt12

@@ -1,5 +1,4 @@
 use Rattle.connection.specs.Openings.{none_free, some_free}
-use borrow.Author.Rules.{rules}
 use Rattle.connection.proofs.doors.admitted.Goals as goal
 
 pub returns-then-free-eq0 : goal.returns-then-free-eq0

@@ -1,5 +1,4 @@
 use Rattle.connection.specs.Openings.{open_dead, open_above, open-request, open-one-way, open_none}
-use borrow.Author.Rules.{rules}
 use Rattle.connection.proofs.doors.open.Goals as goal
 
 pub returns-then-d-ne0 : goal.returns-then-d-ne0

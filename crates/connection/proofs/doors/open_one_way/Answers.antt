@@ -1,5 +1,4 @@
 use Rattle.connection.specs.Openings.{one_way_other, one_way_admitted}
-use borrow.Author.Rules.{rules}
 use Rattle.connection.proofs.doors.open_one_way.Goals as goal
 
 pub returns-then-id-d : goal.returns-then-id-d

@@ -1,5 +1,4 @@
 use Rattle.connection.specs.Openings.{request_other, request_barred, request_admitted}
-use borrow.Author.Rules.{rules}
 use Rattle.connection.proofs.doors.open_request.Goals as goal
 
 pub returns-then-id-d : goal.returns-then-id-d

@@ -1,5 +1,4 @@
 use Rattle.connection.specs.Goaway.{send_dead, send_refused, send_written}
-use borrow.Author.Rules.{rules}
 use Rattle.connection.proofs.doors.send_goaway.Goals as goal
 
 pub returns-then-d-ne0 : goal.returns-then-d-ne0

@@ -1,10 +1,7 @@
 -- `control::settings::walk`, which calls itself, meets its contract. The measure is what is left of the payload: a pair takes bytes.
 -- Each answer is a law of the walk. Assumes nothing.
 use mathlib.Core.Path.{sym, ◌∙◌}
-use Prim.Native.Nat.{ℕ, ◌<◌, ◌-◌}
 use native.Mathlib.Omega.{arith}
-use lib.ListN.{length}
-use borrow.Author.Rules.{rules}
 use Rattle.control.specs.WalkLaws.{pair_shortens, walk_end, walk_cut, walk_reserved, walk_seen, walk_on, set_made}
 use Rattle.control.proofs.settings.+walk.Goals as goal
 

@@ -1,5 +1,4 @@
 -- `control::settings::judge` meets its contract: the walk from the beginning, with nothing kept. Assumes nothing.
-use borrow.Author.Rules.{rules}
 use Rattle.control.specs.WalkLaws.{judge_is}
 use Rattle.control.proofs.settings.judge.Goals as goal
 

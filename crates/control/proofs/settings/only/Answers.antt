@@ -1,5 +1,4 @@
 -- `control::settings::only` meets its contract: the integer ends where the payload does, or not. Assumes nothing.
-use borrow.Author.Rules.{rules}
 use Rattle.varint.specs.Whole.{whole_is}
 use Rattle.control.specs.OnlyLaws.{only_cut, only_is, only_not}
 use Rattle.control.proofs.settings.only.Goals as goal

@@ -1,6 +1,5 @@
 -- `control::settings::pair_at` meets its contract: what is read twice is a pair, or cut. Assumes nothing.
 use mathlib.Core.Path.{sym}
-use borrow.Author.Rules.{rules}
 use Rattle.varint.specs.Whole.{whole_is}
 use Rattle.control.specs.Walk.{identifier_cut, value_cut}
 use Rattle.control.proofs.settings.pair_at.Goals as goal

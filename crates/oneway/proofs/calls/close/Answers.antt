@@ -1,7 +1,6 @@
 use Rattle.oneway.specs.Heard.{closed_here}
 use Rattle.oneway.specs.Leaves.{own_kind, own_cells}
 use Rattle.oneway.specs.Feeds.{heard_shut, close_freed, close_held}
-use borrow.Author.Rules.{rules}
 use Rattle.oneway.proofs.calls.close.Goals as goal
 
 pub returns-then-n-eq0 : goal.returns-then-n-eq0

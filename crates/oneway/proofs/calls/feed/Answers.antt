@@ -1,9 +1,7 @@
 use native.Mathlib.Omega.{arith}
-use mathlib.Core.Path.{sym, ◌∙◌}
 use Rattle.oneway.specs.Heard.{fed_here}
 use Rattle.oneway.specs.Leaves.{own_cells}
 use Rattle.oneway.specs.Feeds.{heard_shut, heard_open}
-use borrow.Author.Rules.{rules}
 use Rattle.oneway.proofs.calls.feed.Goals as goal
 
 pub on-requires : goal.on-requires

@@ -1,7 +1,6 @@
 use mathlib.Core.Path.{ap}
 use lib.ListN.{replicate}
 use Rattle.oneway.specs.Mirror.{side_of}
-use borrow.Author.Rules.{rules}
 use Rattle.oneway.proofs.calls.fresh.Goals as goal
 
 pub returns : goal.returns

@@ -1,6 +1,5 @@
 use Rattle.oneway.specs.Heard.{given_here}
 use Rattle.oneway.specs.Feeds.{heard_shut, heard_open}
-use borrow.Author.Rules.{rules}
 use Rattle.oneway.proofs.calls.give.Goals as goal
 
 pub returns-then-heeds : goal.returns-then-heeds

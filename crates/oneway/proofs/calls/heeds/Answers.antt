@@ -1,7 +1,6 @@
 use native.Mathlib.Omega.{arith}
 use Rattle.record.specs.Tests.{accepts, refuses}
 use Rattle.oneway.specs.Leaves.{heeds_low, heeds_high, heeds_so, heeds_not}
-use borrow.Author.Rules.{rules}
 use Rattle.oneway.proofs.calls.heeds.Goals as goal
 
 pub returns-then-s-lt-UNTYPED : goal.returns-then-s-lt-UNTYPED

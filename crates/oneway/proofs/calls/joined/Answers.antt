@@ -1,12 +1,10 @@
 use Prim.Native.Nat.{◌+◌, ◌-◌}
 use mathlib.Core.Path.{◌≡◌, ap, ◌∙◌}
-use lib.Seq.{sets, length-take-le}
 use Rattle.oneway.specs.Mirror.{bytes_of}
 use mathlib.Core.List.{◌++◌}
 use native.Mathlib.Omega.{arith}
 use lib.ListN.{length, take, drop, length-take}
 use Rattle.oneway.specs.Numbers.{two_put}
-use borrow.Author.Rules.{rules}
 use Rattle.oneway.proofs.calls.joined.Goals as goal
 
 pub slice_bounds-put-end : goal.slice_bounds-put-end

@@ -1,10 +1,7 @@
 use mathlib.Core.Path.{ap, ◌∙◌, subst, sym}
-use Rattle.oneway.specs.Mirror.{kept_numbers}
-use Rattle.control.specs.Rules.{control_of}
 use Rattle.control.specs.Judged.{judged_of}
 use Rattle.record.specs.Sound.{Fit, stream, Written}
 use Rattle.oneway.specs.Feeds.{behind_fit, judged_good, judged_refused, judged_good_stays, judged_refused_stays}
-use borrow.Author.Rules.{rules}
 use Rattle.oneway.proofs.calls.judged.Goals as goal
 
 pub row_of-requires : goal.row_of-requires

@@ -1,13 +1,12 @@
 use native.Mathlib.Omega.{arith}
-use mathlib.Core.Path.{◌≡◌, ap, refl, sym, subst, ◌∙◌}
+use mathlib.Core.Path.{ap, refl, sym, subst, ◌∙◌}
 use Prim.Native.Nat.{◌-◌}
-use lib.ListN.{length, take, drop}
+use lib.ListN.{take, drop}
 use Rattle.oneway.specs.Stands.{OneSoundAt}
-use Rattle.oneway.specs.Mirror.{begun_in, side_by}
+use Rattle.oneway.specs.Mirror.{side_by}
 use Rattle.oneway.specs.Heard.{said, Stays}
 use Rattle.oneway.specs.Leaves.{heeds_sound}
 use Rattle.oneway.specs.Feeds.{heeds_asks, begun_few, on_fit, on_fault, fault_stays, part_from, part_in, on_judged, on_qpack, on_other, on_stays}
-use borrow.Author.Rules.{rules}
 use Rattle.oneway.proofs.calls.on.Goals as goal
 
 pub feed-a-requires : goal.feed-a-requires

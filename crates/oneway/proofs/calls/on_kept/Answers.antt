@@ -1,15 +1,13 @@
 use mathlib.Core.List.{◌++◌}
 use native.Mathlib.Omega.{arith}
-use mathlib.Core.Path.{◌≡◌, ap, refl, sym, subst, ◌∙◌}
+use mathlib.Core.Path.{ap, refl, subst, ◌∙◌}
 use Prim.Native.Nat.{◌+◌, ◌<◌}
 use lib.ListN.{length, take, drop, length-take}
 use Rattle.control.specs.Rules.{control_of}
-use Rattle.record.specs.Sound.{Fit}
-use Rattle.oneway.specs.Mirror.{kept_numbers, bytes_of}
+use Rattle.oneway.specs.Mirror.{kept_numbers}
 use Rattle.oneway.specs.Feeds.{heeds_asks, kept_few, kept_complete, less_is, kept_fit, kept-part, part_stays}
 use Rattle.oneway.specs.Numbers.{joined_long}
 use Rattle.oneway.specs.Heard.{said, Stays}
-use borrow.Author.Rules.{rules}
 use Rattle.oneway.proofs.calls.on_kept.Goals as goal
 
 pub held-n-requires : goal.held-n-requires

@@ -1,11 +1,8 @@
 -- `oneway::calls::put` meets its contract: the invariant is what the stores so far leave. Assumes nothing.
 use Prim.Native.Nat.{◌≤◌, ◌-◌}
-use mathlib.Core.Path.{◌≡◌, refl}
-use native.Mathlib.Omega.{arith}
+use mathlib.Core.Path.{◌≡◌}
 use lib.ListN.{length, take}
 use lib.Seq.{sets}
-use borrow.Author.Rules.{rules}
-use Rattle.oneway.specs.Numbers.{put_next, put_all}
 use Rattle.oneway.proofs.calls.put.Given as goal
 
 abbrev pub invariant-loop-i : goal.invariant-loop-i

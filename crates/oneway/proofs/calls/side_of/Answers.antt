@@ -1,10 +1,9 @@
 use native.Mathlib.Omega.{arith}
-use lib.ListN.{length, take, drop, length-take, length-drop}
+use lib.ListN.{take, drop, length-take, length-drop}
 use mathlib.Core.Path.{ap, ◌∙◌}
 use Rattle.oneway.specs.Mirror.{kept_numbers}
 use Rattle.control.specs.Rules.{control_of}
 use Rattle.oneway.specs.Numbers.{side_control, side_bare}
-use borrow.Author.Rules.{rules}
 use Rattle.oneway.proofs.calls.side_of.Goals as goal
 
 pub returns-then-kind-eq-CONTROL : goal.returns-then-kind-eq-CONTROL

@@ -1,6 +1,5 @@
 use mathlib.Core.Path.{◌∙◌}
 use Rattle.oneway.specs.Numbers.{tidy_none, tidy_some}
-use borrow.Author.Rules.{rules}
 use Rattle.oneway.proofs.calls.tidy_kept.Goals as goal
 
 pub returns-then-k-eq0 : goal.returns-then-k-eq0

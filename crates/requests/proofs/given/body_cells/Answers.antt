@@ -1,6 +1,5 @@
 use Rattle.section.specs.Answer.{read_stated}
 use Rattle.requests.specs.Taken.{body_cells}
-use borrow.Author.Rules.{rules}
 use Rattle.requests.proofs.given.body_cells.Goals as goal
 
 pub returns-in-Nothing : goal.returns-in-Nothing

@@ -1,6 +1,5 @@
 use native.Mathlib.Omega.{arith}
 use Rattle.requests.specs.Taken.{given_control, given_header, given_trailers, given_undue}
-use borrow.Author.Rules.{rules}
 use Rattle.requests.proofs.given.give.Goals as goal
 
 pub returns-then-c-gt-TRAILED : goal.returns-then-c-gt-TRAILED

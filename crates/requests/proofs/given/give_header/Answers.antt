@@ -1,5 +1,4 @@
 use Rattle.requests.specs.Taken.{header_unread, header_refused, header_taken, header_late}
-use borrow.Author.Rules.{rules}
 use Rattle.requests.proofs.given.give_header.Goals as goal
 
 pub returns-in-Unreadable : goal.returns-in-Unreadable

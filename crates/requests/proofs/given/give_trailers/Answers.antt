@@ -1,6 +1,5 @@
 use native.Mathlib.Omega.{arith}
 use Rattle.requests.specs.Taken.{trailer_unread, trailer_refused, trailer_taken, trailer_late}
-use borrow.Author.Rules.{rules}
 use Rattle.requests.proofs.given.give_trailers.Goals as goal
 
 pub returns-in-Unreadable : goal.returns-in-Unreadable

@@ -1,6 +1,5 @@
 -- `tried_c::feeds::eist_feed` meets its contract: a law for each way out. Assumes nothing.
 use native.Mathlib.Omega.{arith}
-use borrow.Author.Rules.{rules}
 use Rattle.tried_c.specs.StreamNumbers.{told, denied, feed_unsound, feed_waits, feed_fed}
 use Rattle.tried_c.proofs.feeds.eist_feed.Goals as goal
 

@@ -1,5 +1,4 @@
 -- `tried_c::feeds::eist_feed_way` meets its contract: a law for each way out. Assumes nothing.
-use borrow.Author.Rules.{rules}
 use Rattle.tried_c.specs.StreamNumbers.{told, denied}
 use Rattle.tried_c.specs.OneWayNumbers.{way_unsound, way_fed}
 use Rattle.tried_c.proofs.feeds.eist_feed_way.Goals as goal

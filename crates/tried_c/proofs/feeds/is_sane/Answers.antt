@@ -1,6 +1,5 @@
 -- `tried_c::feeds::is_sane` meets its contract: it says whether `frames::feed` can go on from the cells. Assumes nothing.
 use native.Mathlib.Omega.{arith}
-use borrow.Author.Rules.{rules}
 use Rattle.tried_c.specs.StreamNumbers.{tells_header, tells_payload}
 use Rattle.tried_c.proofs.feeds.is_sane.Goals as goal
 

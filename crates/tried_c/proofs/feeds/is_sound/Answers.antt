@@ -1,6 +1,5 @@
 -- `tried_c::feeds::is_sound` meets its contract: it says whether `oneway::feed` can go on from the numbers. Assumes nothing.
 use native.Mathlib.Omega.{arith}
-use borrow.Author.Rules.{rules}
 use Rattle.tried_c.specs.OneWayNumbers.{sound_none, sound_type, sound_bare, sound_early, sound_control}
 use Rattle.tried_c.proofs.feeds.is_sound.Goals as goal
 

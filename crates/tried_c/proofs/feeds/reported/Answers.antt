@@ -1,5 +1,4 @@
 -- `tried_c::feeds::reported` meets its contract, beside a fault and without one. Assumes nothing.
-use borrow.Author.Rules.{rules}
 use Rattle.tried_c.specs.StreamNumbers.{report_fault, report_left}
 use Rattle.tried_c.proofs.feeds.reported.Goals as goal
 

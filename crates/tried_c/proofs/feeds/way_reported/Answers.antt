@@ -1,5 +1,4 @@
 -- `tried_c::feeds::way_reported` meets its contract, beside a fault and without one. Assumes nothing.
-use borrow.Author.Rules.{rules}
 use Rattle.tried_c.specs.OneWayNumbers.{way_fault, way_left}
 use Rattle.tried_c.proofs.feeds.way_reported.Goals as goal
 

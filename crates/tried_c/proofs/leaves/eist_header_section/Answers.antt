@@ -1,5 +1,4 @@
 -- `tried_c::leaves::eist_header_section` meets its contract: each answer is what the rules say of the block. Assumes nothing.
-use borrow.Author.Rules.{rules}
 use Rattle.section.specs.Answer.{header_number}
 use Rattle.tried_c.specs.LeafNumbers.{header_out}
 use Rattle.tried_c.proofs.leaves.eist_header_section.Goals as goal

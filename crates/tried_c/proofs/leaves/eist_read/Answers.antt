@@ -1,5 +1,4 @@
 -- `tried_c::leaves::eist_read` meets its contract: what is read is the integer, or it is cut. Assumes nothing.
-use borrow.Author.Rules.{rules}
 use Rattle.varint.specs.Whole.{whole_is}
 use Rattle.tried_c.specs.LeafNumbers.{read_number, read_out}
 use Rattle.tried_c.proofs.leaves.eist_read.Goals as goal

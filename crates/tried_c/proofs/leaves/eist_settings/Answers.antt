@@ -1,5 +1,4 @@
 -- `tried_c::leaves::eist_settings` meets its contract: each answer says what the rules do. Assumes nothing.
-use borrow.Author.Rules.{rules}
 use Rattle.tried_c.specs.LeafNumbers.{settings_number, settings_out}
 use Rattle.tried_c.proofs.leaves.eist_settings.Goals as goal
 

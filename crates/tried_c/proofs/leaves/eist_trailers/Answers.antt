@@ -1,5 +1,4 @@
 -- `tried_c::leaves::eist_trailers` meets its contract: each answer is what the rules say of the block. Assumes nothing.
-use borrow.Author.Rules.{rules}
 use Rattle.section.specs.Answer.{trailer_number}
 use Rattle.tried_c.proofs.leaves.eist_trailers.Goals as goal
 

@@ -1,5 +1,4 @@
 -- `tried_c::leaves::length_of` meets its contract, in each case. Assumes nothing.
-use borrow.Author.Rules.{rules}
 use Rattle.section.specs.Answer.{read_stated}
 use Rattle.tried_c.proofs.leaves.length_of.Goals as goal
 
