@@ -15,14 +15,15 @@ use Rattle.rules.specs.Worked.{answer}
 use Rattle.meaning.specs.IntegerLaws.{no_byte, byte, written_reads, shortest}
 use Rattle.meaning.specs.FrameLaws.{head, frame_back}
 use Rattle.meaning.specs.Machine.{fresh, in_payload, lives, between, given, answered, typed, keep, over, with_left, after, fed, supplied, settled, finished, finish, joined, pieces, fresh_run}
-use Rattle.meaning.specs.Cut.{any_cutting}
+use Rattle.meaning.proofs.Cut.{any_cutting}
 use Rattle.meaning.specs.Feed.{section_bytes, feed, halt, also, onward, over_event, left_event, behind_header, named, taking, shows}
-use Rattle.meaning.specs.Feeds.{Call, feed_call, give_call, takes, calls, verdict_of_done, calls_read}
-use Rattle.meaning.specs.First.{FirstFault, first_fault, early_inside}
+use Rattle.meaning.proofs.Feeds.{Call, feed_call, give_call, takes, calls, verdict_of_done, calls_read}
+use Rattle.meaning.proofs.First.{FirstFault, first_fault, early_inside}
 use Rattle.meaning.specs.Whole.{whole_iff_legal}
-use Rattle.meaning.specs.Longer.{Longer, longer, half_is_never_whole, whole_content}
+use Rattle.meaning.specs.Longer.{Longer}
+use Rattle.meaning.proofs.Longer.{longer, half_is_never_whole, whole_content}
 use Rattle.meaning.specs.OneWayFeed as O
-use Rattle.meaning.specs.OneWays as W
+use Rattle.meaning.proofs.OneWays as W
 
 -- H, then DATA of three bytes: document 01's stream, with Content-Length 3
 unfoldable pub H : List ℕ
