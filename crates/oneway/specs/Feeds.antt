@@ -19,7 +19,8 @@ use Rattle.meaning.specs.Machine.{in_payload, between, answered}
 use Rattle.meaning.specs.Machine as M
 use Rattle.meaning.specs.Feed.{Feeding, halt, judged_event}
 use Rattle.meaning.specs.Feed as F
-use Rattle.meaning.specs.FeedLaws.{past, kept_short}
+use Rattle.meaning.specs.FeedLaws.{past}
+use Rattle.meaning.proofs.FeedLaws.{kept_short}
 use Rattle.meaning.specs.OneWayFeed.{OneState, OneFeeding, OneOutcome, lives, dies, of_frames, in_control, controlled, of_control, feed}
 use Rattle.varint.specs.ByByte.{prog}
 use Rattle.frames.specs.Modes.{IN-SETTINGS, SET}
