@@ -11,11 +11,9 @@ returns-in-Short c = only_cut _ (rw c.in-Short.is at c.read.ensures)
 pub returns-then-next-payload : goal.returns-then-next-payload
 unfolding whole_is
 returns-then-next-payload c =
-    let found = c in
-    only_is _ (rw found.value.given.1 at found.before.before.read.ensures) c.if-next-payload.true
+    only_is _ (rw c.in-Value.is at c.read.ensures) c.if-next-payload.true
 
 pub returns-else-next-payload : goal.returns-else-next-payload
 unfolding whole_is
 returns-else-next-payload c =
-    let found = c in
-    only_not _ (rw found.value.given.1 at found.before.before.read.ensures) c.if-next-payload.false
+    only_not _ (rw c.in-Value.is at c.read.ensures) c.if-next-payload.false

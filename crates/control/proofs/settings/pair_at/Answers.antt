@@ -12,18 +12,15 @@ returns-in-Short c = identifier_cut (sym (rw c.in-Short.is at c.read.ensures))
 pub returns-in-Short-read : goal.returns-in-Short-read
 unfolding whole_is
 returns-in-Short-read c =
-    let first = c in
     value_cut
-    (sym (rw first.identifier.given.1 at first.before.before.read.ensures))
+    (sym (rw c.in-Value.is at c.read.ensures))
     (sym (rw c.in-Short-read.is at c.read-in-Value.ensures))
 
 pub returns-in-Value-read : goal.returns-in-Value-read
 unfolding whole_is
 returns-in-Value-read c =
-    let second = c in
-    let first = second.before.before.before.before in
     record {
-      middle = first.identifier.given.0.1.0;
-      identifies = sym (rw first.identifier.given.1 at first.before.before.read.ensures);
-      holds = sym (rw second.value.given.1 at second.before.before.read2.ensures);
+      middle = c.in-Value.next;
+      identifies = sym (rw c.in-Value.is at c.read.ensures);
+      holds = sym (rw c.in-Value-read.is at c.read-in-Value.ensures);
     }

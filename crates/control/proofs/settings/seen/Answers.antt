@@ -14,27 +14,21 @@ loop-at-init c = λ r k. k
 
 pub returns-in-Cut : goal.returns-in-Cut
 returns-in-Cut c =
-    let turn = c in
-    turn.before.loop.invariant false (look_cut _ _ _ _ turn.loop-test.true (rw c.in-Cut.is at c.pair_at.ensures))
+    c.loop-at.invariant false (look_cut _ _ _ _ c.loop-at-test.true (rw c.in-Cut.is at c.pair_at.ensures))
 
 pub returns-then-identifier-sought : goal.returns-then-identifier-sought
 returns-then-identifier-sought c =
-    let at_pair = c in
-    let turn = at_pair.before.before.before in
-    turn.before.loop.invariant true
-    (look_here _ _ _ _ turn.loop-test.true (rw at_pair.identifier.given.1 at at_pair.before.before.pair-at.ensures) c.if-identifier-sought.true)
+    c.loop-at.invariant true
+    (look_here _ _ _ _ c.loop-at-test.true (rw c.in-Pair.is at c.pair_at.ensures) c.if-identifier-sought.true)
 
 pub loop-at-smaller : goal.loop-at-smaller
 loop-at-smaller c =
-    let at_pair = c in
-    omega (arith, pair_shortens _ (rw at_pair.identifier.given.1 at at_pair.before.before.pair-at.ensures))
+    omega (arith, pair_shortens _ (rw c.in-Pair.is at c.pair_at.ensures))
 
 pub loop-at-preserved : goal.loop-at-preserved
 loop-at-preserved c =
-    let at_pair = c in
-    let turn = at_pair.before.before.before in
-    λ r k. turn.before.loop.invariant r
-    (look_on _ _ _ _ r turn.loop-test.true (rw at_pair.identifier.given.1 at at_pair.before.before.pair-at.ensures) c.if-identifier-sought.false k)
+    λ r k. c.loop-at.invariant r
+    (look_on _ _ _ _ r c.loop-at-test.true (rw c.in-Pair.is at c.pair_at.ensures) c.if-identifier-sought.false k)
 
 pub returns : goal.returns
 returns c = c.loop-at.invariant false (look_none _ _ _ _ c.loop-at-test.false)
