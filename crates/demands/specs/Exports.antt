@@ -134,7 +134,7 @@ module _ (w : World) where
   abbrev pub OfGive : GiveSays → Type 1
   OfGive Q = Always Give.ended Give-is.routine (λ κs a r e. Q a.0.now a.1.0.now a.1.1.0 a.1.1.1.0.now r e.0.now e.1.0.now)
 
-  pub of_give : (Q : GiveSays) → ((c : Connection) (rows : List Record) (id : ℕ) (block : List ℕ) (r : Report) (c' : Connection) (rows' : List Record) → Q c rows id block r c' rows') → OfGive Q
+  pub of_give : (Q : GiveSays) → ((c : Connection) (rows : List Record) (id : ℕ) (block : List ℕ) (r : Report) (c' : Connection) (rows' : List Record) → promise.Given c rows id block c' rows' r → Q c rows id block r c' rows') → OfGive Q
   of_give Q h = so Give.ended Give-is.routine (Give.clauses w.𝓛 w.𝓜.mem w.𝓡.run) _ (λ κs a g r e. fact_mono w.𝓤 _ _ (h _ _ _ _ _ _ _)) (Give-has.met w.𝓤 w.𝓛 w.𝓜 w.𝓡)
 
   abbrev pub OfEnd : StreamSays → Type 1
@@ -173,7 +173,7 @@ module _ (w : World) where
       eistulko_start = of_start _ (λ c rows n c' rows' m. h _ _ _ _ _ _ (starts m));
       eistulko_open = of_open _ (λ c rows id r c' rows' m. h _ _ _ _ _ _ (opens_one m));
       eistulko_feed = of_feed _ (λ c rows id piece allow r c' rows' m. h _ _ _ _ _ _ (feeds m));
-      eistulko_give = of_give _ (λ c rows id block r c' rows'. h _ _ _ _ _ _ (gives 𝓛));
+      eistulko_give = of_give _ (λ c rows id block r c' rows' m. h _ _ _ _ _ _ (gives m));
       eistulko_end = of_end _ (λ c rows id r c' rows' m. h _ _ _ _ _ _ (ends m));
       eistulko_reset = of_reset _ (λ c rows id r c' rows' m. h _ _ _ _ _ _ (resets m));
       eistulko_goaway = of_goaway (λ c id room r c' room'. (rows : List Record) → Q c rows (goaway id (length room)) (a_written r) c' rows) (λ c id room r c' room' m rows. h _ _ _ _ _ _ (goes_away m));
