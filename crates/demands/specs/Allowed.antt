@@ -1,12 +1,12 @@
 -- THE ALLOWANCE over traces: a feed that has finished as many headers as it was allowed reads no byte of a further one. Every byte that it used is in
 -- the header or the payload of a frame whose header is finished. Assumes nothing.
-use Rattle.std.specs.Prelude.{◌≡◌, Bool, true, false, take}
+use Rattle.std.specs.Prelude.{◌≡◌, true, take}
 use Rattle.std.proofs.Math.Path.{refl, ap, subst}
-use Rattle.std.proofs.Common.{sym, ◌∙◌, add-zero}
+use Rattle.std.proofs.Common.{sym, ◌∙◌}
 use Prim.Native.Nat.{ℕ, zero, suc, ◌+◌, ◌-◌, ◌≤◌, min}
 use native.Mathlib.Omega.{arith}
 use mathlib.Core.List.{List, [], ◌∷◌, ◌++◌, append-nil}
-use Rattle.std.proofs.Math.Option.{Option, none, some}
+use Rattle.std.proofs.Math.Option.{some}
 use Rattle.std.proofs.Math.ListN.{length}
 use Rattle.rules.specs.Block.{Section}
 use Rattle.rules.specs.Reading.{Part, Kept, Use, content, skipped, section, kept, Ruling, refuse, accept, Next, stop, go, Grammar, whole, fault, waits, Saying, header, refused, section_byte, content_byte, frame_kept, told}

@@ -1,6 +1,6 @@
 -- How far the codes of a stream's rules reach: a section's is a stream's fault, a one-way stream's a connection's. Assumes nothing.
 use Rattle.std.specs.Prelude.{◌≡◌, refl, ℕ, List, [], ◌∷◌, Bool, true, false}
-use Rattle.std.proofs.Common.{sym, ap, ◌∙◌, subst, ⊎_elim}
+use Rattle.std.proofs.Common.{sym, ap, subst, ⊎_elim}
 use Rattle.rules.specs.Numbers.{Code, of_stream, of_connection, ConnectionFault, stream_creation_error, code_number, coded}
 use Rattle.rules.specs.Text.{is_one_of}
 use Rattle.rules.specs.Reading.{Kept, Ruling}

@@ -1,12 +1,11 @@
 -- THE DEMANDS over traces, for the streams of document 01. Calls and answers alone are in the statements: no row and no connection record (but in
 -- `follows` and `mirrored`, which compare with the pair of the definitions). A trace holds any calls on any streams, in any order, with any starts
 -- among them. Assumes nothing.
-use Rattle.std.specs.Prelude.{◌≡◌, refl, ℕ, ◌≤◌, List, [], ◌∷◌, ◌++◌, ◌↔◌, length}
+use Rattle.std.specs.Prelude.{◌≡◌, refl, ℕ, List, [], ◌++◌, ◌↔◌, length}
 use Rattle.std.proofs.Common.{ap, ◌∙◌}
 use Rattle.std.proofs.Math.Option.{some}
 use Rattle.rules.specs.Numbers.{Code}
 use Rattle.rules.specs.Frames.{frames_from}
-use Rattle.rules.specs.Reading.{whole}
 use Rattle.rules.specs.Request.{document}
 use Rattle.rules.specs.Control.{Control}
 use Rattle.rules.specs.Legal.{Legal}

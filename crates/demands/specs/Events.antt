@@ -1,12 +1,12 @@
 -- EVENTS over traces: what a feed that is accepted may hand over. On a request stream nothing, content or section bytes, a part being empty only where it
 -- is the marked one of an empty HEADERS; on a one-way stream nothing, a notice of its own kind, or a QPACK part that reaches the piece's end.
 -- Assumes nothing.
-use Rattle.std.specs.Prelude.{◌≡◌, refl, ℕ, zero, suc, ◌+◌, ◌-◌, ◌≤◌, min, Bool, false, eqb, length, take}
+use Rattle.std.specs.Prelude.{◌≡◌, refl, ℕ, suc, ◌+◌, ◌-◌, ◌≤◌, min, Bool, false, eqb, length, take}
 use Rattle.std.proofs.Common.{sym, ap, ◌∙◌, subst, arith}
 use mathlib.Core.List.{List, [], ◌∷◌, ◌++◌, append-nil}
 use Rattle.std.proofs.Math.Bool.{true}
 use Rattle.std.proofs.Math.Option.{Option, none, some}
-use Rattle.rules.specs.Reading.{Kept, Grammar}
+use Rattle.rules.specs.Reading.{Grammar}
 use Rattle.rules.specs.Control.{Told, told_settings, told_goaway, told_max_push_id, told_nothing, tells}
 use Rattle.rules.specs.Message.{Message}
 use Rattle.rules.specs.Request.{document, request as asking-rules}
@@ -18,7 +18,7 @@ use Rattle.meaning.specs.Feed as F
 use Rattle.meaning.specs.Feed.{Feeding, halt, also, named, taking}
 use Rattle.meaning.proofs.EveryFeed.{every_feed}
 use Rattle.meaning.specs.OneWayFeed as O
-use Rattle.rules.specs.Calls.{Notice, qpack_bytes, settings, client_goaway, max_push_id, Event, quiet, section_bytes, content_bytes, notice, section_in, part, Fed, goes, fed, feed, act, act₁, Machine, request, one_way, kind_of, asking, telling, Pair, Call, on, gave, act_on, fresh, call, run, trace}
+use Rattle.rules.specs.Calls.{qpack_bytes, settings, client_goaway, max_push_id, Event, quiet, section_bytes, content_bytes, notice, section_in, part, Fed, goes, fed, feed, act, act₁, request, one_way, kind_of, asking, telling, Pair, Call, on, gave, act_on, fresh, call, run, trace}
 use Rattle.rules.specs.Shown.{Shown, running, View, plus_feed, view}
 use Rattle.traces.specs.Alone.{call_on_asking, call_on}
 use Rattle.traces.specs.Follow.{Agrees, open_still, over, agrees, not_running}
@@ -30,7 +30,6 @@ use Rattle.demands.specs.Reading.{reading}
 use Rattle.demands.specs.Reads.{fed_goes, reads}
 use Rattle.demands.specs.Becomes.{Once, as_control, as_encoder, as_decoder, is_for, type_number}
 use Rattle.demands.specs.Moves.{alone}
-use Rattle.demands.specs.Suits.{Judged}
 use Rattle.demands.specs.Suited.{RowSuits, found_suits, suits_fresh}
 use Rattle.demands.specs.Overheard.{OneSuits, OneTells, one_suits}
 use Rattle.demands.specs.OneWayReads.{type_shown, type_shown_lem}

@@ -1,7 +1,7 @@
 -- DEMAND 1 IN MEMORY, whatever memory is lent. The report of a refusal hands nothing over and counts what document 01 says; its number is one of the table, or
 -- the code that the memory already had. A stream fault frees the stream's record, a barred opening spends the ID, and every other byte is as it was.
 -- Assumes nothing.
-use Rattle.std.specs.Prelude.{◌≡◌, List, [], Bool, ◌⊎◌, leb, ltb, length, get_or, set}
+use Rattle.std.specs.Prelude.{◌≡◌, List, Bool, ◌⊎◌, leb, ltb, length, get_or, set}
 use Rattle.std.proofs.Math.Path.{refl, subst}
 use Rattle.std.proofs.Common.{sym, ap, ◌∙◌, arith, eqb→eq}
 use Prim.Native.Nat.{ℕ, zero, suc, ◌%◌, ◌≤◌, ◌<◌, ◌^◌, zero-le}
@@ -28,7 +28,7 @@ use Rattle.meaning.proofs.EveryFeed.{feed_allows}
 use Rattle.meaning.specs.OneWayFeed as O
 use Rattle.meaning.specs.OneWayFeed.{OneState, OneOutcome, OneEvent}
 use Rattle.meaning.proofs.OneWays.{one_allows}
-use Rattle.rules.specs.Calls.{Own, feed, section, end, reset, Call, start, open', on, goaway}
+use Rattle.rules.specs.Calls.{feed, section, end, reset, Call, start, open', on, goaway}
 use Rattle.record.specs.declared.Record.{Record}
 use Rattle.record.specs.Row.{free_record}
 use Rattle.requests.specs.declared.Reply.{Reply}
@@ -59,8 +59,8 @@ use Rattle.connection.specs.Faults.{code_kept_in, stream_keeps_none}
 use Rattle.connection.specs.Ways.{taken_none}
 use Rattle.connection.specs.Whose.{Belongs, wanted_belongs, open_not_on}
 use Rattle.connection.specs.Leavings.{by_any}
-use Rattle.connection.specs.Turned.{free_at, opened_at, request_as, one_way_as, Turned, other_row, dead, opens, not_open, request, one_way, fresh_connection, begun_of}
-use Rattle.calls.specs.Promises.{Started, Stepped, SaidGoaway}
+use Rattle.connection.specs.Turned.{free_at, request_as, one_way_as, Turned, other_row, dead, opens, not_open, request, one_way, fresh_connection, begun_of}
+use Rattle.calls.specs.Promises.{Stepped, SaidGoaway}
 use Rattle.demands.specs.Streams.{conn_code, streams}
 use Rattle.demands.specs.Codes.{is_of_connection, one_way_listed}
 use Rattle.demands.specs.Parts.{one_fits}

@@ -1,6 +1,6 @@
 -- Where a request waits for a section it is one that can come there: the header section at the opening, trailers behind it. So a section that is
 -- refused is a stream's fault. Assumes nothing.
-use Rattle.std.specs.Prelude.{◌≡◌, refl, ℕ, List}
+use Rattle.std.specs.Prelude.{◌≡◌, ℕ, List}
 use Rattle.std.proofs.Common.{subst}
 use Rattle.rules.specs.Numbers.{Code}
 use Rattle.rules.specs.Block.{Section}

@@ -2,7 +2,7 @@
 -- is reported. Assumes nothing.
 use Rattle.std.specs.Prelude.{ℕ, zero, suc, List, map, Bool, true, false}
 use Rattle.std.proofs.Math.Option.{Option, none, some}
-use Rattle.rules.specs.Numbers.{house_number, ConnectionFault, code_number, Code, coded}
+use Rattle.rules.specs.Numbers.{house_number, ConnectionFault, code_number, coded}
 use Rattle.rules.specs.Calls.{Notice, qpack_bytes, settings, client_goaway, max_push_id, Event, quiet, section_bytes, content_bytes, notice, Own, feed, section, end, reset, done, fed, whole, freed, asking, telling, Slot, free, held, Row, Conn, Pair, Call, open', on, Answer, gave, left, house, code, goaway_size}
 use Rattle.control.specs.Rules.{control_of}
 use Rattle.record.specs.declared.Record.{Record}

@@ -4,8 +4,7 @@ use Rattle.std.specs.Prelude.{◌≡◌, refl, ℕ, zero, suc, ◌+◌, ◌*◌,
 use Rattle.std.proofs.Common.{sym, ap, ◌∙◌, arith, length-append, length-take-le}
 use Rattle.std.proofs.Math.Path.{subst}
 use mathlib.Core.List.{List, [], ◌∷◌, ◌++◌, append-nil, append_assoc}
-use Rattle.std.proofs.Math.Option.{Option, none, some, none-ne-some}
-use Rattle.rules.specs.Numbers.{Code}
+use Rattle.std.proofs.Math.Option.{some, none-ne-some}
 use Rattle.rules.specs.Integers.{Int, cut, got, more, extra, integer}
 use Rattle.rules.specs.Reading.{Reading}
 use Rattle.rules.specs.Control.{Control, unset, control}
@@ -19,11 +18,11 @@ use Rattle.meaning.specs.Feed as F
 use Rattle.meaning.proofs.Feeds.{feed_runs}
 use Rattle.meaning.specs.OneWayFeed as O
 use Rattle.meaning.proofs.OneWays.{resumed}
-use Rattle.rules.specs.Calls.{Event, Fed, goes, fed, feed, act₁, one_way, kind_of, telling, Pair, Call, on, gave, act_on, fresh, call, run, trace}
+use Rattle.rules.specs.Calls.{Event, goes, fed, feed, act₁, one_way, kind_of, telling, Pair, Call, on, gave, act_on, fresh, call, run, trace}
 use Rattle.rules.specs.Shown.{Shown, running, View, nothing, plus_feed, view}
 use Rattle.traces.specs.Alone.{call_on}
 use Rattle.traces.specs.Follow.{Agrees, open_still, over, agrees, not_running}
-use Rattle.traces.specs.Oneways.{Both, Reached₁, at_first, by_feed, Story₁, Says, says, story₁}
+use Rattle.traces.specs.Oneways.{Reached₁, at_first, by_feed, Story₁, Says, says, story₁}
 use Rattle.demands.specs.Streams.{streams}
 use Rattle.demands.specs.Becomes.{as_control, is_for}
 use Rattle.demands.specs.Moves.{alone_by, alone}

@@ -8,7 +8,7 @@ use Rattle.std.proofs.Math.Option.{Option, none, some}
 use Rattle.std.specs.Prelude.{◌⊎◌, length, drop}
 use Rattle.std.proofs.Math.ListN.{take}
 use Rattle.std.proofs.Math.Seq.{take-length}
-use Rattle.rules.specs.Numbers.{ConnectionFault, stream_creation_error, Code, of_connection, CLOSED-CRITICAL-STREAM, closed_critical_stream, named}
+use Rattle.rules.specs.Numbers.{ConnectionFault, stream_creation_error, Code, of_connection, closed_critical_stream}
 use Rattle.rules.specs.Integers.{Int, cut, got, integer}
 use Rattle.rules.specs.Reading as R
 use Rattle.rules.specs.Control.{Control, control, Told, told_settings, told_goaway, told_max_push_id, told_nothing, tells}
@@ -22,12 +22,12 @@ use Rattle.meaning.proofs.EveryFeed.{ReadsOn, feed_silent}
 use Rattle.meaning.specs.OneWayFeed as O
 use Rattle.meaning.proofs.OneWayFirst.{Struck, NoFault, calls_struck, calls_unhurt}
 use Rattle.meaning.proofs.OneWays.{Came, still_untyped, type_refused, a_control_stream, a_qpack_stream, a_skipped_stream, calls_read, always_reads, ReadsOnOne}
-use Rattle.rules.specs.Calls.{Notice, told_by, notices_in, of_type, part_by, qpack_in, Event, content_in, section_in, Fed, goes, faults, end, reset, of_closed, map_out, freed, act₁, one_way, kind_of, telling, Pair, Call, on, Answer, left as is-left, code as is_code, with, faulted, settle, act_on, fresh, call, run, trace}
+use Rattle.rules.specs.Calls.{Notice, told_by, notices_in, of_type, part_by, qpack_in, Event, content_in, section_in, goes, faults, end, reset, of_closed, map_out, freed, act₁, one_way, kind_of, telling, Pair, Call, on, Answer, left as is-left, code as is_code, with, faulted, settle, act_on, fresh, call, run, trace}
 use Rattle.rules.specs.Shown.{Shown, Fate, unopened, spent, running, ended, dropped, refused, lost, View, nothing, plus_feed, plus_bytes, view}
 use Rattle.traces.specs.Alone.{call_on}
 use Rattle.traces.specs.Follow.{Agrees, open_still, over, not_running}
 use Rattle.traces.specs.Oneways.{Both, Reached₁, at_first, by_feed, Story₁, not_yet, never, cut_off, closed, closed_critical, bad_feed, second_of_type, Says, says, story₁, follows₁}
-use Rattle.demands.specs.Streams.{conn_code, Keeps, types_in, notice_of, frames_event, one_event, heard_by, type_of, close_of, streams}
+use Rattle.demands.specs.Streams.{Keeps, types_in, notice_of, frames_event, one_event, heard_by, type_of, close_of, streams}
 use Rattle.demands.specs.Reads.{part_is}
 use Rattle.demands.specs.Becomes.{Once, as_control, as_encoder, as_decoder, is_for}
 use Rattle.demands.specs.Moves.{alone_by, alone_of, alone}

@@ -10,7 +10,7 @@ use Rattle.std.proofs.Math.ListN.{get_or, set}
 use Rattle.std.proofs.lemmas.List.{set-get_or}
 use Rattle.std.proofs.lemmas.Bool.{eqb-false, lt-leb}
 use Rattle.record.specs.Kinds.{FREE}
-use Rattle.rules.specs.Numbers.{house_number, not_next, no_record, of_stream, request_rejected, code_number, REQUEST-REJECTED}
+use Rattle.rules.specs.Numbers.{not_next, no_record, of_stream, request_rejected, REQUEST-REJECTED}
 use Rattle.varint.specs.ByByte.{prog, part_of}
 use Rattle.record.specs.declared.Record.{Record}
 use Rattle.record.specs.Row.{numbers_of, place_in, one_way_record, free_record}

@@ -1,7 +1,7 @@
 -- OTHER STREAMS, AND THE ORDER OF NUMBERS. No call but start touches another stream's record, and a request stream is what its own calls made of it.
 -- And for an opening, a call on a stream and our GOAWAY: every answer there is, with the condition of each, read from the trace. Of an opening and of
 -- our GOAWAY the conditions leave one answer only. Assumes nothing.
-use Rattle.std.specs.Prelude.{◌≡◌, ℕ, ◌%◌, ◌<◌, ◌≤◌, ◌^◌, List, [], ◌∷◌, ◌++◌, Bool}
+use Rattle.std.specs.Prelude.{◌≡◌, ℕ, ◌<◌, ◌≤◌, ◌^◌, List, [], ◌∷◌, ◌++◌, Bool}
 use Rattle.std.proofs.Math.Path.{refl, ap, subst}
 use Rattle.std.proofs.Common.{sym, ◌∙◌, arith, true≢false}
 use Rattle.std.proofs.Math.Decide.{ℕ_discrete, dec_le, dec_lt}

@@ -1,6 +1,6 @@
 -- A call on an open one-way stream: what the core answers, and what it leaves of the connection, is what the trace's stream does. Assumes nothing.
 use Rattle.std.proofs.Math.Path.{◌≡◌, refl, ap}
-use Rattle.std.proofs.Common.{sym, ◌∙◌, subst, inl, inr}
+use Rattle.std.proofs.Common.{sym, ◌∙◌, inl, inr}
 use Rattle.std.specs.Prelude.{ℕ, zero, suc, ◌-◌, ◌≤◌, Bool, ◌⊎◌}
 use Rattle.std.proofs.Math.Decide.{ℕ_discrete}
 use native.Mathlib.Omega.{arith}
@@ -9,7 +9,7 @@ use Rattle.std.proofs.Math.Bool.{true, false}
 use Rattle.std.proofs.Math.Option.{Option, none, some}
 use Rattle.std.proofs.Math.ListN.{get_or}
 use Rattle.record.specs.Kinds.{CONTROL}
-use Rattle.rules.specs.Numbers.{house_number, no_section, ConnectionFault, closed_critical_stream, of_connection, code_number, Code, of_stream, id_error}
+use Rattle.rules.specs.Numbers.{no_section, ConnectionFault, closed_critical_stream, of_connection, code_number, Code, of_stream, id_error}
 use Rattle.rules.specs.Integers.{integer}
 use Rattle.rules.specs.Reading.{Kept as Payload, settings, goaway, max_push_id, cancel_push, kept, Next, stop, go}
 use Rattle.rules.specs.Control.{Settings, settings_of, Control, unset, set, control, only, above, below, after_goaway, after_max_push, after_integer, after_settings, judged, told_goaway, told_max_push_id, settings_in, id_in, tells}

@@ -6,7 +6,7 @@ use Rattle.std.proofs.Common.{◌∙◌, subst, zero-add, arith, length-append}
 use Rattle.std.proofs.Math.Nat.{add-zero, add_assoc}
 use mathlib.Core.List.{List, [], ◌∷◌, ◌++◌, map, append_assoc, append-nil, map-append}
 use Rattle.std.proofs.Math.Seq.{take-nil, take-append_seam}
-use Rattle.rules.specs.Numbers.{StreamFault, Code, of_stream, of_connection}
+use Rattle.rules.specs.Numbers.{StreamFault, Code, of_stream}
 use Rattle.rules.specs.Block.{Section, lines}
 use Rattle.rules.specs.Reading as R
 use Rattle.rules.specs.Reading.{End, complete, lacking, Grammar, Saying, header, refused, section_byte, content_byte, frame_kept, contents, section_bytes_of}
@@ -14,14 +14,14 @@ use Rattle.rules.specs.Message.{Message, opening}
 use Rattle.rules.specs.Request.{document, request}
 use Rattle.meaning.specs.Machine as M
 use Rattle.meaning.specs.Feed as F
-use Rattle.meaning.proofs.Feeds.{unheaded, headers_in, Within, feed_runs, Call, feed_call, give_call, takes, Done, calls, Came, calls_come, verdict_of_done, CallsRead, calls_read}
+use Rattle.meaning.proofs.Feeds.{unheaded, Within, feed_runs, Call, feed_call, give_call, takes, Done, calls, Came, calls_come, verdict_of_done, CallsRead, calls_read}
 use Rattle.meaning.proofs.EveryFeed.{feed_silent}
 use Rattle.meaning.proofs.First.{Inside, place_of, last_word, first_fault, end_rule, early_inside}
-use Rattle.rules.specs.Calls.{Event, part, content_in, section_in, notices_in, qpack_in, Fed, goes, faults, Given, sound, unsound, is_whole, broken}
+use Rattle.rules.specs.Calls.{Event, part, content_in, section_in, notices_in, qpack_in, goes, faults, sound, unsound}
 use Rattle.rules.specs.Shown.{Shown, nothing, plus_feed, plus_bytes, plus_section}
 use Rattle.traces.specs.Story.{Reached, at_first, by_feed, by_section}
-use Rattle.traces.specs.Demands.{is_legal, bad, waits, Shows, verdict_of, Struck, NoFault, Reads}
-use Rattle.demands.specs.Streams.{stream_code, is_due, event_of, fed_by, is_readable, section_of, given_by, ended_by, streams}
+use Rattle.traces.specs.Demands.{bad, waits, Shows, verdict_of, Struck, NoFault, Reads}
+use Rattle.demands.specs.Streams.{stream_code, is_due, event_of, fed_by, section_of, given_by, ended_by, streams}
 use Rattle.demands.specs.Codes.{is_of_stream}
 use Rattle.demands.specs.InPlace.{Placed, feed_placed, given_placed, given_of_stream}
 use Rattle.demands.specs.Reading.{sections_of, reading_of, verdict_by, reading}

@@ -1,12 +1,12 @@
 -- WHAT A HOST SEES: the content and the section bytes that it puts together from its pieces and the reports' `start` and `len` are what the trace shows of the
 -- stream; those of the header section come first. A call that is lent a row of another length has its place between others. Assumes nothing.
-use Rattle.std.specs.Prelude.{◌≡◌, ℕ, zero, suc, ◌+◌, Bool, true, false, ◌||◌, eqb, length}
+use Rattle.std.specs.Prelude.{◌≡◌, ℕ, zero, suc, true, false, ◌||◌, eqb, length}
 use Rattle.std.proofs.Math.Path.{refl, sym, ap}
 use Rattle.std.proofs.Common.{◌∙◌, subst, arith, length-append}
 use Rattle.std.proofs.Math.Decide.{ℕ_discrete}
 use mathlib.Core.List.{List, [], ◌∷◌, ◌++◌, append-nil}
 use Rattle.std.proofs.Math.Option.{Option, none, some}
-use Rattle.rules.specs.Numbers.{ConnectionFault, not_open, other_row, Code, of_stream, of_connection}
+use Rattle.rules.specs.Numbers.{ConnectionFault, not_open, other_row, of_stream, of_connection}
 use Rattle.rules.specs.Reading.{header_section, trailers, content, skipped, section as for-section, kept, Saying, header, refused as refused-header, section_byte, content_byte, frame_kept, section_bytes_of, header_bytes}
 use Rattle.rules.specs.Calls.{qpack_bytes, settings, client_goaway, max_push_id, Event, quiet, section_bytes, content_bytes, notice, part, content_in, section_in, done, fed, whole, freed, Own, feed, section, end, reset, pick, Kind, request, one_way, kind_of, Pair, Call, start, open', on, goaway, Answer, gave, left, house, code, same, call, run, fresh, trace}
 use Rattle.rules.specs.Shown as shown_by

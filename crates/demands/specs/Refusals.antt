@@ -12,7 +12,7 @@ use Rattle.rules.specs.Numbers.{House, house_number, StreamFault, request_reject
 use Rattle.meaning.specs.NumberLaws.{refusal_named, fault_named}
 use Rattle.meaning.specs.Machine.{need, State, in_type, in_length, in_payload, due, finish}
 use Rattle.meaning.specs.Machine as machine
-use Rattle.rules.specs.Calls.{Event, quiet, Own, Gave, done, fed, Left, Kind, kind_of, free, Row, Pair, Call, open', on, Answer, gave, left, house, code, spend, killed, fresh, call, lent, run, trace}
+use Rattle.rules.specs.Calls.{Event, quiet, Own, done, fed, Kind, kind_of, free, Row, Pair, Call, open', on, Answer, gave, left, house, code, spend, killed, fresh, call, lent, run, trace}
 use Rattle.traces.specs.Row.{Replaced}
 use Rattle.traces.specs.Went.{pair}
 use Rattle.rules.specs.Shown.{ledger, next_in, MayOpen}

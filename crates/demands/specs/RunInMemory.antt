@@ -1,25 +1,24 @@
 -- ONE RUN IN MEMORY, as an instance: a start on what a dead connection left, a stream opened, a call that is lent an empty row, a frame of unknown type fed, and
 -- an end without a header section. Each call's promise is met by the values here; the theorems of runs are taken at it. Assumes nothing.
-use Rattle.std.specs.Prelude.{◌≡◌, refl, ℕ, List, [], ◌∷◌, map, length, replicate, set}
+use Rattle.std.specs.Prelude.{◌≡◌, refl, ℕ, List, [], ◌∷◌, map, replicate, set}
 use Rattle.std.proofs.Common.{sym, ap, ◌∙◌, arith, inl}
 use Rattle.rules.specs.Text.{lookup}
 use Rattle.rules.specs.Integers.{extra}
 use Rattle.rules.specs.Reading.{ended}
-use Rattle.rules.specs.Message.{Message, opening, carries, ends}
+use Rattle.rules.specs.Message.{opening, carries, ends}
 use Rattle.rules.specs.Request.{column, kind_of, code_of, data_rule, rule_for, rule, end_of_ended}
-use Rattle.rules.specs.Numbers.{OTHER-ROW, request_incomplete, REQUEST-INCOMPLETE, FRAME-UNEXPECTED, number_of, rows as Answers-of, named_in, named, house_leaves, leaves}
+use Rattle.rules.specs.Numbers.{OTHER-ROW, request_incomplete, REQUEST-INCOMPLETE, FRAME-UNEXPECTED, number_of, rows as Answers-of, named_in, named, leaves}
 use Rattle.meaning.specs.Machine.{State, between, after, fed, typed, with_left, finish}
 use Rattle.meaning.specs.Machine as machine
 use Rattle.meaning.specs.Feed as F
 use Rattle.rules.specs.Calls.{feed, end, Call, open', on, trace, fresh}
 use Rattle.record.specs.declared.Record.{Record}
 use Rattle.record.specs.Row.{request_record, free_record}
-use Rattle.requests.specs.Reply.{frees, freed_if, said_by, unless_due, ended_by, state_in}
+use Rattle.requests.specs.Reply.{frees, freed_if, said_by, unless_due, ended_by}
 use Rattle.requests.specs.Opens.{begins_open, begins_fresh}
 use Rattle.connection.specs.Openings as doors
 use Rattle.connection.specs.declared.Own.{Own as CoreOwn}
 use Rattle.connection.specs.declared.Connection.{Connection}
-use Rattle.connection.specs.declared.Report.{Report}
 use Rattle.connection.specs.declared.Found.{Found}
 use Rattle.connection.specs.Halves.{stream_id, with_doors}
 use Rattle.connection.specs.Faults.{keeps, kept_if, with_code}
@@ -29,7 +28,7 @@ use Rattle.demands.specs.Streams.{streams}
 use Rattle.demands.specs.Runs.{Seen, a_report, seen_in, number_in, Does, starts, opens_one, feeds, ends as ends_one}
 use Rattle.demands.specs.Host.{Run, begun, then_called, meant}
 use Rattle.demands.specs.InMemory.{AfterStreamFault, stream_fault}
-use Rattle.demands.specs.Rebuilt.{the_content, rebuilt, rebuilt_is, RunBetween, begins, goes_on, with_other, run_between}
+use Rattle.demands.specs.Rebuilt.{begins, goes_on, with_other, run_between}
 
 -- ---- the memory
 

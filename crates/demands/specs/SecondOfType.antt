@@ -7,7 +7,6 @@ use Rattle.rules.specs.Numbers.{stream_creation_error, of_connection}
 use Rattle.rules.specs.Text.{is_one_of, lookup}
 use Rattle.rules.specs.Integers.{got, integer}
 use Rattle.rules.specs.OneWay.{encoder, decoder, Kind, a_control, a_qpack, refuse, once, type_rule, untyped, one_way_read}
-use Rattle.meaning.specs.OneWayFeed as O
 use Rattle.rules.specs.Calls.{Fed, feed, of_fed, map_out, act₁, one_way, kind_of, telling, Pair, Call, on, Answer, code, Entry, with, faulted, settle, act_on, fresh, call, run, trace}
 use Rattle.rules.specs.Shown.{running, View, view}
 use Rattle.traces.specs.Went.{Alive}

@@ -1,19 +1,18 @@
 -- Our GOAWAY: what the core writes and answers is what the trace's call does. Assumes nothing.
-use Rattle.std.specs.Prelude.{◌≡◌, List, ◌++◌, Bool, not, ltb}
+use Rattle.std.specs.Prelude.{◌≡◌, List, Bool}
 use Rattle.std.proofs.Math.Path.{refl, ap}
 use Rattle.std.proofs.Common.{sym, ◌∙◌, subst, arith, inl, inr}
-use Prim.Native.Nat.{ℕ, zero, suc, ◌+◌, ◌-◌, ◌%◌, ◌^◌, ◌≤◌, ◌<◌}
-use Rattle.std.proofs.Math.Decide.{ℕ_discrete, dec_le, dec_lt}
+use Prim.Native.Nat.{ℕ, zero, suc, ◌^◌, ◌≤◌, ◌<◌}
+use Rattle.std.proofs.Math.Decide.{dec_le}
 use Rattle.std.proofs.Math.Bool.{true, false}
 use Rattle.std.proofs.Math.Option.{Option, none, some}
 use Rattle.std.proofs.Math.ListN.{length}
 use borrow.Author.Tests.{lt-ltb, le-ltb}
-use Rattle.rules.specs.Numbers.{ROOM-SHORT, BAD-VALUE, house_number, room_short, bad_value, ConnectionFault, of_connection, code_number, coded}
+use Rattle.rules.specs.Numbers.{ROOM-SHORT, BAD-VALUE, room_short, bad_value, ConnectionFault, of_connection, code_number}
 use Rattle.rules.specs.Integers.{written, largest}
 use Rattle.rules.specs.Writer.{Write, refused, wrote, into, integer_frame, write_integer_frame, bad_goaway, write_goaway}
 use Rattle.rules.specs.Calls.{done, either, pick, size_in, goaway_size, Pair, Result, goaway, gave, house, code, limited, same, with, alive, sending, call}
 use Rattle.record.specs.declared.Record.{Record}
-use Rattle.connection.specs.Goaway as doors
 use Rattle.connection.specs.Goaway.{sent_as, sending_of, write_of}
 use Rattle.connection.specs.declared.Connection.{Connection}
 use Rattle.connection.specs.declared.Written.{Written}

@@ -1,13 +1,13 @@
 -- WRONG SERVERS: document 01 names five that a promise must shut out. Each is defined here, and breaks what is promised at a concrete input; so do
 -- three more; and our own keeps it. Assumes nothing.
-use Rattle.std.specs.Prelude.{◌≡◌, refl, ℕ, zero, suc, ◌≤◌, List, [], ◌∷◌, Bool, true, false, ◌↔◌, length}
+use Rattle.std.specs.Prelude.{◌≡◌, refl, ℕ, List, [], ◌∷◌, ◌↔◌, length}
 use Rattle.std.proofs.Common.{sym, ap, ◌∙◌, arith}
-use Rattle.std.proofs.Math.Option.{Option, none, some}
-use Rattle.rules.specs.Numbers.{House, not_open, section_due, StreamFault, request_incomplete, ConnectionFault, frame_unexpected, Code, of_stream, of_connection}
-use Rattle.rules.specs.Calls.{Event, quiet, content_in, section_in, Gave, done, fed, Left, whole, Own, feed, section, end, reset, pick, over, Kind, request, kind_of, Call, start, open', on, goaway, Answer, gave, left, house, code, Entry, Pair, fresh, call, run, trace}
+use Rattle.std.proofs.Math.Option.{some}
+use Rattle.rules.specs.Numbers.{not_open, section_due, request_incomplete, frame_unexpected, Code, of_stream, of_connection}
+use Rattle.rules.specs.Calls.{quiet, content_in, section_in, done, fed, Left, whole, feed, section, end, reset, pick, over, request, kind_of, Call, start, open', on, goaway, Answer, gave, left, house, code, Entry, Pair, fresh, call, run, trace}
 use Rattle.std.proofs.Math.Decide.{ℕ_discrete}
-use Rattle.rules.specs.Shown.{Shown, View, running, ended, refused, nothing, fedly, plus_feed, mine, if_running, unseen, view, view_from, seen, opened, ledger, ledger_from, blank, next_in, barred_in, MayOpen}
-use Rattle.traces.specs.Demands.{Verdict, is_legal, bad, waits, Tells, end_answer}
+use Rattle.rules.specs.Shown.{Shown, running, nothing, fedly, plus_feed, mine, if_running, unseen, view, view_from, seen, opened, ledger, ledger_from, blank, next_in, barred_in, MayOpen}
+use Rattle.traces.specs.Demands.{is_legal, bad, waits, Tells, end_answer}
 use Rattle.traces.specs.Progress.{Moves, awaits, faulty, moved, Takes}
 use Rattle.rules.specs.Worked.{answer}
 use Rattle.meaning.proofs.Feeds.{headers_in}

@@ -4,7 +4,7 @@ use Rattle.std.proofs.Math.Path.{refl, ap}
 use Rattle.std.proofs.Common.{sym, ◌∙◌, arith}
 use Rattle.std.proofs.Math.Option.{some}
 use Rattle.std.proofs.lemmas.List.{set-get_or}
-use Rattle.rules.specs.Numbers.{House, house_number, StreamFault, ConnectionFault, stream_creation_error, closed_critical_stream, frame_unexpected, frame_error, excessive_load, id_error, settings_error, missing_settings, of_stream, of_connection, code_number, coded}
+use Rattle.rules.specs.Numbers.{House, house_number, StreamFault, ConnectionFault, of_stream, of_connection, code_number, coded}
 use Rattle.rules.specs.Calls.{Own, Gave, Left, Out, refuse, step, leave, fault, Stream, free, held, Row, Conn, Pair, Held, Call, on, gave, left, code, Result, killed, keeping, find, put, same, with, alive, faulted, act_on, settle, acting, call}
 use Rattle.traces.specs.Went.{pair}
 use Rattle.traces.specs.Refine.{FoundAt, found_find, found_put_as, found_put}

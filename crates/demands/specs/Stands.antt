@@ -1,8 +1,7 @@
 -- THE INVARIANT of a connection and a row that had the same start: a pair, with no code or a connection fault's, whose streams read what fits their
 -- place. Assumes nothing.
-use Rattle.std.specs.Prelude.{◌≡◌, refl, ℕ, ◌≤◌, List, ◌⊎◌, length}
+use Rattle.std.specs.Prelude.{◌≡◌, refl, ℕ, List, ◌⊎◌, length}
 use Rattle.std.proofs.Common.{sym, subst, inl, inr}
-use Rattle.std.proofs.Math.Decide.{dec_le}
 use Rattle.rules.specs.Writer.{Write, refused, wrote}
 use Rattle.connection.specs.declared.doors.Doors.{Doors}
 use Rattle.connection.specs.declared.doors.Opening.{Opening}

@@ -6,7 +6,7 @@ use Rattle.std.proofs.Math.Decide.{dec_lt}
 use Rattle.std.proofs.Math.Option.{some}
 use Rattle.std.proofs.Math.ListN.{replicate}
 use Rattle.std.proofs.lemmas.List.{set-get_or}
-use Rattle.rules.specs.Numbers.{NOT-OPEN, not_open, house_number, ConnectionFault, of_connection, coded}
+use Rattle.rules.specs.Numbers.{NOT-OPEN, not_open, ConnectionFault, of_connection}
 use Rattle.rules.specs.Calls as Board
 use Rattle.rules.specs.Calls.{Stream, asking, telling, free, held, Pair, open', on, house, code, find, same, alive, acting, fresh, call}
 use Rattle.traces.specs.Refine.{Whose, FoundAt, found_find, absent_find}

@@ -1,17 +1,17 @@
 -- BELIEVED (docs/PROOFS.md): the streams of document 01 (rules, meaning) as the machine that traces are about. Assumes nothing.
-use Rattle.std.specs.Prelude.{ℕ, zero, suc, ◌-◌, List, [], ◌∷◌, ◌++◌, Bool, true, false, eqb, ltb}
+use Rattle.std.specs.Prelude.{ℕ, ◌-◌, List, [], ◌∷◌, ◌++◌, Bool, true, false}
 use Rattle.std.proofs.Math.Option.{Option, none, some}
-use Rattle.rules.specs.Numbers.{StreamFault, request_rejected, request_cancelled, request_incomplete, message_error, ConnectionFault, stream_creation_error, closed_critical_stream, frame_unexpected, frame_error, excessive_load, id_error, settings_error, missing_settings, Code, of_stream, of_connection}
+use Rattle.rules.specs.Numbers.{StreamFault, message_error, ConnectionFault, closed_critical_stream, missing_settings, Code, of_stream, of_connection}
 use Rattle.rules.specs.Block.{Section, Lines, readable, unreadable, lines}
 use Rattle.rules.specs.Reading.{Verdict, whole, fault, waits}
 use Rattle.rules.specs.Message.{Message, opening}
 use Rattle.rules.specs.Request.{document, request}
-use Rattle.rules.specs.Control.{Settings, Control, unset, Told, told_settings, told_goaway, told_max_push_id, told_nothing, tells}
+use Rattle.rules.specs.Control.{Control, unset, Told, told_settings, told_goaway, told_max_push_id, told_nothing, tells}
 use Rattle.rules.specs.OneWay.{Qpack, encoder, decoder}
 use Rattle.meaning.specs.Machine as M
 use Rattle.meaning.specs.Feed as F
 use Rattle.meaning.specs.OneWayFeed as O
-use Rattle.rules.specs.Calls.{Notice, qpack_bytes, settings, client_goaway, max_push_id, Event, quiet, section_bytes, content_bytes, notice, Fed, goes, faults, Given, sound, unsound, Ended, is_whole, broken, Machine}
+use Rattle.rules.specs.Calls.{qpack_bytes, settings, client_goaway, max_push_id, Event, quiet, section_bytes, content_bytes, notice, Fed, goes, faults, Given, sound, unsound, Ended, is_whole, broken, Machine}
 
 -- ---- codes
 

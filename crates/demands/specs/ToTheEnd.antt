@@ -2,7 +2,7 @@
 -- where one is due, has every byte consumed or meets a fault, in at most as many feeds as there are bytes. Assumes nothing.
 use Rattle.std.specs.Prelude.{◌≡◌, Bool, length, drop}
 use Rattle.std.proofs.Math.Path.{refl}
-use Rattle.std.proofs.Common.{sym, ap, ◌∙◌, arith, true≢false}
+use Rattle.std.proofs.Common.{sym, ◌∙◌, arith, true≢false}
 use Prim.Native.Nat.{ℕ, zero, suc, ◌≤◌}
 use mathlib.Core.List.{List, [], ◌∷◌}
 use Rattle.std.proofs.Math.Bool.{true, false}
@@ -15,7 +15,7 @@ use Rattle.rules.specs.Request.{document, request}
 use Rattle.meaning.specs.Machine as M
 use Rattle.meaning.specs.OneWayFeed as O
 use Rattle.meaning.proofs.OneWays.{ReadsOnOne, one_moves}
-use Rattle.rules.specs.Calls.{Event, Fed, goes, faults, Given, sound, unsound, Own, feed, section, Gave, done, fed, Left, Out, refuse, step, leave, fault, of_fed, of_given, map_out, Machine, act, act₁, either, request as a_request, one_way, kind_of, Stream, asking, telling, Pair, Held, Call, start, open', on, goaway, Answer, gave, left, house, code, keeping, find, same, with, faulted, settle, act_on, fresh, call, run, trace}
+use Rattle.rules.specs.Calls.{Event, Fed, goes, faults, Given, sound, unsound, feed, section, Gave, done, fed, Left, Out, refuse, step, leave, fault, of_fed, of_given, map_out, Machine, act, act₁, either, request as a_request, one_way, kind_of, Stream, asking, telling, Pair, Held, Call, start, open', on, goaway, Answer, gave, left, house, code, keeping, find, same, with, faulted, settle, act_on, fresh, call, run, trace}
 use Rattle.rules.specs.Shown.{Shown, View, running, plus_feed, view}
 use Rattle.traces.specs.Row.{find_put_same}
 use Rattle.traces.specs.Went.{Alive}

@@ -10,7 +10,7 @@ use Rattle.std.proofs.Math.Option.{Option, none, some}
 use Rattle.std.proofs.Math.Dec.{ltb, ltb→lt, nltb→le, nleb→lt}
 use Rattle.std.proofs.Math.ListN.{length, drop}
 use Rattle.std.proofs.lemmas.Bool.{lt-leb}
-use Rattle.rules.specs.Numbers.{ROOM-SHORT, BAD-VALUE, Code, of_connection, closed_critical_stream}
+use Rattle.rules.specs.Numbers.{ROOM-SHORT, BAD-VALUE, of_connection, closed_critical_stream}
 use Rattle.rules.specs.Text.{hex, hex_from, nibble, between}
 use Rattle.rules.specs.Integers.{Row, integer, got, rows, low, in_row, in_first, written, largest}
 use Rattle.rules.specs.Frames.{Header, Frames, Frames.none as no_more, in_header, in_payload, frame, frames_up_to, frames_from}
@@ -27,7 +27,7 @@ use Rattle.varint.specs.Shortest.{bytes_of, size_of, size_few, size_some, size_o
 use Rattle.varint.specs.Write.{wrote_of, left_in, Meets}
 use Rattle.connection.specs.declared.doors.Doors.{Doors}
 use Rattle.connection.specs.declared.doors.Goaway.{Goaway}
-use Rattle.connection.specs.Goaway.{sent_in, sending_of, write_of, Sends}
+use Rattle.connection.specs.Goaway.{sent_in, sending_of, write_of}
 use Rattle.connection.specs.declared.Connection.{Connection}
 use Rattle.connection.specs.declared.Written.{Written}
 use Rattle.connection.specs.Halves.{stream_id, doors_in}

@@ -1,19 +1,16 @@
 -- WRONG EVENTS: four servers that are ours but for what a feed hands over or how far it reads. Each breaks what is promised of events (Events, Allowed) at a
 -- concrete input, and our own keeps it, with instances computed. Assumes nothing.
-use Rattle.std.specs.Prelude.{◌≡◌, refl, ℕ, zero, suc, ◌+◌, ◌≤◌, List, [], ◌∷◌, ◌++◌, Bool, true, false, length, take}
-use Rattle.std.proofs.Common.{sym, ap, ◌∙◌, arith}
-use Rattle.std.proofs.Math.Decide.{ℕ_discrete}
+use Rattle.std.specs.Prelude.{◌≡◌, refl, ℕ, zero, suc, ◌+◌, ◌≤◌, List, [], ◌∷◌, ◌++◌, take}
+use Rattle.std.proofs.Common.{sym, ◌∙◌, arith}
 use Rattle.std.proofs.Math.Option.{Option, none, some}
 use Rattle.rules.specs.Worked.{answer}
 use Rattle.meaning.specs.OneWayFeed as O
-use Rattle.rules.specs.Calls.{qpack_bytes, settings, client_goaway, max_push_id, Event, quiet, section_bytes, content_bytes, notice, Gave, done, fed, Own, feed, section, end, reset, act₁, Kind, request, one_way, kind_of, Pair, Call, start, open', on, goaway, Answer, gave, left, house, code, fresh, call, run, trace}
+use Rattle.rules.specs.Calls.{qpack_bytes, settings, client_goaway, max_push_id, Event, quiet, section_bytes, content_bytes, notice, done, fed, feed, section, end, reset, act₁, Kind, request, one_way, kind_of, Pair, Call, start, open', on, goaway, Answer, gave, left, house, code, fresh, call, trace}
 use Rattle.rules.specs.Shown.{running, view}
-use Rattle.demands.specs.Streams.{types_in, came, one_event, frames_event, heard_by, type_of, streams}
+use Rattle.demands.specs.Streams.{types_in, came, one_event, heard_by, type_of, streams}
 use Rattle.demands.specs.Reading.{sections_of, reading_of}
-use Rattle.demands.specs.Becomes.{as_encoder}
-use Rattle.demands.specs.OneWayReads.{type_shown}
 use Rattle.demands.specs.Servers.{Server, traced_from, traced, after, next, ours, same_trace, same_next}
-use Rattle.demands.specs.Instances.{shows, upload, just_open, headed, block}
+use Rattle.demands.specs.Instances.{shows, just_open, block}
 use Rattle.demands.specs.Events.{RequestEvent, OneWayEvent, shown_by, request_events, one_way_events}
 use Rattle.demands.specs.Allowed.{last_end, NoFurther, no_further_header}
 

@@ -5,9 +5,9 @@ use Rattle.std.proofs.Common.{sym, ap, subst, ◌∙◌, arith, take_at}
 use Rattle.std.proofs.Math.Option.{Option, some}
 use Rattle.rules.specs.Numbers.{NOT-OPEN, REQUEST-REJECTED, FRAME-UNEXPECTED, frame_unexpected}
 use Rattle.rules.specs.Integers.{extra, more, integer}
-use Rattle.rules.specs.Frames.{Frames, Frames.none as no_more, Frames.frame as a_frame, in_payload, frames_up_to, frames_from}
+use Rattle.rules.specs.Frames.{Frames.none as no_more, Frames.frame as a_frame, in_payload, frames_up_to, frames_from}
 use Rattle.rules.specs.Message.{body}
-use Rattle.rules.specs.Calls.{qpack_bytes, settings, client_goaway, max_push_id, Event, quiet, section_bytes, content_bytes, notice, fed, feed, section, reset, request, one_way, kind_of, asking, Stream, find, open', on, gave}
+use Rattle.rules.specs.Calls.{qpack_bytes, settings, client_goaway, max_push_id, Event, quiet, section_bytes, content_bytes, notice, fed, feed, section, request, one_way, kind_of, asking, Stream, find, open', on, gave}
 use Rattle.rules.specs.Shown.{running, ledger, ledger_from, noted, dies, opens, counts, blank}
 use Rattle.meaning.specs.Machine.{between}
 use Rattle.meaning.specs.FrameLaws.{head}
