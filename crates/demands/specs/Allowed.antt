@@ -16,7 +16,7 @@ use Rattle.meaning.specs.Machine as M
 use Rattle.meaning.specs.Machine.{State, in_type, in_length, in_payload, due, Outcome, lives, dies, between, reads, stuck}
 use Rattle.meaning.specs.Feed as F
 use Rattle.meaning.specs.Feed.{Feeding, halt, also, onward, judged_event, left_event, over_event, behind_header, taking}
-use Rattle.meaning.specs.Cut.{read_is}
+use Rattle.meaning.proofs.Cut.{read_is}
 use Rattle.rules.specs.Calls.{Event, goes, fed, feed, act, request, kind_of, asking, Pair, Call, on, gave, fresh, call, run, trace}
 use Rattle.rules.specs.Shown.{Shown, running, View, plus_feed, view}
 use Rattle.traces.specs.Alone.{call_on_asking}

@@ -16,7 +16,7 @@ use Rattle.meaning.specs.Machine as M
 use Rattle.meaning.specs.Machine.{State}
 use Rattle.meaning.specs.Feed as F
 use Rattle.meaning.specs.Feed.{Feeding, halt, also, named, taking}
-use Rattle.meaning.specs.EveryFeed.{every_feed}
+use Rattle.meaning.proofs.EveryFeed.{every_feed}
 use Rattle.meaning.specs.OneWayFeed as O
 use Rattle.rules.specs.Calls.{qpack_bytes, settings, client_goaway, max_push_id, Event, quiet, section_bytes, content_bytes, notice, section_in, part, Fed, goes, fed, feed, act, act₁, request, one_way, kind_of, asking, telling, Pair, Call, on, gave, act_on, fresh, call, run, trace}
 use Rattle.rules.specs.Shown.{Shown, running, View, plus_feed, view}

@@ -10,7 +10,7 @@ use Rattle.rules.specs.Frames.{frame, frames_from}
 use Rattle.meaning.specs.FrameLaws.{head}
 use Rattle.meaning.specs.IntegerLaws.{Bytes}
 use Rattle.rules.specs.Numbers.{NO-SECTION, SECTION-DUE, UNREADABLE, OTHER-ROW, Code, of_stream, code_number}
-use Rattle.rules.specs.Calls.{feed, section, end, request, one_way, kind_of, find, open', on, goaway, Answer, call, run, fresh, trace}
+use Rattle.rules.specs.Calls.{feed, section, end, request, one_way, kind_of, find, on, Answer, call, run, fresh, trace}
 use Rattle.rules.specs.Shown.{View, running, ended, refused, ledger}
 use Rattle.traces.specs.Alone.{Aside}
 use Rattle.traces.specs.Demands.{Tells, Struck, end_answer, all_refused}
@@ -30,28 +30,21 @@ use Rattle.demands.specs.Demands.{Calls}
 use Rattle.demands.specs.Refusals.{number_of}
 use Rattle.demands.specs.Means as means
 use Rattle.demands.specs.Means.{pair_of, report_of}
-use Rattle.demands.specs.Only.{EndsWhole, whole_only}
-use Rattle.demands.specs.Others as others
+use Rattle.demands.specs.Only.{EndsWhole}
 use Rattle.demands.specs.Others.{verdict_in, Opens, Sends}
-use Rattle.demands.specs.Runs.{Seen, seen_in, starts, opens_one, feeds, gives, ends, number_in, Refuses, does_nothing, goaway_refused, ToldSettings, settings_kept_lem}
+use Rattle.demands.specs.Runs.{Seen, seen_in, feeds, gives, number_in, Refuses, ToldSettings}
 use Rattle.demands.specs.Writes as writes
 use Rattle.demands.specs.Writes.{BeginsFrame, Ends, EitherAbove, twelve, OpensControl}
-use Rattle.demands.specs.Host.{Run, begun, then_called, shows, meant, leaves, answers, reports, sends, report_number, HandsNothing, AsTheTableSays, refused_so, SaysWhole, whole_seen, seen_whole, WholeAt, whole_at}
-use Rattle.demands.specs.Exports.{CallSays, StartSays, StreamSays, FeedSays, GiveSays, GoawaySays, FrameSays, RoomSays, World, OfStart, of_start, OfOpen, of_open, OfFeed, of_feed, OfGive, of_give, OfEnd, of_end, OfGoaway, of_goaway, Every, every, OfHeader, of_header, OfIntegerFrame, of_integer_frame, OfOpening, of_opening}
+use Rattle.demands.specs.Host.{Run, shows, reports, report_number, HandsNothing, AsTheTableSays, SaysWhole, WholeAt}
+use Rattle.demands.specs.Exports.{CallSays, StartSays, StreamSays, FeedSays, GiveSays, GoawaySays, FrameSays, RoomSays}
 
 -- ---- runs: every start on a row of 24 begins one, and every call of every function carries it on
 
 abbrev pub Begins : StartSays
 Begins c rows n c' rows' = length rows ≡ 24 → Run [] [] c' rows'
 
-pub begins : (w : World) → OfStart w Begins
-begins w = of_start w Begins (λ c rows n c' rows' m long. begun long (starts m))
-
 abbrev pub CarriesOn : CallSays
 CarriesOn c rows k x c' rows' = (ks : Calls) (xs : List Seen) → Run ks xs c rows → Run (ks ++ (k ∷ [])) (xs ++ (x ∷ [])) c' rows'
-
-pub carries_on : (w : World) → Every w CarriesOn
-carries_on w = every w CarriesOn (λ c rows k x c' rows' m ks xs r. then_called r m)
 
 -- ---- DEMAND 1
 
@@ -59,29 +52,17 @@ carries_on w = every w CarriesOn (λ c rows k x c' rows' m ks xs r. then_called 
 abbrev pub RefusesSo : CallSays
 RefusesSo c rows k x c' rows' = (ks : Calls) (xs : List Seen) → Run ks xs c rows → ¬ (number_in x ≡ 0) → HandsNothing x × AsTheTableSays c rows k x c' rows'
 
-pub demand_1 : (w : World) → Every w RefusesSo
-demand_1 w = every w RefusesSo (λ c rows k x c' rows' m ks xs r. refused_so r m)
-
 -- and on any memory: a number of the house, or the code of a dead connection, alters no byte of it
 abbrev pub AltersNothing : CallSays
 AltersNothing c rows k x c' rows' = Refuses c k x → (c' ≡ c) × (rows' ≡ rows)
-
-pub demand_1_bytes : (w : World) → Every w AltersNothing
-demand_1_bytes w = every w AltersNothing (λ c rows k x c' rows' m z. let u = does_nothing m z in (u.0, u.1))
 
 -- nor, with any number but 0, of the room that our GOAWAY is lent
 abbrev pub RoomStays : GoawaySays
 RoomStays c id room r c' room' = ¬ (r.number ≡ 0) → (c' ≡ c) × (room' ≡ room)
 
-pub demand_1_room : (w : World) → OfGoaway w RoomStays
-demand_1_room w = of_goaway w RoomStays (λ c id room r c' room' m. goaway_refused m)
-
 -- OTHER STREAMS: no call but start touches the record of a stream that it does not name
 abbrev pub OthersStay : CallSays
 OthersStay c rows k x c' rows' = (ks : Calls) (xs : List Seen) → Run ks xs c rows → (id : ℕ) → Aside id k → find id (pair_of c' rows').row ≡ find id (pair_of c rows).row
-
-pub demand_1_others : (w : World) → Every w OthersStay
-demand_1_others w = every w OthersStay (λ c rows k x c' rows' m ks xs r id n. ap (λ p. find id p.row) (leaves r m) ∙ others.others_untouched ks k id n ∙ sym (ap (λ p. find id p.row) (meant r).holds))
 
 -- ---- DEMAND 2
 
@@ -91,25 +72,13 @@ abbrev pub Reads : CallSays
 Reads c rows k x c' rows' = (ks : Calls) (xs : List Seen) → Run ks xs c rows → let ls = ks ++ (k ∷ []) in
     (xs ++ (x ∷ []) ≡ map seen_in (trace fresh ls)) × ((id : ℕ) → kind_of id ≡ some request → Tells reading (shows id ls)) × ((id : ℕ) → kind_of id ≡ some one_way → Heard (shows id ls))
 
-pub demand_2 : (w : World) → Every w Reads
-demand_2 w = every w Reads (λ c rows k x c' rows' m ks xs r. ((meant (then_called r m)).saw, λ id q. over-traces.demand_2 id q (ks ++ (k ∷ [])), λ id q. over-traces.one_way_reads id q (ks ++ (k ∷ []))))
-
 -- WHOLE EXACTLY IF LEGAL: event 11 is reported exactly by an end of a request stream that runs and whose bytes and sections are legal
 abbrev pub WholeIfLegal : CallSays
 WholeIfLegal c rows k x c' rows' = (ks : Calls) (xs : List Seen) → Run ks xs c rows → SaysWhole x ↔ EndsWhole ks k
 
-pub demand_2_whole : (w : World) → Every w WholeIfLegal
-demand_2_whole w = every w WholeIfLegal (λ c rows k x c' rows' m ks xs r. (
-  λ e. (whole_only ks k).0 (whole_seen k (call k (run fresh ks)).answer (subst SaysWhole (answers r m) e)),
-  λ e. subst SaysWhole (sym (answers r m)) (seen_whole ks k e),
-))
-
 -- AN END is answered by the verdict: whole, 4 while a section is due, or the first fault's code
 abbrev pub EndsByVerdict : StreamSays
 EndsByVerdict c rows id r c' rows' = (ks : Calls) (xs : List Seen) → Run ks xs c rows → kind_of id ≡ some request → (shows id ks).fate ≡ running → r ≡ report_of (end_answer (verdict_in (shows id ks)))
-
-pub demand_2_end : (w : World) → OfEnd w EndsByVerdict
-demand_2_end w = of_end w EndsByVerdict (λ c rows id r c' rows' m ks xs s q e. reports s (on id end) (ends m) ∙ ap report_of (over-traces.end_exactly id q ks e))
 
 -- THE FIRST FAULT DECIDES: a feed is answered by 4 exactly while a section is due, by a code only for a fault that the last byte used brings, and else
 -- there is none among the bytes; given a byte and an allowance of 1 or more, one or more is used
@@ -117,22 +86,16 @@ abbrev pub FeedsByBytes : FeedSays
 FeedsByBytes c rows id piece allow r c' rows' = (ks : Calls) (xs : List Seen) → Run ks xs c rows → kind_of id ≡ some request → (shows id ks).fate ≡ running
     → (a : Answer) × (r ≡ report_of a) × Moves reading (shows id ks).shown allow piece a
 
-fed_so : (c : Connection) (rows : List Record) (id : ℕ) (piece : List ℕ) (allow : ℕ) (r : Report) (c' : Connection) (rows' : List Record) → Fed c rows id piece allow c' rows' r → FeedsByBytes c rows id piece allow r c' rows'
+pub fed_so : (c : Connection) (rows : List Record) (id : ℕ) (piece : List ℕ) (allow : ℕ) (r : Report) (c' : Connection) (rows' : List Record) → Fed c rows id piece allow c' rows' r → FeedsByBytes c rows id piece allow r c' rows'
 fed_so c rows id piece allow r c' rows' m ks xs s q e = let k = on id (feed allow piece) in ((call k (run fresh ks)).answer, reports s k (feeds m), over-traces.progress id q ks allow piece e)
-
-pub demand_2_feed : (w : World) → OfFeed w FeedsByBytes
-demand_2_feed w = of_feed w FeedsByBytes fed_so
 
 -- a section by 5, 6, the code of a fault that it brings, or accepted
 abbrev pub GivesBySection : GiveSays
 GivesBySection c rows id block r c' rows' = (ks : Calls) (xs : List Seen) → Run ks xs c rows → kind_of id ≡ some request → (shows id ks).fate ≡ running
     → (a : Answer) × (r ≡ report_of a) × Takes reading (shows id ks).shown block a
 
-given_so : (c : Connection) (rows : List Record) (id : ℕ) (block : List ℕ) (r : Report) (c' : Connection) (rows' : List Record) → Given c rows id block c' rows' r → GivesBySection c rows id block r c' rows'
+pub given_so : (c : Connection) (rows : List Record) (id : ℕ) (block : List ℕ) (r : Report) (c' : Connection) (rows' : List Record) → Given c rows id block c' rows' r → GivesBySection c rows id block r c' rows'
 given_so c rows id block r c' rows' m ks xs s q e = let k = on id (section block) in ((call k (run fresh ks)).answer, reports s k (gives m), over-traces.section_exactly id q ks block e)
-
-pub demand_2_give : (w : World) → OfGive w GivesBySection
-demand_2_give w = of_give w GivesBySection given_so
 
 -- ANY CUTTING: every request stream of every run, in whatever pieces and with whatever allowances, that used these bytes or more with these sections so far
 -- is refused with this number at this byte
@@ -156,22 +119,19 @@ abbrev pub FeedsAlike : FeedSays
 FeedsAlike c rows id piece allow r c' rows' = (ks : Calls) (xs : List Seen) → Run ks xs c rows → kind_of id ≡ some request → (shows id ks).fate ≡ running → OTHER-ROW < r.number
     → let s = (shows id ks).shown in Everywhere r.number (s.bytes ++ take r.used piece) s.sections
 
-fed_alike : (v : View streams) (piece : List ℕ) (allow : ℕ) (r : Report) (a : Answer) → r ≡ report_of a → Moves reading v.shown allow piece a → OTHER-ROW < r.number
+pub fed_alike : (v : View streams) (piece : List ℕ) (allow : ℕ) (r : Report) (a : Answer) → r ≡ report_of a → Moves reading v.shown allow piece a → OTHER-ROW < r.number
     → Everywhere r.number (v.shown.bytes ++ take r.used piece) v.shown.sections
 unfolding report_of number_of
 fed_alike v piece allow r a q (awaits x) l = let z : r.number ≡ SECTION-DUE = ap (λ y. y.number) q in absurd (omega arith)
 fed_alike v piece allow r a q (faulty {k = k} {u = u} {h = h} x struck) l = subst (λ (y : Report). Everywhere y.number (v.shown.bytes ++ take y.used piece) v.shown.sections) (sym q) (everywhere k (v.shown.bytes ++ take u piece) v.shown.sections struck)
 fed_alike v piece allow r a q (moved x n p) l = let z : r.number ≡ 0 = ap (λ y. y.number) q ∙ report_number a in absurd (omega arith)
 
-pub demand_2_cutting : (w : World) → OfFeed w FeedsAlike
-demand_2_cutting w = of_feed w FeedsAlike (λ c rows id piece allow r c' rows' m ks xs s q e. let u = fed_so c rows id piece allow r c' rows' m ks xs s q e in fed_alike (shows id ks) piece allow r u.0 u.1 u.2)
-
 -- and a section
 abbrev pub GivesAlike : GiveSays
 GivesAlike c rows id block r c' rows' = (ks : Calls) (xs : List Seen) → Run ks xs c rows → kind_of id ≡ some request → (shows id ks).fate ≡ running → OTHER-ROW < r.number
     → let s = (shows id ks).shown in Everywhere r.number s.bytes (s.sections ++ (block ∷ []))
 
-given_alike : (v : View streams) (block : List ℕ) (r : Report) (a : Answer) → r ≡ report_of a → Takes reading v.shown block a → OTHER-ROW < r.number
+pub given_alike : (v : View streams) (block : List ℕ) (r : Report) (a : Answer) → r ≡ report_of a → Takes reading v.shown block a → OTHER-ROW < r.number
     → Everywhere r.number v.shown.bytes (v.shown.sections ++ (block ∷ []))
 unfolding report_of
 given_alike v block r a q (not_due x) l = let z : r.number ≡ NO-SECTION = ap (λ y. y.number) q in absurd (omega arith)
@@ -179,15 +139,9 @@ given_alike v block r a q (not_readable x y) l = let z : r.number ≡ UNREADABLE
 given_alike v block r a q (unfit {k = k} x y struck) l = subst (λ (y : Report). Everywhere y.number v.shown.bytes (v.shown.sections ++ (block ∷ []))) (sym q) (everywhere (of_stream k) v.shown.bytes (v.shown.sections ++ (block ∷ [])) struck)
 given_alike v block r a q (taken x y n) l = let z : r.number ≡ 0 = ap (λ y. y.number) q in absurd (omega arith)
 
-pub demand_2_cutting_given : (w : World) → OfGive w GivesAlike
-demand_2_cutting_given w = of_give w GivesAlike (λ c rows id block r c' rows' m ks xs s q e. let u = given_so c rows id block r c' rows' m ks xs s q e in given_alike (shows id ks) block r u.0 u.1 u.2)
-
 -- SETTINGS that a feed reports (event 8) are those that the connection's record then holds
 abbrev pub HoldsSettings : FeedSays
 HoldsSettings c rows id piece allow r c' rows' = (ks : Calls) (xs : List Seen) → Run ks xs c rows → r.event ≡ SETTINGS → ToldSettings (on id (feed allow piece)) (pair_of c rows) c' r
-
-pub demand_2_settings : (w : World) → OfFeed w HoldsSettings
-demand_2_settings w = of_feed w HoldsSettings (λ c rows id piece allow r c' rows' m ks xs s e. settings_kept_lem (meant s).stands (feeds m) e)
 
 -- ---- DEMAND 3
 
@@ -195,12 +149,9 @@ demand_2_settings w = of_feed w HoldsSettings (λ c rows id piece allow r c' row
 abbrev pub NotHalf : StreamSays
 NotHalf c rows id r c' rows' = (ks : Calls) (xs : List Seen) → Run ks xs c rows → r.event ≡ WHOLE → (n : ℕ) → let s = (shows id ks).shown in stated_by n (first_of s.sections) → length s.content ≡ n
 
-not_half : {id : ℕ} {ks : Calls} → WholeAt id ks → (n : ℕ) → let s = (shows id ks).shown in stated_by n (first_of s.sections) → length s.content ≡ n
+pub not_half : {id : ℕ} {ks : Calls} → WholeAt id ks → (n : ℕ) → let s = (shows id ks).shown in stated_by n (first_of s.sections) → length s.content ≡ n
 not_half {id} {ks} w n =
     subst (λ (v : View streams). v.fate ≡ ended → stated_by n (first_of v.shown.sections) → length v.shown.content ≡ n) w.ends (over-traces.half_an_upload id w.asks (ks ++ (on id end ∷ [])) n) refl
-
-pub demand_3_half : (w : World) → OfEnd w NotHalf
-demand_3_half w = of_end w NotHalf (λ c rows id r c' rows' m ks xs s e. not_half (whole_at s (ends m) e))
 
 -- LONGER STREAMS: where an end here and an end in this run or another both report whole, the longer stream beginning with all the bytes of the shorter, their
 -- header sections decoding alike and stating a Content-Length: the same header section, the same content, and nothing added but what may be
@@ -222,22 +173,13 @@ adds_nothing {i} {j} {ks} {ls} a b n more =
     → (header_of s.bytes s.sections ≡ header_of t.bytes t.sections) × (s.content ≡ t.content) × Added s.bytes more t.sections) a.ends
     (over-traces.demand_3 i j a.asks b.asks (ks ++ (on i end ∷ [])) (ls ++ (on j end ∷ [])) n more) refl) refl
 
-pub demand_3 : (w : World) → OfEnd w AddsNothing
-demand_3 w = of_end w AddsNothing (λ c rows i r c' rows' m ks xs s e ls ys d row t j p d' row' o f. adds_nothing (whole_at s (ends m) e) (whole_at t (ends o) f))
-
 -- ---- openings, and our GOAWAY: every answer there is, with the condition of each, read from the calls made
 
 abbrev pub OpensBy : StreamSays
 OpensBy c rows id r c' rows' = (ks : Calls) (xs : List Seen) → Run ks xs c rows → (a : Answer) × (r ≡ report_of a) × Opens (ledger (trace fresh ks)) id a
 
-pub opens_exactly : (w : World) → OfOpen w OpensBy
-opens_exactly w = of_open w OpensBy (λ c rows id r c' rows' m ks xs s. ((call (open' id) (run fresh ks)).answer, reports s (open' id) (opens_one m), others.opens_exactly ks id))
-
 abbrev pub SendsBy : GoawaySays
 SendsBy c id room r c' room' = (ks : Calls) (xs : List Seen) (rows : List Record) → Run ks xs c rows → (a : Answer) × (r ≡ means.written_of id a) × Sends (ledger (trace fresh ks)) id (length room) a
-
-pub sends_exactly : (w : World) → OfGoaway w SendsBy
-sends_exactly w = of_goaway w SendsBy (λ c id room r c' room' m ks xs rows s. ((call (goaway id (length room)) (run fresh ks)).answer, sends s m, others.sends_exactly ks id (length room)))
 
 -- ---- FRAMES WE WRITE are read back as those same frames, in their shortest form; and how a write ends
 
@@ -246,64 +188,34 @@ abbrev pub HeaderRead : FrameSays
 HeaderRead type len room r room' = r.number ≡ 0 → (payload rest : List ℕ) → length payload ≡ len
     → (bytes : List ℕ) × (r.count ≡ length bytes) × (room' ≡ bytes ++ drop r.count room) × (frames_from 0 (bytes ++ (payload ++ rest)) ≡ frame (head 0 r.count type len) payload (frames_from (r.count + len) rest))
 
-pub header_read : (w : World) → OfHeader w HeaderRead
-header_read w = of_header w HeaderRead (λ type len room r room' m. writes.lent_header_read type len m)
-
 abbrev pub HeaderShortest : FrameSays
 HeaderShortest type len room r room' = r.number ≡ 0 → (bs : List ℕ) (from : ℕ) (payload : List ℕ) → Bytes bs → writes.first_of (frames_from 0 bs) ≡ some (head 0 from type len, payload) → r.count ≤ from
 
-pub header_shortest : (w : World) → OfHeader w HeaderShortest
-header_shortest w = of_header w HeaderShortest (λ type len room r room' m z bs from payload. writes.lent_header_shortest type len m z)
-
 abbrev pub HeaderEnds : FrameSays
 HeaderEnds type len room r room' = (a : Wrote) × (r ≡ written_of a) × Ends (EitherAbove type len) (size_of type + size_of len) room a room'
-
-pub header_ends : (w : World) → OfHeader w HeaderEnds
-header_ends w = of_header w HeaderEnds (λ type len room r room' m. writes.lent_header_ends type len m)
 
 -- an integer frame, whatever is sent behind it
 abbrev pub IntegerFrameRead : FrameSays
 IntegerFrameRead type value room r room' = r.number ≡ 0 → BeginsFrame type value r.count room room'
 
-pub integer_frame_read : (w : World) → OfIntegerFrame w IntegerFrameRead
-integer_frame_read w = of_integer_frame w IntegerFrameRead (λ type value room r room' m. writes.lent_integer_frame_read type value m)
-
 abbrev pub IntegerFrameShortest : FrameSays
 IntegerFrameShortest type value room r room' = r.number ≡ 0 → (bs : List ℕ) (from len : ℕ) (payload : List ℕ) → Bytes bs → writes.first_of (frames_from 0 bs) ≡ some (head 0 from type len, payload)
     → (next : ℕ) (rest : List ℕ) → integer 0 payload ≡ got value next rest → r.count ≤ from + next
 
-pub integer_frame_shortest : (w : World) → OfIntegerFrame w IntegerFrameShortest
-integer_frame_shortest w = of_integer_frame w IntegerFrameShortest (λ type value room r room' m z bs from len payload b e next rest. writes.lent_integer_frame_shortest type value m z b e)
-
 abbrev pub IntegerFrameEnds : FrameSays
 IntegerFrameEnds type value room r room' = (a : Wrote) × (r ≡ written_of a) × Ends (EitherAbove type value) (size_of type + 1 + size_of value) room a room'
-
-pub integer_frame_ends : (w : World) → OfIntegerFrame w IntegerFrameEnds
-integer_frame_ends w = of_integer_frame w IntegerFrameEnds (λ type value room r room' m. writes.lent_integer_frame_ends type value m)
 
 -- our control opening
 abbrev pub OpeningRead : RoomSays
 OpeningRead room r room' = r.number ≡ 0 → (r.count ≡ 12) × (room' ≡ twelve ++ drop 12 room) × OpensControl twelve
 
-pub opening_read : (w : World) → OfOpening w OpeningRead
-opening_read w = of_opening w OpeningRead (λ room r room' m. writes.lent_opening_read m)
-
 abbrev pub OpeningEnds : RoomSays
 OpeningEnds room r room' = (a : Wrote) × (r ≡ written_of a) × Ends ⊥ 12 room a room'
-
-pub opening_ends : (w : World) → OfOpening w OpeningEnds
-opening_ends w = of_opening w OpeningEnds (λ room r room' m. writes.lent_opening_ends m)
 
 -- our GOAWAY, whatever is sent behind it
 abbrev pub GoawayRead : GoawaySays
 GoawayRead c id room r c' room' = r.number ≡ 0 → BeginsFrame 7 id r.count room room'
 
-pub goaway_read : (w : World) → OfGoaway w GoawayRead
-goaway_read w = of_goaway w GoawayRead (λ c id room r c' room' m. writes.goaway_read m)
-
 abbrev pub GoawayShortest : GoawaySays
 GoawayShortest c id room r c' room' = r.number ≡ 0 → (bs : List ℕ) (from len : ℕ) (payload : List ℕ) → Bytes bs → writes.first_of (frames_from 0 bs) ≡ some (head 0 from 7 len, payload)
     → (next : ℕ) (rest : List ℕ) → integer 0 payload ≡ got id next rest → r.count ≤ from + next
-
-pub goaway_shortest : (w : World) → OfGoaway w GoawayShortest
-goaway_shortest w = of_goaway w GoawayShortest (λ c id room r c' room' m z bs from len payload b e next rest. writes.goaway_shortest m z b e)

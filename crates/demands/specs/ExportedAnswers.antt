@@ -22,26 +22,20 @@ use Rattle.demands.specs.OneWayReads.{fault_by, close_answer}
 use Rattle.demands.specs.Demands.{Calls}
 use Rattle.demands.specs.Refusals.{number_of}
 use Rattle.demands.specs.Means.{report_of}
-use Rattle.demands.specs.Runs.{Seen, a_report, seen_of, OfHouse, Does, feeds, gives, ends, resets}
+use Rattle.demands.specs.Runs.{Seen, a_report, seen_of, OfHouse, Does}
 use Rattle.demands.specs.Only.{not_held, running_is_held, shut, shut_exactly}
 use Rattle.demands.specs.Others as others
 use Rattle.demands.specs.Others.{NotHouse, verdict_in, Answers, is_dead, is_shut, feed_waits, feed_reads, section_undue, section_unread, section_read, end_judged, reset_done, Answers₁}
-use Rattle.demands.specs.Host.{Run, shows, answers, reports, report_number}
-use Rattle.demands.specs.Exports.{CallSays, StreamSays, FeedSays, GiveSays, World, Every, every, OfFeed, of_feed, OfGive, of_give, OfEnd, of_end, OfReset, of_reset}
+use Rattle.demands.specs.Host.{Run, shows, reports, report_number}
+use Rattle.demands.specs.Exports.{CallSays, StreamSays, FeedSays, GiveSays}
 
 -- ---- EVERY CALL: what a host sees of it is what the definitions answer to it
 abbrev pub AsTraced : CallSays
 AsTraced c rows k x c' rows' = (ks : Calls) (xs : List Seen) → Run ks xs c rows → x ≡ seen_of k (call k (run fresh ks)).answer
 
-pub as_traced : (w : World) → Every w AsTraced
-as_traced w = every w AsTraced (λ c rows k x c' rows' m ks xs r. answers r m)
-
 -- ON A DEAD CONNECTION, every call but start: its code, and nothing else
 abbrev pub DeadSays : CallSays
 DeadSays c rows k x c' rows' = (ks : Calls) (xs : List Seen) → Run ks xs c rows → (f : ConnectionFault) → (ledger (trace fresh ks)).dead ≡ some f → Later k → x ≡ seen_of k (code (of_connection f) 0 0)
-
-pub dead_says : (w : World) → Every w DeadSays
-dead_says w = every w DeadSays (λ c rows k x c' rows' m ks xs r f d l. answers r m ∙ ap (λ y. seen_of k y.answer) (others.dead_stays ks k f l d))
 
 -- ---- A CALL ON A STREAM
 
@@ -139,29 +133,17 @@ module _ (ks : Calls) (id : ℕ) (o : Own streams) where
 
 -- ---- OF EACH FUNCTION
 
-so : {ks : Calls} {xs : List Seen} {c : Connection} {rows : List Record} {id : ℕ} {o : Own streams} {r : Report} {c' : Connection} {rows' : List Record} → Run ks xs c rows → Does c rows (on id o) (a_report r) c' rows' → Says ks id o r
+pub so : {ks : Calls} {xs : List Seen} {c : Connection} {rows : List Record} {id : ℕ} {o : Own streams} {r : Report} {c' : Connection} {rows' : List Record} → Run ks xs c rows → Does c rows (on id o) (a_report r) c' rows' → Says ks id o r
 so {ks} {id = id} {o = o} s m = subst (Says ks id o) (sym (reports s (on id o) m)) (says ks id o)
 
 abbrev pub FeedAnswered : FeedSays
 FeedAnswered c rows id piece allow r c' rows' = (ks : Calls) (xs : List Seen) → Run ks xs c rows → Says ks id (feed allow piece) r
 
-pub feed_reports : (w : World) → OfFeed w FeedAnswered
-feed_reports w = of_feed w FeedAnswered (λ c rows id piece allow r c' rows' m ks xs s. so s (feeds m))
-
 abbrev pub GiveAnswered : GiveSays
 GiveAnswered c rows id block r c' rows' = (ks : Calls) (xs : List Seen) → Run ks xs c rows → Says ks id (section block) r
-
-pub give_reports : (w : World) → OfGive w GiveAnswered
-give_reports w = of_give w GiveAnswered (λ c rows id block r c' rows' m ks xs s. so s (gives m))
 
 abbrev pub EndAnswered : StreamSays
 EndAnswered c rows id r c' rows' = (ks : Calls) (xs : List Seen) → Run ks xs c rows → Says ks id end r
 
-pub end_reports : (w : World) → OfEnd w EndAnswered
-end_reports w = of_end w EndAnswered (λ c rows id r c' rows' m ks xs s. so s (ends m))
-
 abbrev pub ResetAnswered : StreamSays
 ResetAnswered c rows id r c' rows' = (ks : Calls) (xs : List Seen) → Run ks xs c rows → Says ks id reset r
-
-pub reset_reports : (w : World) → OfReset w ResetAnswered
-reset_reports w = of_reset w ResetAnswered (λ c rows id r c' rows' m ks xs s. so s (resets m))

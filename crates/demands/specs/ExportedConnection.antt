@@ -49,7 +49,7 @@ use Rattle.demands.specs.Demands.{Calls}
 use Rattle.demands.specs.Runs.{Seen, Does, starts, opens_one, feeds, gives, ends, resets, goes_away, number_in}
 use Rattle.demands.specs.Host.{Run, begun, then_called, meant}
 use Rattle.demands.specs.Said.{told_in, said_is_told}
-use Rattle.demands.specs.Exports.{CallSays, World, Every, every}
+use Rattle.demands.specs.Exports.{CallSays}
 use Rattle.demands.specs.InMemory.{fed_by}
 use Rattle.demands.specs.ExportedRecords.{FirstOf, first_of, starts_anew}
 
@@ -246,7 +246,7 @@ said_leaves {c} {id = id} {room = room} m z =
     let g = m.goes.is ∙ ap gone_by m.goes.sends.answers in
     m.conn_left ∙ ap (λ y. with_doors c y.doors) g ∙ ap (with_doors c) (gone_doors d id w (write_not_zero d.code d id (length room)) (sym (ap (λ y. y.written.number) g) ∙ sym (ap (λ y. y.number) m.answered) ∙ z))
 
-leaves_connection : {c : Connection} {rows : List Record} {k : Call streams} {x : Seen} {c' : Connection} {rows' : List Record} → Does c rows k x c' rows' → length rows ≡ 24 → number_in x ≡ 0 → LeavesConnection k c rows c' rows'
+pub leaves_connection : {c : Connection} {rows : List Record} {k : Call streams} {x : Seen} {c' : Connection} {rows' : List Record} → Does c rows k x c' rows' → length rows ≡ 24 → number_in x ≡ 0 → LeavesConnection k c rows c' rows'
 unfolding number_in
 leaves_connection (starts m) long z = ((starts_anew m).anew long).1
 leaves_connection {c} (opens_one {id = id} m) long z = subst (SpendsNext id c) (sym m.conn_left) (turned_spends (accepted m z) m.turned)
@@ -259,9 +259,6 @@ leaves_connection (goes_away m) long z = said_leaves m z
 -- AFTER A CALL THAT IS ACCEPTED, whatever memory is lent with a row of 24
 abbrev pub LeavesTheConnection : CallSays
 LeavesTheConnection c rows k x c' rows' = length rows ≡ 24 → number_in x ≡ 0 → LeavesConnection k c rows c' rows'
-
-pub accepted_connection : (w : World) → Every w LeavesTheConnection
-accepted_connection w = every w LeavesTheConnection (λ c rows k x c' rows' m. leaves_connection m)
 
 -- ---- WHAT THE CONNECTION'S RECORD KEEPS OF THE CLIENT, every number of it
 
@@ -332,19 +329,13 @@ kept_by_run {ks} r =
 abbrev pub KeepsExactly : CallSays
 KeepsExactly c rows k x c' rows' = (ks : Calls) (xs : List Seen) → Run ks xs c rows → c'.side.kept ≡ kept_numbers (told_in (trace fresh (ks ++ (k ∷ []))))
 
-pub keeps_exactly : (w : World) → Every w KeepsExactly
-keeps_exactly w = every w KeepsExactly (λ c rows k x c' rows' m ks xs r. kept_by_run (then_called r m))
-
 -- and before any settings every one of them is 0
 abbrev pub KeepsNothingYet : CallSays
 KeepsNothingYet c rows k x c' rows' = (ks : Calls) (xs : List Seen) → Run ks xs c rows → told_in (trace fresh (ks ++ (k ∷ []))) ≡ unset → c'.side.kept ≡ nothing_said
 
-none_yet : {ks : Calls} {xs : List Seen} {c : Connection} {rows : List Record} → Run ks xs c rows → told_in (trace fresh ks) ≡ unset → c.side.kept ≡ nothing_said
+pub none_yet : {ks : Calls} {xs : List Seen} {c : Connection} {rows : List Record} → Run ks xs c rows → told_in (trace fresh ks) ≡ unset → c.side.kept ≡ nothing_said
 unfolding kept_numbers
 none_yet r e = kept_by_run r ∙ ap kept_numbers e
-
-pub keeps_nothing_yet : (w : World) → Every w KeepsNothingYet
-keeps_nothing_yet w = every w KeepsNothingYet (λ c rows k x c' rows' m ks xs r. none_yet (then_called r m))
 
 -- as an instance: not these, which say that no settings have come beside a limit, a GOAWAY and a MAX_PUSH_ID
 rubbish : ¬ (record { set = 0; limited = 1; size = 1; capacity = 4_096; blocked = 100; goaways = 1; goaway = push_id 0; pushes = 1; push = push_id 0 } ≡ nothing_said)

@@ -6,43 +6,28 @@ use Rattle.rules.specs.Calls.{request, kind_of, house}
 use Rattle.demands.specs.LongerStreams.{header_of}
 use Rattle.demands.specs.Demands.{Calls}
 use Rattle.demands.specs.Runs.{Seen, seen_of, number_in}
-use Rattle.demands.specs.Host.{Run, then_called, shows}
-use Rattle.demands.specs.Exports.{CallSays, World, Every, every}
-use Rattle.demands.specs.InMemory.{Refused, refused_in_memory, IsStreamFault, AfterStreamFault, stream_fault}
-use Rattle.demands.specs.Rebuilt.{Which, the_sections, rebuilt, shown_of, rebuilt_is, header_first, LentRow, nine_so}
+use Rattle.demands.specs.Host.{Run, shows}
+use Rattle.demands.specs.Exports.{CallSays}
+use Rattle.demands.specs.InMemory.{Refused, IsStreamFault, AfterStreamFault}
+use Rattle.demands.specs.Rebuilt.{Which, the_sections, rebuilt, shown_of, LentRow}
 
 -- A REFUSAL, any number but 0, whatever memory is lent: what its report hands over, counts and is numbered
 abbrev pub ReportsRefusal : CallSays
 ReportsRefusal c rows k x c' rows' = ¬ (number_in x ≡ 0) → Refused c k x
 
-pub demand_1_report : (w : World) → Every w ReportsRefusal
-demand_1_report w = every w ReportsRefusal (λ c rows k x c' rows' m. refused_in_memory m)
-
 -- A STREAM FAULT on a live connection: the record freed or the ID spent, and no other byte altered
 abbrev pub FreesOne : CallSays
 FreesOne c rows k x c' rows' = c.doors.code ≡ 0 → IsStreamFault (number_in x) → AfterStreamFault k c rows c' rows'
-
-pub demand_1_stream_fault : (w : World) → Every w FreesOne
-demand_1_stream_fault w = every w FreesOne (λ c rows k x c' rows' m a. stream_fault a m)
 
 -- A ROW OF ANOTHER LENGTH: 9, and neither record altered, so a run goes on as if the call had not been
 abbrev pub AnswersNine : CallSays
 AnswersNine c rows k x c' rows' = LentRow k → ¬ (length rows ≡ 24) → (c' ≡ c) × (rows' ≡ rows) × (x ≡ seen_of k (house other_row))
 
-pub demand_1_nine : (w : World) → Every w AnswersNine
-demand_1_nine w = every w AnswersNine (λ c rows k x c' rows' m l n. nine_so l n m)
-
 -- WHAT A HOST PUTS TOGETHER from its pieces and the reports, after every call of a run, is what the trace shows of each stream
 abbrev pub Rebuilds : CallSays
 Rebuilds c rows k x c' rows' = (ks : Calls) (xs : List Seen) → Run ks xs c rows → (w : Which) (id : ℕ) → rebuilt w id (ks ++ (k ∷ [])) (xs ++ (x ∷ [])) ≡ shown_of w (shows id (ks ++ (k ∷ []))).shown
-
-pub demand_2_rebuilt : (w : World) → Every w Rebuilds
-demand_2_rebuilt w = every w Rebuilds (λ c rows k x c' rows' m ks xs r which id. rebuilt_is (then_called r m) which id)
 
 -- and the header section's bytes, as demand 3 speaks of them, come first among the section bytes
 abbrev pub HeaderFirst : CallSays
 HeaderFirst c rows k x c' rows' = (ks : Calls) (xs : List Seen) → Run ks xs c rows → (id : ℕ) → kind_of id ≡ some request → let s = (shows id (ks ++ (k ∷ []))).shown in
     (later : List ℕ) × (rebuilt the_sections id (ks ++ (k ∷ [])) (xs ++ (x ∷ [])) ≡ (header_of s.bytes s.sections).bytes ++ later)
-
-pub demand_3_header : (w : World) → Every w HeaderFirst
-demand_3_header w = every w HeaderFirst (λ c rows k x c' rows' m ks xs r id q. header_first (then_called r m) id q)

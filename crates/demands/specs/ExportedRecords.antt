@@ -48,10 +48,10 @@ use Rattle.demands.specs.Streams.{streams}
 use Rattle.demands.specs.Demands.{Calls}
 use Rattle.demands.specs.Means.{pair_of, report_of}
 use Rattle.demands.specs.Runs.{Seen, a_written, Does, starts, opens_one, feeds, gives, ends, resets, goes_away, number_in, start_nine, fault_alters, SettingsAre}
-use Rattle.demands.specs.Host.{Run, then_called, meant}
+use Rattle.demands.specs.Host.{Run}
 use Rattle.demands.specs.InMemory.{IsStreamFault, turned_freed, stream_fault}
-use Rattle.demands.specs.Said.{told_in, said_is_told}
-use Rattle.demands.specs.Exports.{CallSays, World, OfStart, of_start, Every, every}
+use Rattle.demands.specs.Said.{told_in}
+use Rattle.demands.specs.Exports.{CallSays}
 
 -- ---- DEFINITION: what a start leaves
 
@@ -116,10 +116,6 @@ starts_anew {c} {rows} m = record {
       (m.answered ∙ ap (λ y. y.number) b, m.conn_left ∙ ap (λ y. y.conn) b, m.rows_left ∙ swept_all (length rows) long rows ∙ ap (λ k. replicate k free_record) long);
   refused = λ other. let u = start_nine other m in (u.2, u.0, u.1);
 }
-
--- EVERY START, whatever memory it is lent, a dead connection's too
-pub start_exactly : (w : World) → OfStart w StartsAnew
-start_exactly w = of_start w StartsAnew (λ c rows n c' rows' m. starts_anew m)
 
 -- and over traces
 pub start_accepted : (p : Pair streams) → call start p ≡ same (gave done) fresh
@@ -312,7 +308,7 @@ opened_lowest long m z =
     let u = turned_opens (accepted long m z) refl m.turned in
     (m.found.at, lowest_free m.is_found (let l = u.0 in omega arith), set_to long m u.1)
 
-leaves_row : {c : Connection} {rows : List Record} {k : Call streams} {x : Seen} {c' : Connection} {rows' : List Record} → Does c rows k x c' rows' → length rows ≡ 24 → number_in x ≡ 0 → LeavesRow k rows rows'
+pub leaves_row : {c : Connection} {rows : List Record} {k : Call streams} {x : Seen} {c' : Connection} {rows' : List Record} → Does c rows k x c' rows' → length rows ≡ 24 → number_in x ≡ 0 → LeavesRow k rows rows'
 unfolding number_in
 leaves_row (starts m) long z = ((starts_anew m).anew long).2
 leaves_row (opens_one m) long z = opened_lowest long m z
@@ -326,10 +322,7 @@ leaves_row (goes_away m) long z = refl
 abbrev pub AltersOne : CallSays
 AltersOne c rows k x c' rows' = length rows ≡ 24 → number_in x ≡ 0 → LeavesRow k rows rows'
 
-pub accepted_alters_one : (w : World) → Every w AltersOne
-accepted_alters_one w = every w AltersOne (λ c rows k x c' rows' m. leaves_row m)
-
-fault_leaves_row : {c : Connection} {rows : List Record} {k : Call streams} {x : Seen} {c' : Connection} {rows' : List Record} → Does c rows k x c' rows' → c.doors.code ≡ 0 → length rows ≡ 24 → IsStreamFault (number_in x) → FaultLeavesRow k rows rows'
+pub fault_leaves_row : {c : Connection} {rows : List Record} {k : Call streams} {x : Seen} {c' : Connection} {rows' : List Record} → Does c rows k x c' rows' → c.doors.code ≡ 0 → length rows ≡ 24 → IsStreamFault (number_in x) → FaultLeavesRow k rows rows'
 unfolding number_in
 fault_leaves_row (starts m) a long z = absurd (stream_fault a (starts m) z)
 fault_leaves_row (opens_one m) a long z = (stream_fault a (opens_one m) z).1
@@ -343,9 +336,6 @@ fault_leaves_row {c} {rows} (goes_away {c' = c'} {w = w} {id = id} {room = room}
 abbrev pub FaultFreesOne : CallSays
 FaultFreesOne c rows k x c' rows' = c.doors.code ≡ 0 → length rows ≡ 24 → IsStreamFault (number_in x) → FaultLeavesRow k rows rows'
 
-pub fault_frees_one : (w : World) → Every w FaultFreesOne
-fault_frees_one w = every w FaultFreesOne (λ c rows k x c' rows' m. fault_leaves_row m)
-
 -- AFTER A CONNECTION FAULT of a call on a stream, whatever memory is lent: the code is kept, and every other byte is as it was
 abbrev pub OnStream : Call streams → Type 0
 OnStream start = ⊥
@@ -356,7 +346,7 @@ OnStream (goaway id room) = ⊥
 abbrev pub KeepsCode : CallSays
 KeepsCode c rows k x c' rows' = OnStream k → Fault (number_in x) → (c' ≡ with_code (number_in x) c) × (rows' ≡ rows)
 
-keeps_code : {c : Connection} {rows : List Record} {k : Call streams} {x : Seen} {c' : Connection} {rows' : List Record} → Does c rows k x c' rows' → KeepsCode c rows k x c' rows'
+pub keeps_code : {c : Connection} {rows : List Record} {k : Call streams} {x : Seen} {c' : Connection} {rows' : List Record} → Does c rows k x c' rows' → KeepsCode c rows k x c' rows'
 unfolding number_in
 keeps_code (starts m) l z = absurd l
 keeps_code (opens_one m) l z = absurd l
@@ -366,16 +356,10 @@ keeps_code (ends m) l z = fault_alters refl m z
 keeps_code (resets m) l z = fault_alters refl m z
 keeps_code (goes_away m) l z = absurd l
 
-pub fault_keeps_code : (w : World) → Every w KeepsCode
-fault_keeps_code w = every w KeepsCode (λ c rows k x c' rows' m. keeps_code m)
-
 -- ---- WHAT IS LEFT MEANS WHAT THE TRACE LEAVES, after every call of a run: the state of each stream (of a request its stated length and its sum too), and the
 -- connection
 abbrev pub LeavesAsTraced : CallSays
 LeavesAsTraced c rows k x c' rows' = (ks : Calls) (xs : List Seen) → Run ks xs c rows → pair_of c' rows' ≡ run fresh (ks ++ (k ∷ []))
-
-pub leaves_as_traced : (w : World) → Every w LeavesAsTraced
-leaves_as_traced w = every w LeavesAsTraced (λ c rows k x c' rows' m ks xs r. (meant (then_called r m)).holds)
 
 -- ---- WHAT THE CONNECTION'S RECORD KEEPS OF THE CLIENT
 
@@ -386,7 +370,7 @@ KeptIs c (has-set s g m) =
     let k = c.side.kept in
     SettingsAre c s.section_size s.table_capacity s.blocked_streams × (some_if k.goaways k.goaway.0 ≡ g) × (some_if k.pushes k.push.0 ≡ m)
 
-kept_is : (c : Connection) (p : Control) → control_of (side_in c).kept ≡ p → KeptIs c p
+pub kept_is : (c : Connection) (p : Control) → control_of (side_in c).kept ≡ p → KeptIs c p
 kept_is c p e = by c.side.kept.set refl p e
   where
     by : (n : ℕ) → c.side.kept.set ≡ n → (p : Control) → control_at n (side_in c).kept ≡ p → KeptIs c p
@@ -407,7 +391,3 @@ fresh_keeps_none = refl
 -- and after every call of a run: what the notices have reported since the last start
 abbrev pub KeepsWhatWasTold : CallSays
 KeepsWhatWasTold c rows k x c' rows' = (ks : Calls) (xs : List Seen) → Run ks xs c rows → KeptIs c' (told_in (trace fresh (ks ++ (k ∷ []))))
-
-pub keeps_what_was_told : (w : World) → Every w KeepsWhatWasTold
-keeps_what_was_told w = every w KeepsWhatWasTold (λ c rows k x c' rows' m ks xs r.
-    kept_is c' (told_in (trace fresh (ks ++ (k ∷ [])))) (ap (λ p. p.conn.kept.said) (meant (then_called r m)).holds ∙ said_is_told (ks ++ (k ∷ []))))

@@ -54,7 +54,7 @@ use Rattle.calls.specs.contracts.eistulko_write_opening as Opening
 use Rattle.calls.proofs.eistulko_write_opening.Symbol as Opening-is
 use Rattle.calls.proofs.eistulko_write_opening.Met as Opening-has
 use Rattle.demands.specs.Streams.{streams}
-use Rattle.demands.specs.Runs.{Seen, a_number, a_report, a_written, Does, starts, opens_one, feeds, gives, ends, resets, goes_away}
+use Rattle.demands.specs.Runs.{Seen, a_number, a_report, a_written}
 
 -- which functions they are, by the name in the source
 pub named : ◌≡◌ {A = List Symbol} (Start-is.symbol ∷ Open-is.symbol ∷ Feed-is.symbol ∷ Give-is.symbol ∷ End-is.symbol ∷ Reset-is.symbol ∷ Goaway-is.symbol ∷ Header-is.symbol ∷ IntegerFrame-is.symbol ∷ Opening-is.symbol ∷ [])
@@ -166,20 +166,6 @@ module _ (w : World) where
     pub eistulko_end : OfEnd (λ c rows id r c' rows'. Q c rows (on id end) (a_report r) c' rows')
     pub eistulko_reset : OfReset (λ c rows id r c' rows'. Q c rows (on id reset) (a_report r) c' rows')
     pub eistulko_goaway : OfGoaway (λ c id room r c' room'. (rows : List Record) → Q c rows (goaway id (length room)) (a_written r) c' rows)
-
-  -- and so whatever follows from what a call does
-  module _ (Q : CallSays)
-      (h : (c : Connection) (rows : List Record) (k : Call streams) (x : Seen) (c' : Connection) (rows' : List Record) → Does c rows k x c' rows' → Q c rows k x c' rows') where
-    pub every : Every Q
-    every = record {
-      eistulko_start = of_start _ (λ c rows n c' rows' m. h _ _ _ _ _ _ (starts m));
-      eistulko_open = of_open _ (λ c rows id r c' rows' m. h _ _ _ _ _ _ (opens_one m));
-      eistulko_feed = of_feed _ (λ c rows id piece allow r c' rows' m. h _ _ _ _ _ _ (feeds m));
-      eistulko_give = of_give _ (λ c rows id block r c' rows' m. h _ _ _ _ _ _ (gives m));
-      eistulko_end = of_end _ (λ c rows id r c' rows' m. h _ _ _ _ _ _ (ends m));
-      eistulko_reset = of_reset _ (λ c rows id r c' rows' m. h _ _ _ _ _ _ (resets m));
-      eistulko_goaway = of_goaway (λ c id room r c' room'. (rows : List Record) → Q c rows (goaway id (length room)) (a_written r) c' rows) (λ c id room r c' room' m rows. h _ _ _ _ _ _ (goes_away m));
-    }
 
   -- ---- the plain writes
 

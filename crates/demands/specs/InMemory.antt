@@ -23,11 +23,11 @@ use Rattle.meaning.specs.NumberLaws.{refusal_named, fault_named, code_high, OfCo
 use Rattle.meaning.specs.Machine as M
 use Rattle.meaning.specs.Machine.{State, Outcome}
 use Rattle.meaning.specs.Feed as F
-use Rattle.meaning.specs.Feeds.{feed_runs}
-use Rattle.meaning.specs.EveryFeed.{feed_allows}
+use Rattle.meaning.proofs.Feeds.{feed_runs}
+use Rattle.meaning.proofs.EveryFeed.{feed_allows}
 use Rattle.meaning.specs.OneWayFeed as O
 use Rattle.meaning.specs.OneWayFeed.{OneState, OneOutcome, OneEvent}
-use Rattle.meaning.specs.OneWays.{one_allows}
+use Rattle.meaning.proofs.OneWays.{one_allows}
 use Rattle.rules.specs.Calls.{feed, section, end, reset, Call, start, open', on, goaway}
 use Rattle.record.specs.declared.Record.{Record}
 use Rattle.record.specs.Row.{free_record}

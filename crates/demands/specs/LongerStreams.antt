@@ -7,8 +7,9 @@ use Rattle.rules.specs.Block.{Section, lines}
 use Rattle.rules.specs.Frames.{frames_from}
 use Rattle.rules.specs.Reading.{Verdict, whole, fault, waits, read, header_bytes}
 use Rattle.rules.specs.Request.{document, request, Header.good as good-header}
-use Rattle.meaning.specs.Longer.{Extra, no_trailers, count_headers, whole_content}
-use Rattle.meaning.specs.Longer as L
+use Rattle.meaning.specs.Longer.{Extra, no_trailers, count_headers}
+use Rattle.meaning.proofs.Longer.{whole_content}
+use Rattle.meaning.proofs.Longer as L
 use Rattle.traces.specs.Demands.{is_legal, Longer}
 use Rattle.demands.specs.Streams.{section_of}
 use Rattle.demands.specs.Reading.{sections_of, reading_of, verdict_by, reading}

@@ -13,11 +13,11 @@ use Rattle.rules.specs.OneWay.{Qpack, Typed, type_rule}
 use Rattle.meaning.specs.IntegerLaws.{integer_length, integer_append}
 use Rattle.meaning.specs.Machine as M
 use Rattle.meaning.specs.Machine.{Prog, State, Outcome, between}
-use Rattle.meaning.specs.Cut.{run_append, read_from_is}
+use Rattle.meaning.proofs.Cut.{run_append, read_from_is}
 use Rattle.meaning.specs.Feed as F
-use Rattle.meaning.specs.Feeds.{feed_runs}
+use Rattle.meaning.proofs.Feeds.{feed_runs}
 use Rattle.meaning.specs.OneWayFeed as O
-use Rattle.meaning.specs.OneWays.{resumed}
+use Rattle.meaning.proofs.OneWays.{resumed}
 use Rattle.rules.specs.Calls.{Event, goes, fed, feed, act₁, one_way, kind_of, telling, Pair, Call, on, gave, act_on, fresh, call, run, trace}
 use Rattle.rules.specs.Shown.{Shown, running, View, nothing, plus_feed, view}
 use Rattle.traces.specs.Alone.{call_on}

@@ -22,10 +22,9 @@ use Rattle.demands.specs.Reading.{sections_of, reading}
 use Rattle.demands.specs.LongerStreams.{first_of, stated_by, header_of, Added}
 use Rattle.demands.specs.Demands.{Calls, legal_exactly, demand_2, half_an_upload}
 use Rattle.demands.specs.Demands as over-traces
-use Rattle.demands.specs.Runs.{Seen, ends}
-use Rattle.demands.specs.Host.{Run, shows, WholeAt, whole_at}
-use Rattle.demands.specs.Exports.{StreamSays, World, OfEnd, of_end}
-use Rattle.demands.specs.Exported.{adds_nothing}
+use Rattle.demands.specs.Runs.{Seen}
+use Rattle.demands.specs.Host.{Run, shows, WholeAt}
+use Rattle.demands.specs.Exports.{StreamSays}
 
 -- ---- the words of the statement
 
@@ -88,13 +87,10 @@ upload_once i j p q cs ds more x y e k u = let s = upload_whole i p cs x u in ov
 abbrev pub WholeUpload : StreamSays
 WholeUpload c rows id r c' rows' = (ks : Calls) (xs : List Seen) → Run ks xs c rows → r.event ≡ WHOLE → let s = (shows id ks).shown in Uploads (first_of s.sections) → StatesAll (first_of s.sections) s.content
 
-states_all : {id : ℕ} {ks : Calls} → WholeAt id ks → let s = (shows id ks).shown in Uploads (first_of s.sections) → StatesAll (first_of s.sections) s.content
+pub states_all : {id : ℕ} {ks : Calls} → WholeAt id ks → let s = (shows id ks).shown in Uploads (first_of s.sections) → StatesAll (first_of s.sections) s.content
 states_all {id} {ks} w =
     subst (λ (v : View streams). v.fate ≡ ended → Uploads (first_of v.shown.sections) → StatesAll (first_of v.shown.sections) v.shown.content) w.ends
     (upload_whole id w.asks (ks ++ (on id end ∷ []))) refl
-
-pub whole_upload : (w : World) → OfEnd w WholeUpload
-whole_upload w = of_end w WholeUpload (λ c rows id r c' rows' m ks xs s e. states_all (whole_at s (ends m) e))
 
 -- and where an end in this run or another reports whole on a longer stream that begins with all its bytes, their header sections decoding alike: the same header
 -- section, the same content, and nothing added but what may be
@@ -103,7 +99,3 @@ UploadOnce c rows i r c' rows' = (ks : Calls) (xs : List Seen) → Run ks xs c r
     → (ls : Calls) (ys : List Seen) (d : Connection) (row : List Record) → Run ls ys d row → (j : ℕ) (p : Report) (d' : Connection) (row' : List Record) → Ended d row j d' row' p → p.event ≡ WHOLE
     → (more : List ℕ) → let s = (shows i ks).shown in let t = (shows j ls).shown in t.bytes ≡ s.bytes ++ more → first_of s.sections ≡ first_of t.sections → Uploads (first_of s.sections)
     → (header_of s.bytes s.sections ≡ header_of t.bytes t.sections) × (s.content ≡ t.content) × Added s.bytes more t.sections
-
-pub one_content : (w : World) → OfEnd w UploadOnce
-one_content w = of_end w UploadOnce (λ c rows i r c' rows' m ks xs s e ls ys d row t j p d' row' o f more q k u.
-    (let a = whole_at s (ends m) e in let n = states_all a u in adds_nothing a (whole_at t (ends o) f) n.n more q k n.states))

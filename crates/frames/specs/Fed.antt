@@ -5,7 +5,8 @@ use Rattle.std.proofs.Math.Nat.{sub-zero}
 use Rattle.std.proofs.Math.Logic.{inl}
 use Rattle.meaning.specs.Machine.{lives}
 use Rattle.meaning.specs.Feed.{quiet, Feeding, halt, feed}
-use Rattle.meaning.specs.FeedLaws.{past, past_none, past_past, feed_due}
+use Rattle.meaning.specs.FeedLaws.{past, past_none, past_past}
+use Rattle.meaning.proofs.FeedLaws.{feed_due}
 use Rattle.rules.specs.Events.{NOTHING, CONTENT}
 use Rattle.frames.specs.Modes.{IN-TYPE, IN-SKIPPED, IN-CONTENT, HEADER-SECTION-DUE, TRAILERS-DUE, IN-SETTINGS, USE-SKIPPED, USE-CONTENT, NO-USE, BODY, at_waiting, at_payload}
 use Rattle.frames.specs.declared.Cells.{Cells}

@@ -4,7 +4,8 @@ use Rattle.std.proofs.Common.{sym, ap, ◌∙◌, add-one, drop-cons}
 use native.Mathlib.Omega.{arith}
 use Rattle.meaning.specs.Machine.{going, value, fed, State, in_type, in_length, typed}
 use Rattle.meaning.specs.Feed.{Feeding, behind_header, feed}
-use Rattle.meaning.specs.FeedLaws.{past, past_none, past_past, type_byte, length_byte, last_byte}
+use Rattle.meaning.specs.FeedLaws.{past, past_none, past_past}
+use Rattle.meaning.proofs.FeedLaws.{type_byte, length_byte, last_byte}
 use Rattle.varint.specs.declared.Part.{Part}
 use Rattle.varint.specs.declared.Step.{Step}
 use Rattle.varint.specs.declared.Step.TheVariants.{More, Done}

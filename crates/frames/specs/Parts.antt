@@ -9,7 +9,8 @@ use Rattle.std.proofs.Math.ListN.{length, take}
 use Rattle.rules.specs.Reading.{Part, Kept, Use, content, section, kept, Next, stop, go, Grammar}
 use Rattle.meaning.specs.Machine.{State, in_payload, Outcome, lives, answered, over, with_left}
 use Rattle.meaning.specs.Feed.{Event, Feeding, halt, onward, judged_event, over_event, left_event, named, taking, feed}
-use Rattle.meaning.specs.FeedLaws.{past, content_feed, section_feed, kept_whole}
+use Rattle.meaning.specs.FeedLaws.{past}
+use Rattle.meaning.proofs.FeedLaws.{content_feed, section_feed, kept_whole}
 
 -- content and sections are shown, a part to a feed
 pub data Shown : Use → Type 0 where

@@ -12,7 +12,8 @@ use Rattle.rules.specs.Events.{NOTHING, FAULT}
 use Rattle.rules.specs.Reading.{header_section, trailers, settings, goaway, max_push_id, cancel_push, Use, content, skipped, section, kept, accept}
 use Rattle.meaning.specs.Machine.{State, in_payload, with_left}
 use Rattle.meaning.specs.Feed.{Feeding, halt, onward, left_event, behind_header, feed}
-use Rattle.meaning.specs.FeedLaws.{past, feed_held, skip_short}
+use Rattle.meaning.specs.FeedLaws.{past}
+use Rattle.meaning.proofs.FeedLaws.{feed_held, skip_short}
 use Rattle.varint.specs.ByByte.{prog}
 use Rattle.frames.specs.Modes.{IN-TYPE, IN-SKIPPED, IN-CONTENT, IN-HEADER-SECTION, IN-TRAILERS, IN-SETTINGS, IN-GOAWAY, IN-MAX-PUSH-ID, IN-CANCEL-PUSH, USE-SKIPPED, USE-CONTENT, USE-HEADER-SECTION, USE-TRAILERS, USE-SETTINGS, USE-GOAWAY, USE-MAX-PUSH-ID, USE-CANCEL-PUSH, NO-USE, SECTION-MODES, KEPT-MODES, BODY, mode_of}
 use Rattle.frames.specs.declared.Cells.{Cells}

@@ -10,7 +10,8 @@ use Rattle.rules.specs.Integers.{got, integer}
 use Rattle.rules.specs.Message.{opening, body, trailed}
 use Rattle.meaning.specs.Machine.{between, over, with_left}
 use Rattle.meaning.specs.Feed.{Feeding, onward, over_event, left_event, behind_header, feed}
-use Rattle.meaning.specs.FeedLaws.{past, past_none, past_past, header_whole, skip_whole}
+use Rattle.meaning.specs.FeedLaws.{past, past_none, past_past}
+use Rattle.meaning.proofs.FeedLaws.{header_whole, skip_whole}
 use Rattle.meaning.specs.IntegerLaws.{integer_length, integer_rest}
 use Rattle.varint.specs.Whole.{whole_at, end_of, whole_is, Ended, Valued, read_value}
 use Rattle.frames.specs.Modes.{USE-SKIPPED, USE-CONTENT, USE-CANCEL-PUSH, NO-USE, BODY}

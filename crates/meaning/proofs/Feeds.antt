@@ -13,8 +13,8 @@ use Rattle.rules.specs.Block.{Section}
 use Rattle.rules.specs.Reading.{Part, Kept, Use, content, skipped, section, kept, Ruling, refuse, accept, Next, stop, go, Grammar, Verdict, Saying, header, refused, section_byte, content_byte, frame_kept, told, read}
 use Rattle.meaning.specs.Machine.{Prog, Fed, going, value, fed, State, in_type, in_length, in_payload, due, Outcome, lives, dies, between, answered, typed, keep, with_left, ruled, sized, step, given, judged_says, over_says, left_says, rule_says, size_says, says, reads, resumed, supplied, settled, next, tells, finished, begins, run, began, lists}
 use Rattle.meaning.specs.Feed.{Event, quiet, section_bytes, content_bytes, taken, Feeding, halt, also, onward, judged_event, over_event, left_event, behind_header, named, taking, feed, shows}
-use Rattle.meaning.specs.Bridge.{told_cons, told_nil}
-use Rattle.meaning.specs.Cut.{run_append, lists_append, read_is}
+use Rattle.meaning.proofs.Bridge.{told_cons, told_nil}
+use Rattle.meaning.proofs.Cut.{run_append, lists_append, read_is}
 
 -- what is said, without the headers: that is what events show
 unfoldable pub unheaded : List Saying → List Saying

@@ -11,7 +11,7 @@ use Rattle.rules.specs.Numbers.{Code}
 use Rattle.rules.specs.Block.{Section}
 use Rattle.rules.specs.Reading.{Next, stop, go, End, complete, lacking, Grammar, Verdict, whole, fault, waits, ended, read}
 use Rattle.meaning.specs.Machine.{fresh, need, State, in_type, in_length, in_payload, due, Outcome, lives, dies, between, step, finish, Run, reads, stuck, resumed, supplied, settled, next, tells, finished, begins, run, began, lists, fresh_run}
-use Rattle.meaning.specs.Cut.{read_is, run_append, lists_append}
+use Rattle.meaning.proofs.Cut.{read_is, run_append, lists_append}
 
 module _ (G : Grammar) where
   pub stuck_run : (at : ℕ) (v : Verdict) (bs : List ℕ) → run G at (stuck v) bs ≡ stuck v

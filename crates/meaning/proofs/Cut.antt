@@ -9,7 +9,7 @@ use Rattle.std.proofs.Math.ListN.{length}
 use Rattle.rules.specs.Block.{Section}
 use Rattle.rules.specs.Reading.{Grammar, put, read_from, read}
 use Rattle.meaning.specs.Machine.{Run, next, tells, finished, begins, run, began, lists, reading, pieces, fresh_run, joined}
-use Rattle.meaning.specs.Bridge.{put_put, by_bytes_from, by_bytes}
+use Rattle.meaning.proofs.Bridge.{put_put, by_bytes_from, by_bytes}
 
 module _ (G : Grammar) where
   -- THE CUTTING LAW: a piece, then the rest from where it leaves the machine

@@ -1,12 +1,12 @@
 -- An instance of each theorem, so that none is empty. Assumes nothing.
 use Rattle.std.specs.Prelude.{◌≡◌, refl, ℕ, ◌+◌, ◌≤◌, List, [], ◌∷◌, ◌++◌, true, false, length}
-use Rattle.std.proofs.Math.Option.{some}
+use Rattle.std.proofs.Math.Option.{none, some}
 use Rattle.std.proofs.Common.{lit<}
 use Rattle.rules.specs.Numbers.{of_stream, message_error}
 use Rattle.rules.specs.Block.{Section}
 use Rattle.rules.specs.Integers.{got, integer}
 use Rattle.rules.specs.Frames.{frame, frames_from}
-use Rattle.rules.specs.Reading.{header_section, section, whole, read, contents}
+use Rattle.rules.specs.Reading.{header_section, section, whole, fault, read, contents}
 use Rattle.rules.specs.Message.{Message}
 use Rattle.rules.specs.Request.{Rules, all_sound, request}
 use Rattle.rules.specs.OneWay.{encoder, one_way_read}
@@ -15,14 +15,15 @@ use Rattle.rules.specs.Worked.{answer}
 use Rattle.meaning.specs.IntegerLaws.{no_byte, byte, written_reads, shortest}
 use Rattle.meaning.specs.FrameLaws.{head, frame_back}
 use Rattle.meaning.specs.Machine.{fresh, in_payload, lives, between, given, answered, typed, keep, over, with_left, after, fed, supplied, settled, finished, finish, joined, pieces, fresh_run}
-use Rattle.meaning.specs.Cut.{any_cutting}
+use Rattle.meaning.proofs.Cut.{any_cutting}
 use Rattle.meaning.specs.Feed.{section_bytes, feed, halt, also, onward, over_event, left_event, behind_header, named, taking, shows}
-use Rattle.meaning.specs.Feeds.{Call, feed_call, give_call, takes, calls, verdict_of_done}
-use Rattle.meaning.specs.First.{FirstFault, first_fault, early_inside}
+use Rattle.meaning.proofs.Feeds.{Call, feed_call, give_call, takes, calls, verdict_of_done, calls_read}
+use Rattle.meaning.proofs.First.{FirstFault, first_fault, early_inside}
 use Rattle.meaning.specs.Whole.{whole_iff_legal}
-use Rattle.meaning.specs.Longer.{Longer, longer, half_is_never_whole, whole_content}
+use Rattle.meaning.specs.Longer.{Longer}
+use Rattle.meaning.proofs.Longer.{longer, half_is_never_whole, whole_content}
 use Rattle.meaning.specs.OneWayFeed as O
-use Rattle.meaning.specs.OneWays as W
+use Rattle.meaning.proofs.OneWays as W
 
 -- H, then DATA of three bytes: document 01's stream, with Content-Length 3
 unfoldable pub H : List ℕ

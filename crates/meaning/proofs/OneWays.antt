@@ -18,10 +18,10 @@ use Rattle.rules.specs.OneWay.{Qpack, a_control, a_qpack, skipped, Typed, refuse
 use Rattle.meaning.specs.IntegerLaws.{integer_length, integer_append}
 use Rattle.meaning.specs.Machine.{Prog, fresh, need, Fed, going, value, after, fed, State, in_type, in_length, in_payload, due, Outcome, between, Run, reads, stuck, supplied, settled, finished, began, run, lists, fresh_run, answered, typed as machine-typed, keep, over, with_left, ruled, sized, step, next}
 use Rattle.meaning.specs.ControlLaws.{ControlView, v_refused, v_skipped, v_kept, control_view}
-use Rattle.meaning.specs.Cut.{run_append, lists_append, read_from_is}
+use Rattle.meaning.proofs.Cut.{run_append, lists_append, read_from_is}
 use Rattle.meaning.specs.Feed as F
-use Rattle.meaning.specs.Feeds.{Within, shows_also, within_also, unheaded, unheaded_append, headers_in, headers_in_append, feed_runs}
-use Rattle.meaning.specs.EveryFeed.{Stops, feed_stops, ReadsOn, feed_moves, feed_allows}
+use Rattle.meaning.proofs.Feeds.{Within, shows_also, within_also, unheaded, unheaded_append, headers_in, headers_in_append, feed_runs}
+use Rattle.meaning.proofs.EveryFeed.{Stops, feed_stops, ReadsOn, feed_moves, feed_allows}
 use Rattle.meaning.specs.OneWayFeed.{OneState, in_stream_type, in_control, in_qpack, in_skipped, OneOutcome, lives, dies, OneEvent, of_frames, qpack_bytes, OneFeeding, controlled, of_control, halt, also, qpack_feed, kind_feed, typed_feed, type_feed, feed, shows, Call, feed_call, Done, nothing_done, done_then, called, calls}
 
 -- ---- the type, a byte at a time

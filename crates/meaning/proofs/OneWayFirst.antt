@@ -15,11 +15,11 @@ use Rattle.rules.specs.Control.{Control, unset, control}
 use Rattle.rules.specs.OneWay.{encoder, decoder, Kind, a_control, a_qpack, skipped, Typed, refuse, is, once, type_rule, OneWay, untyped, refused, of_control, of_qpack, passed_over, typed, behind_type, one_way_read}
 use Rattle.meaning.specs.IntegerLaws.{integer_length, integer_append}
 use Rattle.meaning.specs.Machine.{Prog, fresh, need, State, in_type, in_length, in_payload, due, Outcome, between, supplied, settled, finish, finished, run, next, fresh_run, step}
-use Rattle.meaning.specs.Cut.{run_append, read_from_is}
+use Rattle.meaning.proofs.Cut.{run_append, read_from_is}
 use Rattle.meaning.specs.TextLaws.{lookup_view, lookup_absent}
-use Rattle.meaning.specs.First.{place_of, stuck_run}
+use Rattle.meaning.proofs.First.{place_of, stuck_run}
 use Rattle.meaning.specs.OneWayFeed.{OneState, lives, dies, Call, nothing_done, calls}
-use Rattle.meaning.specs.OneWays.{resumed, Holds, h_type, h_refused, h_control, h_died, h_qpack, h_skipped, calls_hold, first_holds}
+use Rattle.meaning.proofs.OneWays.{resumed, Holds, h_type, h_refused, h_control, h_died, h_qpack, h_skipped, calls_hold, first_holds}
 
 -- ---- DEFINITION
 

@@ -8,7 +8,7 @@ use mathlib.Core.List.{List, [], ◌∷◌, ◌++◌, map}
 use Rattle.rules.specs.Block.{Section}
 use Rattle.rules.specs.Reading.{Kept, Use, Ruling, refuse, accept, content, skipped, section, kept, Next, stop, go, Grammar, Verdict, whole, fault, waits, Saying, header, refused, section_byte, content_byte, frame_kept, Reading, put, read_from, read, told, ended, End, complete, lacking}
 use Rattle.meaning.specs.Machine.{fresh, need, Fed, going, value, fed, State, in_type, in_length, in_payload, due, Outcome, lives, dies, keep, step, judged_says, over_says, left_says, rule_says, size_says, says, finish, Run, reads, stuck, resumed, supplied, settled, next, tells, finished, begins, reading, fresh_run}
-use Rattle.meaning.specs.Bridge.{by_bytes_from, by_bytes}
+use Rattle.meaning.proofs.Bridge.{by_bytes_from, by_bytes}
 
 -- a saying, k bytes further on
 module _ (k : ℕ) where

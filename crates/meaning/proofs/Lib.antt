@@ -1,0 +1,11 @@
+pub mod Bridge
+pub mod Cut
+pub mod Shift
+pub mod FeedLaws
+pub mod Feeds
+pub mod EveryFeed
+pub mod First
+pub mod OneWays
+pub mod OneWayFirst
+pub mod Longer
+pub mod Instances
