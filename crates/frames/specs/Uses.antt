@@ -96,6 +96,8 @@ refuse_back p code len = high_back p (code_number code) len (let h = code_high c
 data_back : (len : ℕ) (m q : Message) → CarryView len m (goes q) → with_data len (of_request m) ≡ of_request q
 unfolding with_data
 data_back len (body stated sum) q (c_goes f) = refl
+data_back len opening q x' = elim x' [ ]
+data_back len (trailed stated sum) q x'' = elim x'' [ ]
 
 request_back : (t len : ℕ) (m : Message) {r : Ruling Message} → RuleView t len m r → map_ruling of_request r ≡ ruling_at (of_request m) (number_of (map_ruling of_request r)) len
 unfolding number_of use_number ruling_at map_ruling

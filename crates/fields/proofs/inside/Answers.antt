@@ -18,7 +18,7 @@ pub bounds-table-b : goal.bounds-table-b
 bounds-table-b c = omega (arith, c.shared_slice_known-in-loop-i-1.given c.loop-i.i)
 
 pub returns-then-not-has_class : goal.returns-then-not-has_class
-returns-then-not-has_class c = let l = c.loop-i in run_stops c.args.table.now c.requires c.args.class c.args.v.now l.i c.loop-i-test.true (omega (arith, c.shared_slice_known-in-loop-i-1.given l.i)) l.invariant.1 c.has_class.result c.has_class.ensures c.if-not-has_class.true
+returns-then-not-has_class c = let l = c.loop-i in run_stops c.args.table.now c.requires c.args.class c.args.v.now l.i c.loop-i-test.true (omega (arith, c.shared_slice_known-in-loop-i-1.given l.i)) l.invariant.1 c.has_class.result c.has_class.ensures (rw c.if-not-has_class.true)
 
 pub overflow_add-i : goal.overflow_add-i
 overflow_add-i c = omega arith
@@ -27,7 +27,7 @@ pub loop-i-smaller : goal.loop-i-smaller
 loop-i-smaller c = omega arith
 
 pub loop-i-preserved : goal.loop-i-preserved
-loop-i-preserved c = let l = c.loop-i in (search rules, run_goes c.args.table.now c.requires c.args.class c.args.v.now l.i c.loop-i-test.true (omega (arith, c.shared_slice_known-in-loop-i-1.given l.i)) l.invariant.1 c.has_class.result c.has_class.ensures c.if-not-has_class.false)
+loop-i-preserved c = let l = c.loop-i in (search rules, run_goes c.args.table.now c.requires c.args.class c.args.v.now l.i c.loop-i-test.true (omega (arith, c.shared_slice_known-in-loop-i-1.given l.i)) l.invariant.1 c.has_class.result c.has_class.ensures (rw c.if-not-has_class.false))
 
 pub returns : goal.returns
 returns c = let l = c.loop-i in omega (arith, l.invariant.1, run_none (is_in c.args.class) c.args.v.now l.i c.loop-i-test.false)

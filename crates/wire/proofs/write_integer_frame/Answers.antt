@@ -22,7 +22,7 @@ returns-then-room-n c = let s = c.args in frame_short s.room.now s.ftype s.value
 
 pub put-requires-2 : goal.put-requires-2
 put-requires-2 c = let s = c.args in let o = length_one s.room.now s.ftype s.value _ _ c.size-a.ensures c.size-p.ensures in
-    record { holds = omega (arith, o); fits = omega (arith, o, c.put.auto.1.0) }
+    record { holds = omega (arith, o); fits = omega (arith, o) }
 
 pub returns : goal.returns
 returns c = let s = c.args in frame_done s.room.now s.ftype s.value _ _ c.size-a.ensures c.size-p.ensures (omega arith) (omega arith) _ _ _ c.if-room-n.false c.put.ensures c.put-2.ensures c.put-3.ensures

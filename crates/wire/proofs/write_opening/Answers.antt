@@ -27,6 +27,3 @@ shape_of-room c = c.loop-i.invariant.same
 
 pub returns : goal.returns
 returns c = opening_done c.args.room.now _ _ c.if-room-lt12.false c.loop-i-test.false c.loop-i.invariant
-
--- LOST array-read-room : tie.Need-array-read-room invariant-loop decreases-loop
--- array-read-room c = omega arith
