@@ -520,8 +520,8 @@ module _ (r : Record) (o : Heeds r) (d : Side) {c : Cells} {kind : ℕ} (ek : ki
       held_at (suc m) x = unfold closed_by in refl
 
 -- A CALL HAS ONE ANSWER
-pub one_heard : (r : Record) (d : Side) (want : OneState → Heard) (a b : Heard) → HeardAs r d want a → HeardAs r d want b → a ≡ b
-one_heard r d want a b (shut n p) (shut m q) = p ∙ sym q
-one_heard r d want a b (shut n p) (opened o q) = absurd (n o)
-one_heard r d want a b (opened o p) (shut n q) = absurd (n o)
-one_heard r d want a b (opened o p) (opened x q) = p ∙ sym q
+pub one_heard : (r : Record) (d : Side) (said : OneState → Heard) (a b : Heard) → HeardAs r d said a → HeardAs r d said b → a ≡ b
+one_heard r d said a b (shut n p) (shut m q) = p ∙ sym q
+one_heard r d said a b (shut n p) (opened o q) = absurd (n o)
+one_heard r d said a b (opened o p) (shut n q) = absurd (n o)
+one_heard r d said a b (opened o p) (opened x q) = p ∙ sym q

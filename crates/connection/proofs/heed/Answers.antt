@@ -1,0 +1,15 @@
+use Rattle.connection.specs.Ways.{hears_feed, hears_give, hears_end, hears_reset}
+use borrow.Author.Rules.{rules}
+use Rattle.connection.proofs.heed.Goals as goal
+
+pub returns-in-Feed : goal.returns-in-Feed
+returns-in-Feed c = hears_feed _ _ _ _ c.in-Feed.is c.feed.ensures
+
+pub returns-in-Give : goal.returns-in-Give
+returns-in-Give c = hears_give _ _ _ _ c.in-Give.is c.give.ensures
+
+pub returns-in-End : goal.returns-in-End
+returns-in-End c = hears_end _ _ _ _ c.in-End.is c.close.ensures
+
+pub returns-in-Reset : goal.returns-in-Reset
+returns-in-Reset c = hears_reset _ _ _ _ c.in-Reset.is c.close-in-Reset.ensures
