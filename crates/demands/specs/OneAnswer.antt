@@ -5,7 +5,7 @@ use Rattle.std.specs.Prelude.{◌≡◌, refl, ℕ, List, [], ◌∷◌, ◌++�
 use Rattle.std.proofs.Common.{sym, ap, ap₂, ◌∙◌}
 use Rattle.std.proofs.Math.Option.{Option, none, some}
 use base.Logic.{ent, sep, fst∗, snd∗}
-use prog.Routine.{Name}
+use mir.Syntax.{Symbol}
 use contract.Monad.{fact, fact_i, fact_use}
 use contract.Lifetimes.{Lfts}
 use denote.Triple.Entry.{Args, Res}
@@ -293,12 +293,12 @@ module _ (w : World) where
       → ent w.𝓤 (sep w.𝓤 ((c κs a).ensures g r (at_exit T κs a ws)) ((c κs a).ensures g q (at_exit T κs a vs))) (fact w.𝓤 ((r ≡ q) × (ws ≡ vs)))
 
   pub record Function : Type 2 where
-    pub name : Name
+    pub name : Symbol
     pub ended : kit.Ended
     pub clauses : Clauses w.𝓤 ended
     pub leaves_one : LeavesOne ended clauses
 
-  abbrev function : Name → (T : kit.Ended) (c : Clauses w.𝓤 T) → LeavesOne T c → Function
+  abbrev function : Symbol → (T : kit.Ended) (c : Clauses w.𝓤 T) → LeavesOne T c → Function
   function n T c h = record { name = n; ended = T; clauses = c; leaves_one = h }
 
   pub facts : {P Q R : Type 0} → (P → Q → R) → ent w.𝓤 (sep w.𝓤 (fact w.𝓤 P) (fact w.𝓤 Q)) (fact w.𝓤 R)
@@ -309,145 +309,145 @@ module _ (w : World) where
 
   abbrev of_varint : List Function
   of_varint =
-      function varint-fresh-is.name varint-fresh.ended (varint-fresh.clauses w.𝓛 w.𝓜.mem w.𝓡.run) (λ κs a g r q ws vs. equal)
-      ∷ function varint-read-step-is.name varint-read-step.ended (varint-read-step.clauses w.𝓛 w.𝓜.mem w.𝓡.run) (λ κs a g r q ws vs. facts (λ x y. (one_step x y, refl)))
-      ∷ function varint-ends-is.name varint-ends.ended (varint-ends.clauses w.𝓛 w.𝓜.mem w.𝓡.run) (λ κs a g r q ws vs. facts (λ x y. (one_end x y, refl)))
-      ∷ function varint-value-is.name varint-value.ended (varint-value.clauses w.𝓛 w.𝓜.mem w.𝓡.run) (λ κs a g r q ws vs. facts (λ x y. (one_value x y, refl)))
-      ∷ function varint-near-value-is.name varint-near-value.ended (varint-near-value.clauses w.𝓛 w.𝓜.mem w.𝓡.run) (λ κs a g r q ws vs. facts (λ x y. (one_value x y, refl)))
-      ∷ function varint-read-is.name varint-read.ended (varint-read.clauses w.𝓛 w.𝓜.mem w.𝓡.run) (λ κs a g r q ws vs. facts (λ x y. (one_read_integer a.0.now x y, refl)))
-      ∷ function varint-size-is.name varint-size.ended (varint-size.clauses w.𝓛 w.𝓜.mem w.𝓡.run) (λ κs a g r q ws vs. equal)
-      ∷ function varint-put-is.name varint-put.ended (varint-put.clauses w.𝓛 w.𝓜.mem w.𝓡.run) (λ κs a g r q ws vs. facts (λ x y. (refl, ap (λ l. (tt, (l, (tt, tt)))) (one x y))))
-      ∷ function varint-write-is.name varint-write.ended (varint-write.clauses w.𝓛 w.𝓜.mem w.𝓡.run) (λ κs a g r q ws vs. facts (λ x y. let e = one_write x y in (e.0, ap (λ l. (tt, (l, tt))) e.1)))
+      function varint-fresh-is.symbol varint-fresh.ended (varint-fresh.clauses w.𝓛 w.𝓜.mem w.𝓡.returns) (λ κs a g r q ws vs. equal)
+      ∷ function varint-read-step-is.symbol varint-read-step.ended (varint-read-step.clauses w.𝓛 w.𝓜.mem w.𝓡.returns) (λ κs a g r q ws vs. facts (λ x y. (one_step x y, refl)))
+      ∷ function varint-ends-is.symbol varint-ends.ended (varint-ends.clauses w.𝓛 w.𝓜.mem w.𝓡.returns) (λ κs a g r q ws vs. facts (λ x y. (one_end x y, refl)))
+      ∷ function varint-value-is.symbol varint-value.ended (varint-value.clauses w.𝓛 w.𝓜.mem w.𝓡.returns) (λ κs a g r q ws vs. facts (λ x y. (one_value x y, refl)))
+      ∷ function varint-near-value-is.symbol varint-near-value.ended (varint-near-value.clauses w.𝓛 w.𝓜.mem w.𝓡.returns) (λ κs a g r q ws vs. facts (λ x y. (one_value x y, refl)))
+      ∷ function varint-read-is.symbol varint-read.ended (varint-read.clauses w.𝓛 w.𝓜.mem w.𝓡.returns) (λ κs a g r q ws vs. facts (λ x y. (one_read_integer a.0.now x y, refl)))
+      ∷ function varint-size-is.symbol varint-size.ended (varint-size.clauses w.𝓛 w.𝓜.mem w.𝓡.returns) (λ κs a g r q ws vs. equal)
+      ∷ function varint-put-is.symbol varint-put.ended (varint-put.clauses w.𝓛 w.𝓜.mem w.𝓡.returns) (λ κs a g r q ws vs. facts (λ x y. (refl, ap (λ l. (tt, (l, (tt, tt)))) (one x y))))
+      ∷ function varint-write-is.symbol varint-write.ended (varint-write.clauses w.𝓛 w.𝓜.mem w.𝓡.returns) (λ κs a g r q ws vs. facts (λ x y. let e = one_write x y in (e.0, ap (λ l. (tt, (l, tt))) e.1)))
       ∷ []
 
   abbrev of_ids : List Function
   of_ids =
-      function ids-is-request-is.name ids-is-request.ended (ids-is-request.clauses w.𝓛 w.𝓜.mem w.𝓡.run) (λ κs a g r q ws vs. equal)
+      function ids-is-request-is.symbol ids-is-request.ended (ids-is-request.clauses w.𝓛 w.𝓜.mem w.𝓡.returns) (λ κs a g r q ws vs. equal)
       ∷ []
 
   abbrev of_wire : List Function
   of_wire =
-      function wire-write-header-is.name wire-write-header.ended (wire-write-header.clauses w.𝓛 w.𝓜.mem w.𝓡.run) (λ κs a g r q ws vs. facts (λ x y. let e = one_write x y in (e.0, ap (λ l. (tt, (tt, (l, tt)))) e.1)))
-      ∷ function wire-write-integer-frame-is.name wire-write-integer-frame.ended (wire-write-integer-frame.clauses w.𝓛 w.𝓜.mem w.𝓡.run) (λ κs a g r q ws vs. facts (λ x y. let e = one_write x y in (e.0, ap (λ l. (tt, (tt, (l, tt)))) e.1)))
-      ∷ function wire-write-opening-is.name wire-write-opening.ended (wire-write-opening.clauses w.𝓛 w.𝓜.mem w.𝓡.run) (λ κs a g r q ws vs. facts (λ x y. let e = one_write x y in (e.0, ap (λ l. (l, tt)) e.1)))
-      ∷ function wire-write-goaway-is.name wire-write-goaway.ended (wire-write-goaway.clauses w.𝓛 w.𝓜.mem w.𝓡.run) (λ κs a g r q ws vs. facts (λ x y. let e = one_write x y in (e.0, ap (λ l. (tt, (tt, (l, tt)))) e.1)))
+      function wire-write-header-is.symbol wire-write-header.ended (wire-write-header.clauses w.𝓛 w.𝓜.mem w.𝓡.returns) (λ κs a g r q ws vs. facts (λ x y. let e = one_write x y in (e.0, ap (λ l. (tt, (tt, (l, tt)))) e.1)))
+      ∷ function wire-write-integer-frame-is.symbol wire-write-integer-frame.ended (wire-write-integer-frame.clauses w.𝓛 w.𝓜.mem w.𝓡.returns) (λ κs a g r q ws vs. facts (λ x y. let e = one_write x y in (e.0, ap (λ l. (tt, (tt, (l, tt)))) e.1)))
+      ∷ function wire-write-opening-is.symbol wire-write-opening.ended (wire-write-opening.clauses w.𝓛 w.𝓜.mem w.𝓡.returns) (λ κs a g r q ws vs. facts (λ x y. let e = one_write x y in (e.0, ap (λ l. (l, tt)) e.1)))
+      ∷ function wire-write-goaway-is.symbol wire-write-goaway.ended (wire-write-goaway.clauses w.𝓛 w.𝓜.mem w.𝓡.returns) (λ κs a g r q ws vs. facts (λ x y. let e = one_write x y in (e.0, ap (λ l. (tt, (tt, (l, tt)))) e.1)))
       ∷ []
 
   abbrev of_settings : List Function
   of_settings =
-      function settings-judge-is.name settings-judge.ended (settings-judge.clauses w.𝓛 w.𝓜.mem w.𝓡.run) (λ κs a g r q ws vs. facts (λ x y. (one_judged x y, refl)))
-      ∷ function settings-only-is.name settings-only.ended (settings-only.clauses w.𝓛 w.𝓜.mem w.𝓡.run) (λ κs a g r q ws vs. facts (λ x y. (one_single x y, refl)))
+      function settings-judge-is.symbol settings-judge.ended (settings-judge.clauses w.𝓛 w.𝓜.mem w.𝓡.returns) (λ κs a g r q ws vs. facts (λ x y. (one_judged x y, refl)))
+      ∷ function settings-only-is.symbol settings-only.ended (settings-only.clauses w.𝓛 w.𝓜.mem w.𝓡.returns) (λ κs a g r q ws vs. facts (λ x y. (one_single x y, refl)))
       ∷ []
 
   abbrev of_fields : List Function
   of_fields =
-      function fields-has-byte-is.name fields-has-byte.ended (fields-has-byte.clauses w.𝓛 w.𝓜.mem w.𝓡.run) (λ κs a g r q ws vs. equal)
-      ∷ function fields-begins-with-is.name fields-begins-with.ended (fields-begins-with.clauses w.𝓛 w.𝓜.mem w.𝓡.run) (λ κs a g r q ws vs. equal)
-      ∷ function fields-same-bytes-is.name fields-same-bytes.ended (fields-same-bytes.clauses w.𝓛 w.𝓜.mem w.𝓡.run) (λ κs a g r q ws vs. equal)
-      ∷ function fields-any-outside-is.name fields-any-outside.ended (fields-any-outside.clauses w.𝓛 w.𝓜.mem w.𝓡.run) (λ κs a g r q ws vs. equal)
-      ∷ function fields-bad-line-is.name fields-bad-line.ended (fields-bad-line.clauses w.𝓛 w.𝓜.mem w.𝓡.run) (λ κs a g r q ws vs. equal)
-      ∷ function fields-decimal-of-is.name fields-decimal-of.ended (fields-decimal-of.clauses w.𝓛 w.𝓜.mem w.𝓡.run) (λ κs a g r q ws vs. equal)
-      ∷ function fields-line-spot-is.name fields-line-spot.ended (fields-line-spot.clauses w.𝓛 w.𝓜.mem w.𝓡.run) (λ κs a g r q ws vs. facts (λ x y. (one_line_spot x y, refl)))
-      ∷ function fields-line-at-is.name fields-line-at.ended (fields-line-at.clauses w.𝓛 w.𝓜.mem w.𝓡.run) (λ κs a g r q ws vs. equal)
+      function fields-has-byte-is.symbol fields-has-byte.ended (fields-has-byte.clauses w.𝓛 w.𝓜.mem w.𝓡.returns) (λ κs a g r q ws vs. equal)
+      ∷ function fields-begins-with-is.symbol fields-begins-with.ended (fields-begins-with.clauses w.𝓛 w.𝓜.mem w.𝓡.returns) (λ κs a g r q ws vs. equal)
+      ∷ function fields-same-bytes-is.symbol fields-same-bytes.ended (fields-same-bytes.clauses w.𝓛 w.𝓜.mem w.𝓡.returns) (λ κs a g r q ws vs. equal)
+      ∷ function fields-any-outside-is.symbol fields-any-outside.ended (fields-any-outside.clauses w.𝓛 w.𝓜.mem w.𝓡.returns) (λ κs a g r q ws vs. equal)
+      ∷ function fields-bad-line-is.symbol fields-bad-line.ended (fields-bad-line.clauses w.𝓛 w.𝓜.mem w.𝓡.returns) (λ κs a g r q ws vs. equal)
+      ∷ function fields-decimal-of-is.symbol fields-decimal-of.ended (fields-decimal-of.clauses w.𝓛 w.𝓜.mem w.𝓡.returns) (λ κs a g r q ws vs. equal)
+      ∷ function fields-line-spot-is.symbol fields-line-spot.ended (fields-line-spot.clauses w.𝓛 w.𝓜.mem w.𝓡.returns) (λ κs a g r q ws vs. facts (λ x y. (one_line_spot x y, refl)))
+      ∷ function fields-line-at-is.symbol fields-line-at.ended (fields-line-at.clauses w.𝓛 w.𝓜.mem w.𝓡.returns) (λ κs a g r q ws vs. equal)
       ∷ []
 
   abbrev of_section : List Function
   of_section =
-      function section-code-is.name section-code.ended (section-code.clauses w.𝓛 w.𝓜.mem w.𝓡.run) (λ κs a g r q ws vs. equal)
-      ∷ function section-header-section-is.name section-header-section.ended (section-header-section.clauses w.𝓛 w.𝓜.mem w.𝓡.run) (λ κs a g r q ws vs. equal)
-      ∷ function section-trailers-is.name section-trailers.ended (section-trailers.clauses w.𝓛 w.𝓜.mem w.𝓡.run) (λ κs a g r q ws vs. equal)
+      function section-code-is.symbol section-code.ended (section-code.clauses w.𝓛 w.𝓜.mem w.𝓡.returns) (λ κs a g r q ws vs. equal)
+      ∷ function section-header-section-is.symbol section-header-section.ended (section-header-section.clauses w.𝓛 w.𝓜.mem w.𝓡.returns) (λ κs a g r q ws vs. equal)
+      ∷ function section-trailers-is.symbol section-trailers.ended (section-trailers.clauses w.𝓛 w.𝓜.mem w.𝓡.returns) (λ κs a g r q ws vs. equal)
       ∷ []
 
   abbrev of_streams : List Function
   of_streams =
-      function streams-ruled-is.name streams-ruled.ended (streams-ruled.clauses w.𝓛 w.𝓜.mem w.𝓡.run) (λ κs a g r q ws vs. equal)
-      ∷ function streams-end-is.name streams-end.ended (streams-end.clauses w.𝓛 w.𝓜.mem w.𝓡.run) (λ κs a g r q ws vs. facts (λ x y. (one_ended a.0 x y, refl)))
+      function streams-ruled-is.symbol streams-ruled.ended (streams-ruled.clauses w.𝓛 w.𝓜.mem w.𝓡.returns) (λ κs a g r q ws vs. equal)
+      ∷ function streams-end-is.symbol streams-end.ended (streams-end.clauses w.𝓛 w.𝓜.mem w.𝓡.returns) (λ κs a g r q ws vs. facts (λ x y. (one_ended a.0 x y, refl)))
       ∷ []
 
   abbrev of_record : List Function
   of_record =
-      function record-cells-in-is.name record-cells-in.ended (record-cells-in.clauses w.𝓛 w.𝓜.mem w.𝓡.run) (λ κs a g r q ws vs. equal)
-      ∷ function record-free-is.name record-free.ended (record-free.clauses w.𝓛 w.𝓜.mem w.𝓡.run) (λ κs a g r q ws vs. equal)
-      ∷ function record-is-free-is.name record-is-free.ended (record-is-free.clauses w.𝓛 w.𝓜.mem w.𝓡.run) (λ κs a g r q ws vs. facts (λ x y. (one_decided r q x y, refl)))
-      ∷ function record-read-is.name record-read.ended (record-read.clauses w.𝓛 w.𝓜.mem w.𝓡.run) (λ κs a g r q ws vs. facts (λ x y. (one_stream a.0 r q x y, refl)))
-      ∷ function record-row-is.name record-row.ended (record-row.clauses w.𝓛 w.𝓜.mem w.𝓡.run) (λ κs a g r q ws vs. facts (λ x y. (one_record a.0 r q x y, refl)))
-      ∷ function record-write-is.name record-write.ended (record-write.clauses w.𝓛 w.𝓜.mem w.𝓡.run) (λ κs a g r q ws vs. facts (λ x y. (one_record a.0 r q x y, refl)))
-      ∷ function record-in-content-is.name record-in-content.ended (record-in-content.clauses w.𝓛 w.𝓜.mem w.𝓡.run) (λ κs a g r q ws vs. equal)
+      function record-cells-in-is.symbol record-cells-in.ended (record-cells-in.clauses w.𝓛 w.𝓜.mem w.𝓡.returns) (λ κs a g r q ws vs. equal)
+      ∷ function record-free-is.symbol record-free.ended (record-free.clauses w.𝓛 w.𝓜.mem w.𝓡.returns) (λ κs a g r q ws vs. equal)
+      ∷ function record-is-free-is.symbol record-is-free.ended (record-is-free.clauses w.𝓛 w.𝓜.mem w.𝓡.returns) (λ κs a g r q ws vs. facts (λ x y. (one_decided r q x y, refl)))
+      ∷ function record-read-is.symbol record-read.ended (record-read.clauses w.𝓛 w.𝓜.mem w.𝓡.returns) (λ κs a g r q ws vs. facts (λ x y. (one_stream a.0 r q x y, refl)))
+      ∷ function record-row-is.symbol record-row.ended (record-row.clauses w.𝓛 w.𝓜.mem w.𝓡.returns) (λ κs a g r q ws vs. facts (λ x y. (one_record a.0 r q x y, refl)))
+      ∷ function record-write-is.symbol record-write.ended (record-write.clauses w.𝓛 w.𝓜.mem w.𝓡.returns) (λ κs a g r q ws vs. facts (λ x y. (one_record a.0 r q x y, refl)))
+      ∷ function record-in-content-is.symbol record-in-content.ended (record-in-content.clauses w.𝓛 w.𝓜.mem w.𝓡.returns) (λ κs a g r q ws vs. equal)
       ∷ []
 
   abbrev of_given_lem : List Function
   of_given_lem =
-      function given-give-is.name given-give.ended (given-give.clauses w.𝓛 w.𝓜.mem w.𝓡.run) (λ κs a g r q ws vs. equal)
+      function given-give-is.symbol given-give.ended (given-give.clauses w.𝓛 w.𝓜.mem w.𝓡.returns) (λ κs a g r q ws vs. equal)
       ∷ []
 
   abbrev of_oneway : List Function
   of_oneway =
-      function oneway-close-is.name oneway-close.ended (oneway-close.clauses w.𝓛 w.𝓜.mem w.𝓡.run) (λ κs a g r q ws vs. facts (λ x y. (one_closed a.0 x y, refl)))
+      function oneway-close-is.symbol oneway-close.ended (oneway-close.clauses w.𝓛 w.𝓜.mem w.𝓡.returns) (λ κs a g r q ws vs. facts (λ x y. (one_closed a.0 x y, refl)))
       ∷ []
 
   abbrev of_control : List Function
   of_control =
-      function control-judge-is.name control-judge.ended (control-judge.clauses w.𝓛 w.𝓜.mem w.𝓡.run) (λ κs a g r q ws vs. equal)
+      function control-judge-is.symbol control-judge.ended (control-judge.clauses w.𝓛 w.𝓜.mem w.𝓡.returns) (λ κs a g r q ws vs. equal)
       ∷ []
 
   abbrev of_requests : List Function
   of_requests =
-      function requests-reset-is.name requests-reset.ended (requests-reset.clauses w.𝓛 w.𝓜.mem w.𝓡.run) (λ κs a g r q ws vs. facts (λ x y. (one_answer a.0 _ r q x y, refl)))
-      ∷ function requests-end-is.name requests-end.ended (requests-end.clauses w.𝓛 w.𝓜.mem w.𝓡.run) (λ κs a g r q ws vs. facts (λ x y. (one_answer a.0 _ r q x y, refl)))
-      ∷ function requests-feed-is.name requests-feed.ended (requests-feed.clauses w.𝓛 w.𝓜.mem w.𝓡.run) (λ κs a g r q ws vs. facts (λ x y. (one_answer a.0 _ r q x.answers y.answers, refl)))
-      ∷ function requests-give-is.name requests-give.ended (requests-give.clauses w.𝓛 w.𝓜.mem w.𝓡.run) (λ κs a g r q ws vs. facts (λ x y. (one_answer a.0 _ r q x.answers y.answers, refl)))
+      function requests-reset-is.symbol requests-reset.ended (requests-reset.clauses w.𝓛 w.𝓜.mem w.𝓡.returns) (λ κs a g r q ws vs. facts (λ x y. (one_answer a.0 _ r q x y, refl)))
+      ∷ function requests-end-is.symbol requests-end.ended (requests-end.clauses w.𝓛 w.𝓜.mem w.𝓡.returns) (λ κs a g r q ws vs. facts (λ x y. (one_answer a.0 _ r q x y, refl)))
+      ∷ function requests-feed-is.symbol requests-feed.ended (requests-feed.clauses w.𝓛 w.𝓜.mem w.𝓡.returns) (λ κs a g r q ws vs. facts (λ x y. (one_answer a.0 _ r q x.answers y.answers, refl)))
+      ∷ function requests-give-is.symbol requests-give.ended (requests-give.clauses w.𝓛 w.𝓜.mem w.𝓡.returns) (λ κs a g r q ws vs. facts (λ x y. (one_answer a.0 _ r q x.answers y.answers, refl)))
       ∷ []
 
   abbrev of_doors : List Function
   of_doors =
-      function doors-fresh-is.name doors-fresh.ended (doors-fresh.clauses w.𝓛 w.𝓜.mem w.𝓡.run) (λ κs a g r q ws vs. equal)
-      ∷ function doors-open-is.name doors-open.ended (doors-open.clauses w.𝓛 w.𝓜.mem w.𝓡.run) (λ κs a g r q ws vs. equal)
-      ∷ function doors-send-goaway-is.name doors-send-goaway.ended (doors-send-goaway.clauses w.𝓛 w.𝓜.mem w.𝓡.run) (λ κs a g r q ws vs. facts (λ x y. let e = sends_one x y in (e.0, ap (λ l. (tt, (tt, (l, tt)))) e.1)))
+      function doors-fresh-is.symbol doors-fresh.ended (doors-fresh.clauses w.𝓛 w.𝓜.mem w.𝓡.returns) (λ κs a g r q ws vs. equal)
+      ∷ function doors-open-is.symbol doors-open.ended (doors-open.clauses w.𝓛 w.𝓜.mem w.𝓡.returns) (λ κs a g r q ws vs. equal)
+      ∷ function doors-send-goaway-is.symbol doors-send-goaway.ended (doors-send-goaway.clauses w.𝓛 w.𝓜.mem w.𝓡.returns) (λ κs a g r q ws vs. facts (λ x y. let e = sends_one x y in (e.0, ap (λ l. (tt, (tt, (l, tt)))) e.1)))
       ∷ []
 
   abbrev of_oneways : List Function
   of_oneways =
-      function oneways-fresh-is.name oneways-fresh.ended (oneways-fresh.clauses w.𝓛 w.𝓜.mem w.𝓡.run) (λ κs a g r q ws vs. equal)
-      ∷ function oneways-feed-is.name oneways-feed.ended (oneways-feed.clauses w.𝓛 w.𝓜.mem w.𝓡.run) (λ κs a g r q ws vs. facts (λ x y. (one_heard a.0 a.1.0 _ r q x.answers y.answers, refl)))
-      ∷ function oneways-give-is.name oneways-give.ended (oneways-give.clauses w.𝓛 w.𝓜.mem w.𝓡.run) (λ κs a g r q ws vs. facts (λ x y. (one_heard a.0 a.1.0 _ r q x y, refl)))
-      ∷ function oneways-close-is.name oneways-close.ended (oneways-close.clauses w.𝓛 w.𝓜.mem w.𝓡.run) (λ κs a g r q ws vs. facts (λ x y. (one_heard a.0 a.1.0 _ r q x y, refl)))
+      function oneways-fresh-is.symbol oneways-fresh.ended (oneways-fresh.clauses w.𝓛 w.𝓜.mem w.𝓡.returns) (λ κs a g r q ws vs. equal)
+      ∷ function oneways-feed-is.symbol oneways-feed.ended (oneways-feed.clauses w.𝓛 w.𝓜.mem w.𝓡.returns) (λ κs a g r q ws vs. facts (λ x y. (one_heard a.0 a.1.0 _ r q x.answers y.answers, refl)))
+      ∷ function oneways-give-is.symbol oneways-give.ended (oneways-give.clauses w.𝓛 w.𝓜.mem w.𝓡.returns) (λ κs a g r q ws vs. facts (λ x y. (one_heard a.0 a.1.0 _ r q x y, refl)))
+      ∷ function oneways-close-is.symbol oneways-close.ended (oneways-close.clauses w.𝓛 w.𝓜.mem w.𝓡.returns) (λ κs a g r q ws vs. facts (λ x y. (one_heard a.0 a.1.0 _ r q x y, refl)))
       ∷ []
 
   abbrev of_connection : List Function
   of_connection =
-      function connection-fresh-is.name connection-fresh.ended (connection-fresh.clauses w.𝓛 w.𝓜.mem w.𝓡.run) (λ κs a g r q ws vs. equal)
-      ∷ function connection-wanted-is.name connection-wanted.ended (connection-wanted.clauses w.𝓛 w.𝓜.mem w.𝓡.run) (λ κs a g r q ws vs. facts (λ x y. (one_decided r q x y, refl)))
-      ∷ function connection-answer-is.name connection-answer.ended (connection-answer.clauses w.𝓛 w.𝓜.mem w.𝓡.run) (λ κs a g r q ws vs. facts (λ x y. (one_near _ _ _ _ _ _ x y, refl)))
-      ∷ function connection-decide-is.name connection-decide.ended (connection-decide.clauses w.𝓛 w.𝓜.mem w.𝓡.run) (λ κs a g r q ws vs. facts (λ x y. (one_turn _ _ _ _ _ _ x y, refl)))
-      ∷ function connection-begin-is.name connection-begin.ended (connection-begin.clauses w.𝓛 w.𝓜.mem w.𝓡.run) (λ κs a g r q ws vs. equal)
-      ∷ function connection-swept-is.name connection-swept.ended (connection-swept.clauses w.𝓛 w.𝓜.mem w.𝓡.run) (λ κs a g r q ws vs. equal)
-      ∷ function connection-say-goaway-is.name connection-say-goaway.ended (connection-say-goaway.clauses w.𝓛 w.𝓜.mem w.𝓡.run) (λ κs a g r q ws vs. facts (λ x y. let e = one_goaway x y in (e.0, ap (λ l. (tt, (tt, (l, tt)))) e.1)))
+      function connection-fresh-is.symbol connection-fresh.ended (connection-fresh.clauses w.𝓛 w.𝓜.mem w.𝓡.returns) (λ κs a g r q ws vs. equal)
+      ∷ function connection-wanted-is.symbol connection-wanted.ended (connection-wanted.clauses w.𝓛 w.𝓜.mem w.𝓡.returns) (λ κs a g r q ws vs. facts (λ x y. (one_decided r q x y, refl)))
+      ∷ function connection-answer-is.symbol connection-answer.ended (connection-answer.clauses w.𝓛 w.𝓜.mem w.𝓡.returns) (λ κs a g r q ws vs. facts (λ x y. (one_near _ _ _ _ _ _ x y, refl)))
+      ∷ function connection-decide-is.symbol connection-decide.ended (connection-decide.clauses w.𝓛 w.𝓜.mem w.𝓡.returns) (λ κs a g r q ws vs. facts (λ x y. (one_turn _ _ _ _ _ _ x y, refl)))
+      ∷ function connection-begin-is.symbol connection-begin.ended (connection-begin.clauses w.𝓛 w.𝓜.mem w.𝓡.returns) (λ κs a g r q ws vs. equal)
+      ∷ function connection-swept-is.symbol connection-swept.ended (connection-swept.clauses w.𝓛 w.𝓜.mem w.𝓡.returns) (λ κs a g r q ws vs. equal)
+      ∷ function connection-say-goaway-is.symbol connection-say-goaway.ended (connection-say-goaway.clauses w.𝓛 w.𝓜.mem w.𝓡.returns) (λ κs a g r q ws vs. facts (λ x y. let e = one_goaway x y in (e.0, ap (λ l. (tt, (tt, (l, tt)))) e.1)))
       ∷ []
 
   abbrev of_board : List Function
   of_board =
-      function board-step-is.name board-step.ended (board-step.clauses w.𝓛 w.𝓜.mem w.𝓡.run) (λ κs a g r q ws vs. facts (λ x y. let e = once.one_step x y in (e.2, ap₂ (λ c l. (c, (l, (tt, (tt, (tt, (tt, tt))))))) e.0 e.1)))
-      ∷ function board-eistulko-start-is.name board-eistulko-start.ended (board-eistulko-start.clauses w.𝓛 w.𝓜.mem w.𝓡.run) (λ κs a g r q ws vs. facts (λ x y. let e = once.one_start x y in (e.2, ap₂ (λ c l. (c, (l, tt))) e.0 e.1)))
-      ∷ function board-eistulko-open-is.name board-eistulko-open.ended (board-eistulko-open.clauses w.𝓛 w.𝓜.mem w.𝓡.run) (λ κs a g r q ws vs. facts (λ x y. let e = once.one_step x y in (e.2, ap₂ (λ c l. (c, (l, (tt, tt)))) e.0 e.1)))
-      ∷ function board-eistulko-feed-is.name board-eistulko-feed.ended (board-eistulko-feed.clauses w.𝓛 w.𝓜.mem w.𝓡.run) (λ κs a g r q ws vs. facts (λ x y. let e = once.one_step x y in (e.2, ap₂ (λ c l. (c, (l, (tt, (tt, (tt, tt)))))) e.0 e.1)))
-      ∷ function board-eistulko-give-is.name board-eistulko-give.ended (board-eistulko-give.clauses w.𝓛 w.𝓜.mem w.𝓡.run) (λ κs a g r q ws vs. facts (λ x y. let e = once.one_step x y in (e.2, ap₂ (λ c l. (c, (l, (tt, (tt, tt))))) e.0 e.1)))
-      ∷ function board-eistulko-end-is.name board-eistulko-end.ended (board-eistulko-end.clauses w.𝓛 w.𝓜.mem w.𝓡.run) (λ κs a g r q ws vs. facts (λ x y. let e = once.one_step x y in (e.2, ap₂ (λ c l. (c, (l, (tt, tt)))) e.0 e.1)))
-      ∷ function board-eistulko-reset-is.name board-eistulko-reset.ended (board-eistulko-reset.clauses w.𝓛 w.𝓜.mem w.𝓡.run) (λ κs a g r q ws vs. facts (λ x y. let e = once.one_step x y in (e.2, ap₂ (λ c l. (c, (l, (tt, tt)))) e.0 e.1)))
-      ∷ function board-eistulko-goaway-is.name board-eistulko-goaway.ended (board-eistulko-goaway.clauses w.𝓛 w.𝓜.mem w.𝓡.run) (λ κs a g r q ws vs. facts (λ x y. let e = once.one_sent x y in (e.2, ap₂ (λ c l. (c, (tt, (l, tt)))) e.0 e.1)))
-      ∷ function board-eistulko-write-header-is.name board-eistulko-write-header.ended (board-eistulko-write-header.clauses w.𝓛 w.𝓜.mem w.𝓡.run) (λ κs a g r q ws vs. facts (λ x y. let e = once.one_write x y in (e.1, ap (λ l. (tt, (tt, (l, tt)))) e.0)))
-      ∷ function board-eistulko-write-integer-frame-is.name board-eistulko-write-integer-frame.ended (board-eistulko-write-integer-frame.clauses w.𝓛 w.𝓜.mem w.𝓡.run) (λ κs a g r q ws vs. facts (λ x y. let e = once.one_write x y in (e.1, ap (λ l. (tt, (tt, (l, tt)))) e.0)))
-      ∷ function board-eistulko-write-opening-is.name board-eistulko-write-opening.ended (board-eistulko-write-opening.clauses w.𝓛 w.𝓜.mem w.𝓡.run) (λ κs a g r q ws vs. facts (λ x y. let e = once.one_write x y in (e.1, ap (λ l. (l, tt)) e.0)))
-      ∷ function board-eistulko-connection-size-is.name board-eistulko-connection-size.ended (board-eistulko-connection-size.clauses w.𝓛 w.𝓜.mem w.𝓡.run) (λ κs a g r q ws vs. equal)
-      ∷ function board-eistulko-record-size-is.name board-eistulko-record-size.ended (board-eistulko-record-size.clauses w.𝓛 w.𝓜.mem w.𝓡.run) (λ κs a g r q ws vs. equal)
-      ∷ function board-eistulko-report-size-is.name board-eistulko-report-size.ended (board-eistulko-report-size.clauses w.𝓛 w.𝓜.mem w.𝓡.run) (λ κs a g r q ws vs. equal)
-      ∷ function board-eistulko-written-size-is.name board-eistulko-written-size.ended (board-eistulko-written-size.clauses w.𝓛 w.𝓜.mem w.𝓡.run) (λ κs a g r q ws vs. equal)
+      function board-step-is.symbol board-step.ended (board-step.clauses w.𝓛 w.𝓜.mem w.𝓡.returns) (λ κs a g r q ws vs. facts (λ x y. let e = once.one_step x y in (e.2, ap₂ (λ c l. (c, (l, (tt, (tt, (tt, (tt, tt))))))) e.0 e.1)))
+      ∷ function board-eistulko-start-is.symbol board-eistulko-start.ended (board-eistulko-start.clauses w.𝓛 w.𝓜.mem w.𝓡.returns) (λ κs a g r q ws vs. facts (λ x y. let e = once.one_start x y in (e.2, ap₂ (λ c l. (c, (l, tt))) e.0 e.1)))
+      ∷ function board-eistulko-open-is.symbol board-eistulko-open.ended (board-eistulko-open.clauses w.𝓛 w.𝓜.mem w.𝓡.returns) (λ κs a g r q ws vs. facts (λ x y. let e = once.one_step x y in (e.2, ap₂ (λ c l. (c, (l, (tt, tt)))) e.0 e.1)))
+      ∷ function board-eistulko-feed-is.symbol board-eistulko-feed.ended (board-eistulko-feed.clauses w.𝓛 w.𝓜.mem w.𝓡.returns) (λ κs a g r q ws vs. facts (λ x y. let e = once.one_step x y in (e.2, ap₂ (λ c l. (c, (l, (tt, (tt, (tt, tt)))))) e.0 e.1)))
+      ∷ function board-eistulko-give-is.symbol board-eistulko-give.ended (board-eistulko-give.clauses w.𝓛 w.𝓜.mem w.𝓡.returns) (λ κs a g r q ws vs. facts (λ x y. let e = once.one_step x y in (e.2, ap₂ (λ c l. (c, (l, (tt, (tt, tt))))) e.0 e.1)))
+      ∷ function board-eistulko-end-is.symbol board-eistulko-end.ended (board-eistulko-end.clauses w.𝓛 w.𝓜.mem w.𝓡.returns) (λ κs a g r q ws vs. facts (λ x y. let e = once.one_step x y in (e.2, ap₂ (λ c l. (c, (l, (tt, tt)))) e.0 e.1)))
+      ∷ function board-eistulko-reset-is.symbol board-eistulko-reset.ended (board-eistulko-reset.clauses w.𝓛 w.𝓜.mem w.𝓡.returns) (λ κs a g r q ws vs. facts (λ x y. let e = once.one_step x y in (e.2, ap₂ (λ c l. (c, (l, (tt, tt)))) e.0 e.1)))
+      ∷ function board-eistulko-goaway-is.symbol board-eistulko-goaway.ended (board-eistulko-goaway.clauses w.𝓛 w.𝓜.mem w.𝓡.returns) (λ κs a g r q ws vs. facts (λ x y. let e = once.one_sent x y in (e.2, ap₂ (λ c l. (c, (tt, (l, tt)))) e.0 e.1)))
+      ∷ function board-eistulko-write-header-is.symbol board-eistulko-write-header.ended (board-eistulko-write-header.clauses w.𝓛 w.𝓜.mem w.𝓡.returns) (λ κs a g r q ws vs. facts (λ x y. let e = once.one_write x y in (e.1, ap (λ l. (tt, (tt, (l, tt)))) e.0)))
+      ∷ function board-eistulko-write-integer-frame-is.symbol board-eistulko-write-integer-frame.ended (board-eistulko-write-integer-frame.clauses w.𝓛 w.𝓜.mem w.𝓡.returns) (λ κs a g r q ws vs. facts (λ x y. let e = once.one_write x y in (e.1, ap (λ l. (tt, (tt, (l, tt)))) e.0)))
+      ∷ function board-eistulko-write-opening-is.symbol board-eistulko-write-opening.ended (board-eistulko-write-opening.clauses w.𝓛 w.𝓜.mem w.𝓡.returns) (λ κs a g r q ws vs. facts (λ x y. let e = once.one_write x y in (e.1, ap (λ l. (l, tt)) e.0)))
+      ∷ function board-eistulko-connection-size-is.symbol board-eistulko-connection-size.ended (board-eistulko-connection-size.clauses w.𝓛 w.𝓜.mem w.𝓡.returns) (λ κs a g r q ws vs. equal)
+      ∷ function board-eistulko-record-size-is.symbol board-eistulko-record-size.ended (board-eistulko-record-size.clauses w.𝓛 w.𝓜.mem w.𝓡.returns) (λ κs a g r q ws vs. equal)
+      ∷ function board-eistulko-report-size-is.symbol board-eistulko-report-size.ended (board-eistulko-report-size.clauses w.𝓛 w.𝓜.mem w.𝓡.returns) (λ κs a g r q ws vs. equal)
+      ∷ function board-eistulko-written-size-is.symbol board-eistulko-written-size.ended (board-eistulko-written-size.clauses w.𝓛 w.𝓜.mem w.𝓡.returns) (λ κs a g r q ws vs. equal)
       ∷ []
 
   -- all of them, by the name in the source
   abbrev pub functions : List Function
   functions = of_varint ++ (of_ids ++ (of_wire ++ (of_settings ++ (of_fields ++ (of_section ++ (of_streams ++ (of_record ++ (of_given_lem ++ (of_oneway ++ (of_control ++ (of_requests ++ (of_doors ++ (of_oneways ++ (of_connection ++ (of_board)))))))))))))))
 
-  pub listed : ◌≡◌ {A = List Name} (map (λ (f : Function). f.name) functions)
+  pub listed : ◌≡◌ {A = List Symbol} (map (λ (f : Function). f.name) functions)
       ("varint::fresh" ∷ "varint::read_step" ∷ "varint::ends" ∷ "varint::value" ∷ "varint::near_value" ∷ "varint::read" ∷ "varint::size" ∷ "varint::put" ∷ "varint::write" ∷ "wire::ids::is_request" ∷ "wire::write_header" ∷ "wire::write_integer_frame" ∷ "wire::write_opening" ∷ "wire::write_goaway" ∷ "control::settings::judge" ∷ "control::settings::only" ∷ "fields::has_byte" ∷ "fields::begins_with" ∷ "fields::same_bytes" ∷ "fields::any_outside" ∷ "fields::bad_line" ∷ "fields::decimal_of" ∷ "fields::line_spot" ∷ "fields::line_at" ∷ "section::code" ∷ "section::header_section" ∷ "section::trailers" ∷ "frames::ruled" ∷ "frames::end" ∷ "record::cells_in" ∷ "record::free" ∷ "record::is_free" ∷ "record::read" ∷ "record::row" ∷ "record::write" ∷ "record::in_content" ∷ "requests::given::give" ∷ "oneway::close" ∷ "control::judge" ∷ "requests::reset" ∷ "requests::end" ∷ "requests::feed" ∷ "requests::give" ∷ "connection::doors::fresh" ∷ "connection::doors::open" ∷ "connection::doors::send_goaway" ∷ "oneway::calls::fresh" ∷ "oneway::calls::feed" ∷ "oneway::calls::give" ∷ "oneway::calls::close" ∷ "connection::fresh" ∷ "connection::wanted" ∷ "connection::answer" ∷ "connection::decide" ∷ "connection::begin" ∷ "connection::swept" ∷ "connection::say_goaway" ∷ "calls::step" ∷ "calls::eistulko_start" ∷ "calls::eistulko_open" ∷ "calls::eistulko_feed" ∷ "calls::eistulko_give" ∷ "calls::eistulko_end" ∷ "calls::eistulko_reset" ∷ "calls::eistulko_goaway" ∷ "calls::eistulko_write_header" ∷ "calls::eistulko_write_integer_frame" ∷ "calls::eistulko_write_opening" ∷ "calls::eistulko_connection_size" ∷ "calls::eistulko_record_size" ∷ "calls::eistulko_report_size" ∷ "calls::eistulko_written_size" ∷ [])
   listed = refl
 
@@ -458,13 +458,13 @@ module _ (w : World) where
   LeavesOneIf T c Taken = (κs : Lfts T.signature.lifetimes) (a : Args T.signature κs) (g : (c κs a).ghost) (r q : Res T.signature κs) (ws vs : Lasts T κs a)
       → ent w.𝓤 (sep w.𝓤 ((c κs a).ensures g r (at_exit T κs a ws)) ((c κs a).ensures g q (at_exit T κs a vs))) (fact w.𝓤 (Taken κs r → Taken κs q → (r ≡ q) × (ws ≡ vs)))
 
-  pub request_taken : LeavesOneIf requests-brisk.ended (requests-brisk.clauses w.𝓛 w.𝓜.mem w.𝓡.run) (λ κs r. r.number ≡ 0)
+  pub request_taken : LeavesOneIf requests-brisk.ended (requests-brisk.clauses w.𝓛 w.𝓜.mem w.𝓡.returns) (λ κs r. r.number ≡ 0)
   request_taken κs a g r q ws vs = facts (λ x y s t. (one_answer a.0 _ r q (x s).0.answers (y t).0.answers, refl))
 
-  pub connection_taken : LeavesOneIf connection-brisk.ended (connection-brisk.clauses w.𝓛 w.𝓜.mem w.𝓡.run) (λ κs r. r.report.number ≡ 0)
+  pub connection_taken : LeavesOneIf connection-brisk.ended (connection-brisk.clauses w.𝓛 w.𝓜.mem w.𝓡.returns) (λ κs r. r.report.number ≡ 0)
   connection_taken κs a g r q ws vs = facts (λ x y s t. (one_brief x y s t, refl))
 
 -- `fields::classes` leaves open the bits of an entry that no class reads; `record::in_body` may say no; two are feeds below a record, and three short ways
-pub excepted : ◌≡◌ {A = List Name} (fields-classes-is.name ∷ streams-feed-is.name ∷ streams-brisk-is.name ∷ record-in-body-is.name ∷ oneway-feed-is.name ∷ requests-brisk-is.name ∷ connection-brisk-is.name ∷ [])
+pub excepted : ◌≡◌ {A = List Symbol} (fields-classes-is.symbol ∷ streams-feed-is.symbol ∷ streams-brisk-is.symbol ∷ record-in-body-is.symbol ∷ oneway-feed-is.symbol ∷ requests-brisk-is.symbol ∷ connection-brisk-is.symbol ∷ [])
     ("fields::classes" ∷ "frames::feed" ∷ "frames::brisk" ∷ "record::in_body" ∷ "oneway::feed" ∷ "requests::brisk" ∷ "connection::brisk" ∷ [])
 excepted = refl

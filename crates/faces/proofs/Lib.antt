@@ -1,2 +1,1 @@
-pub mod Local
-pub mod Lends
+mod Kept

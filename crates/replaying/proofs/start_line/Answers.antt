@@ -1,0 +1,10 @@
+-- `replaying::start_line` meets its contract: its parts, one behind the other, within the room. Assumes nothing.
+use Rattle.rules.specs.Text.{ascii}
+use Rattle.replaying.specs.Puts.{puts_word, then_puts}
+use Rattle.replaying.specs.Lines.{start_line}
+use borrow.Author.Rules.{rules}
+use Rattle.replaying.proofs.start_line.Goals as goal
+
+pub returns : goal.returns
+unfolding start_line ascii
+returns c = then_puts c.head-a.ensures (puts_word c.put.ensures)

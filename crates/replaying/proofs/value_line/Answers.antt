@@ -1,0 +1,10 @@
+-- `replaying::value_line` meets its contract: its parts, one behind the other, within the room. Assumes nothing.
+use Rattle.rules.specs.Text.{ascii}
+use Rattle.replaying.specs.Puts.{puts_word, then_puts}
+use Rattle.replaying.specs.Lines.{value_line}
+use borrow.Author.Rules.{rules}
+use Rattle.replaying.proofs.value_line.Goals as goal
+
+pub returns : goal.returns
+unfolding value_line ascii
+returns c = then_puts (then_puts (then_puts (puts_word c.put-a.ensures) c.spaced-b.ensures) c.spaced-c.ensures) (puts_word c.put.ensures)

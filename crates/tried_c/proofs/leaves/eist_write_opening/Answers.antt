@@ -1,0 +1,7 @@
+-- `tried_c::leaves::eist_write_opening` meets its contract: the answer is given in numbers. Assumes nothing.
+use borrow.Author.Rules.{rules}
+use Rattle.tried_c.specs.LeafNumbers.{written}
+use Rattle.tried_c.proofs.leaves.eist_write_opening.Goals as goal
+
+pub returns : goal.returns
+returns c = written c.write_opening.ensures c.told.ensures.0 c.told.ensures.1

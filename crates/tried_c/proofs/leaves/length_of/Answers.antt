@@ -1,0 +1,12 @@
+-- `tried_c::leaves::length_of` meets its contract, in each case. Assumes nothing.
+use borrow.Author.Rules.{rules}
+use Rattle.section.specs.Answer.{read_stated}
+use Rattle.tried_c.proofs.leaves.length_of.Goals as goal
+
+pub returns-in-Nothing : goal.returns-in-Nothing
+unfolding read_stated
+returns-in-Nothing c = rw c.in-Nothing.is
+
+pub returns-in-Length : goal.returns-in-Length
+unfolding read_stated
+returns-in-Length c = rw c.in-Length.is
