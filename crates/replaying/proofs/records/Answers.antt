@@ -14,7 +14,7 @@ unfolding rows_text
 loop-i-init c = (omega arith, puts_none _ _ (omega arith))
 
 pub loop-i-preserved : goal.loop-i-preserved
-loop-i-preserved c = let a = c.args in let l = c.loop-i in (omega arith, more (next_record a.t3 free_record l.i (omega arith) l.invariant.1 c.shown-at.ensures) (omega arith))
+loop-i-preserved c = let a = c.args in let l = c.loop-i in (omega arith, more (next_record a.rows free_record l.i (omega arith) l.invariant.1 c.shown-at.ensures) (omega arith))
 
 pub returns : goal.returns
 returns c = let a = c.args in let l = c.loop-i in let e : l.i ≡ 24 = omega arith in rw e at l.invariant.1

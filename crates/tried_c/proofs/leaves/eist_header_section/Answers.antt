@@ -8,16 +8,16 @@ pub returns-in-Unreadable : goal.returns-in-Unreadable
 unfolding header_number header_out
 returns-in-Unreadable c =
     let e = rw c.in-Unreadable.is at c.header_section.ensures in
-    (rw (← e), rw (← e))
+    record { value = rw (← e); out_after = rw (← e) }
 
 pub returns-in-Refused : goal.returns-in-Refused
 unfolding header_number header_out
 returns-in-Refused c =
     let e = rw c.in-Refused.is at c.header_section.ensures in
-    (rw (← e) c.code.ensures, rw (← e))
+    record { value = rw (← e) c.code.ensures; out_after = rw (← e) }
 
 pub returns-in-Sound : goal.returns-in-Sound
 unfolding header_number header_out
 returns-in-Sound c =
     let e = rw c.in-Sound.is at c.header_section.ensures in
-    (rw (← e), rw (← e, c.is_stated.ensures, c.length_of.ensures))
+    record { value = rw (← e); out_after = rw (← e, c.is_stated.ensures, c.length_of.ensures) }

@@ -8,10 +8,10 @@ pub returns-in-Short : goal.returns-in-Short
 unfolding whole_is read_number read_out
 returns-in-Short c =
     let e = rw c.in-Short.is at c.read.ensures in
-    (rw (← e), rw (← e))
+    record { value = rw (← e); out_after = rw (← e) }
 
 pub returns-in-Value : goal.returns-in-Value
 unfolding whole_is read_number read_out
 returns-in-Value c =
     let e = rw c.in-Value.is at c.read.ensures in
-    (rw (← e), rw (← e))
+    record { value = rw (← e); out_after = rw (← e) }

@@ -7,10 +7,10 @@ pub returns-in-Refused : goal.returns-in-Refused
 unfolding settings_number settings_out
 returns-in-Refused c =
     let e = rw c.in-Refused.is at c.judge.ensures in
-    (rw (← e), rw (← e))
+    record { value = rw (← e); out_after = rw (← e) }
 
 pub returns-in-Kept : goal.returns-in-Kept
 unfolding settings_number settings_out
 returns-in-Kept c =
     let e = rw c.in-Kept.is at c.judge.ensures in
-    (rw (← e), rw (← e, c.is_limited.ensures, c.limit.ensures))
+    record { value = rw (← e); out_after = rw (← e, c.is_limited.ensures, c.limit.ensures) }

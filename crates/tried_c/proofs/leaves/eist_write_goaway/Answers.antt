@@ -4,4 +4,4 @@ use Rattle.tried_c.specs.LeafNumbers.{written}
 use Rattle.tried_c.proofs.leaves.eist_write_goaway.Goals as goal
 
 pub returns : goal.returns
-returns c = written (rw c.sent_of.ensures at c.write_goaway.ensures) c.told.ensures.0 c.told.ensures.1
+returns c = written (rw c.sent_of.ensures at c.write_goaway.ensures) c.told.ensures.value c.told.ensures.out_after

@@ -4,4 +4,4 @@ use Rattle.tried_c.specs.LeafNumbers.{written}
 use Rattle.tried_c.proofs.leaves.eist_write_integer.Goals as goal
 
 pub returns : goal.returns
-returns c = written c.write.ensures c.told.ensures.0 c.told.ensures.1
+returns c = written c.write.ensures c.told.ensures.value c.told.ensures.out_after

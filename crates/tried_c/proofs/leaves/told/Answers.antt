@@ -3,4 +3,4 @@ use borrow.Author.Rules.{rules}
 use Rattle.tried_c.proofs.leaves.told.Goals as goal
 
 pub returns-in-Count : goal.returns-in-Count
-returns-in-Count c = (rw c.in-Count.is, rw c.in-Count.is)
+returns-in-Count c = record { value = rw c.in-Count.is; out_after = rw c.in-Count.is }
