@@ -5,13 +5,12 @@ use input::Input;
 use std::io;
 use std::io::Read;
 
-fn play(rt: &impl Print, script: &[u8]) -> io::Result<()> {
-    let mut scratch = [0u8; 524288];
+fn play(rt: &impl Print, script: &[u8], scratch: &mut [u8]) -> io::Result<()> {
     let mut room = [0u8; 2048];
     let mut pair = replaying::start();
     let mut at = 0;
     loop {
-        let step = replaying::next(script, at, pair, &mut scratch, &mut room);
+        let step = replaying::next(script, at, pair, &mut *scratch, &mut room);
         let n = step.count;
         rt.write_all(&room[..n])?;
         if step.on {
@@ -24,14 +23,24 @@ fn play(rt: &impl Print, script: &[u8]) -> io::Result<()> {
     }
 }
 
+// The array as a slice: behind a reference its length is known without counting.
+fn lend_scratch(rt: &impl Print, script: &[u8], scratch: &mut [u8; 524288]) -> io::Result<()> {
+    play(rt, script, scratch)
+}
+
+fn begin(rt: &impl Print, script: &[u8]) -> io::Result<()> {
+    let mut scratch = [0u8; 524288];
+    lend_scratch(rt, script, &mut scratch)
+}
+
 fn run(rt: &(impl Print + Eprint), reader: &mut impl Read, room: &mut [u8]) -> io::Result<()> {
     match input::read_all(reader, room) {
-        Input::Bytes(n) => play(rt, &room[..n]),
+        Input::Bytes(n) => begin(rt, &room[..n]),
         Input::Failed => eprintln!(rt; "replay: standard input cannot be read"),
     }
 }
 
-// The array as a slice: behind a reference its length is known without counting.
+// The same of the input.
 fn lend(
     rt: &(impl Print + Eprint),
     reader: &mut impl Read,
