@@ -1,4 +1,4 @@
-/* Runs the lister's own object on many streams in one process, as an emulated process for each takes minutes: the read and write that it calls
+/* Runs the lister's own object on many streams in one process, as a process for each takes minutes: the read and write that it calls
    are those below, and its main is called once for each stream.
    A question: how many bytes, how many a read hands over at most, the bytes. An answer: how many bytes were printed, the bytes.
    Numbers are 64 bits wide, as the machine has them. */

@@ -134,8 +134,7 @@ pub fn step(
 
 // ---- what a host calls
 
-#[unsafe(no_mangle)]
-pub extern "C" fn eistulko_start(conn: &mut Connection, row: &mut [Record]) -> u64
+pub fn eistulko_start(conn: &mut Connection, row: &mut [Record]) -> u64
     ensures { Started conn.old row.old conn.new row.new result }
 {
     let b = connection::begin(*conn, row.len());
@@ -144,15 +143,13 @@ pub extern "C" fn eistulko_start(conn: &mut Connection, row: &mut [Record]) -> u
     b.number
 }
 
-#[unsafe(no_mangle)]
-pub extern "C" fn eistulko_open(conn: &mut Connection, row: &mut [Record], id: u64) -> Report
+pub fn eistulko_open(conn: &mut Connection, row: &mut [Record], id: u64) -> Report
     ensures { Opened conn.old row.old id conn.new row.new result }
 {
     step(conn, row, Call::Open, id, 0, b"")
 }
 
-#[unsafe(no_mangle)]
-pub extern "C" fn eistulko_feed(
+pub fn eistulko_feed(
     conn: &mut Connection,
     row: &mut [Record],
     id: u64,
@@ -176,8 +173,7 @@ pub extern "C" fn eistulko_feed(
     t
 }
 
-#[unsafe(no_mangle)]
-pub extern "C" fn eistulko_give(
+pub fn eistulko_give(
     conn: &mut Connection,
     row: &mut [Record],
     id: u64,
@@ -188,22 +184,19 @@ pub extern "C" fn eistulko_give(
     step(conn, row, Call::On(Own::Give), id, 0, block)
 }
 
-#[unsafe(no_mangle)]
-pub extern "C" fn eistulko_end(conn: &mut Connection, row: &mut [Record], id: u64) -> Report
+pub fn eistulko_end(conn: &mut Connection, row: &mut [Record], id: u64) -> Report
     ensures { Ended conn.old row.old id conn.new row.new result }
 {
     step(conn, row, Call::On(Own::End), id, 0, b"")
 }
 
-#[unsafe(no_mangle)]
-pub extern "C" fn eistulko_reset(conn: &mut Connection, row: &mut [Record], id: u64) -> Report
+pub fn eistulko_reset(conn: &mut Connection, row: &mut [Record], id: u64) -> Report
     ensures { Reset conn.old row.old id conn.new row.new result }
 {
     step(conn, row, Call::On(Own::Reset), id, 0, b"")
 }
 
-#[unsafe(no_mangle)]
-pub extern "C" fn eistulko_goaway(conn: &mut Connection, id: u64, room: &mut [u8]) -> Written
+pub fn eistulko_goaway(conn: &mut Connection, id: u64, room: &mut [u8]) -> Written
     ensures { SaidGoaway conn.old id room.old conn.new room.new result }
 {
     let g = connection::say_goaway(conn.doors, id, room);
@@ -225,22 +218,19 @@ fn told(w: Wrote) -> Written
     }
 }
 
-#[unsafe(no_mangle)]
-pub extern "C" fn eistulko_write_header(ftype: u64, len: u64, room: &mut [u8]) -> Written
+pub fn eistulko_write_header(ftype: u64, len: u64, room: &mut [u8]) -> Written
     ensures { WroteHeader ftype len room.old result room.new }
 {
     told(wire::write_header(ftype, len, room))
 }
 
-#[unsafe(no_mangle)]
-pub extern "C" fn eistulko_write_integer_frame(ftype: u64, value: u64, room: &mut [u8]) -> Written
+pub fn eistulko_write_integer_frame(ftype: u64, value: u64, room: &mut [u8]) -> Written
     ensures { WroteIntegerFrame ftype value room.old result room.new }
 {
     told(wire::write_integer_frame(ftype, value, room))
 }
 
-#[unsafe(no_mangle)]
-pub extern "C" fn eistulko_write_opening(room: &mut [u8]) -> Written
+pub fn eistulko_write_opening(room: &mut [u8]) -> Written
     ensures { WroteOpening room.old result room.new }
 {
     told(wire::write_opening(room))
@@ -248,29 +238,25 @@ pub extern "C" fn eistulko_write_opening(room: &mut [u8]) -> Written
 
 // ---- how many bytes a host lends, to compare with its header
 
-#[unsafe(no_mangle)]
-pub extern "C" fn eistulko_connection_size() -> usize
+pub fn eistulko_connection_size() -> usize
     ensures { result ≡ connection_size }
 {
     400
 }
 
-#[unsafe(no_mangle)]
-pub extern "C" fn eistulko_record_size() -> usize
+pub fn eistulko_record_size() -> usize
     ensures { result ≡ record_size }
 {
     48
 }
 
-#[unsafe(no_mangle)]
-pub extern "C" fn eistulko_report_size() -> usize
+pub fn eistulko_report_size() -> usize
     ensures { result ≡ report_size }
 {
     56
 }
 
-#[unsafe(no_mangle)]
-pub extern "C" fn eistulko_written_size() -> usize
+pub fn eistulko_written_size() -> usize
     ensures { result ≡ written_size }
 {
     16

@@ -1,10 +1,10 @@
-// What is on standard input, read into lent room.
+// What a reader gives, as standard input does, read into lent room.
 #![tactic(auto)]
 
 ghost use Rattle.std.specs.Prelude.{length};
 ghost use Rattle.input.specs.Came.{Came};
 
-use libc::STDIN_FILENO;
+use std::io::Read;
 
 #[derive(Clone, Copy)]
 pub enum Input {
@@ -13,16 +13,14 @@ pub enum Input {
 }
 
 // Reads up to the end of the input or of the room. Where a read fails, what came is not the input.
-pub fn read_all(room: &mut [u8]) -> Input
+pub fn read_all<R: Read>(reader: &mut R, room: &mut [u8]) -> Input
     ensures { Came room.old result room.new }
 {
     let mut n = 0;
     while n < room.len() {
-        let got = libc::read(STDIN_FILENO, &mut room[n..]);
-        if got < 0 {
+        let Ok(more) = reader.read(&mut room[n..]) else {
             return Input::Failed;
-        }
-        let more = io::count(got, &room[n..]);
+        };
         if more == 0 {
             return Input::Bytes(n);
         }

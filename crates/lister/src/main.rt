@@ -3,20 +3,21 @@
 #![tactic(auto)]
 
 use input::Input;
-use libc::{STDERR_FILENO, STDOUT_FILENO};
 use listing::Line;
+use std::io;
+use std::io::Read;
 
-fn print(line: Line) {
+fn print(rt: &impl Print, line: Line) -> io::Result<()> {
     let mut room = [0u8; 2048];
     let n = listing::text(line, &mut room);
-    io::write_all(STDOUT_FILENO, &room[..n]);
+    rt.write_all(&room[..n])
 }
 
-fn list(input: &[u8]) {
+fn list(rt: &impl Print, input: &[u8]) -> io::Result<()> {
     let mut place = listing::start();
     loop {
         let line = listing::next(input, place);
-        print(line);
+        print(rt, line)?;
         match line {
             Line::Heading(next) => place = next,
             Line::Frame {
@@ -26,24 +27,22 @@ fn list(input: &[u8]) {
                 usage: _,
                 next,
             } => place = next,
-            Line::Whole(_) => return,
-            Line::Refused { bytes: _, code: _ } => return,
-            Line::TooLong => return,
+            Line::Whole(_) => return Ok(()),
+            Line::Refused { bytes: _, code: _ } => return Ok(()),
+            Line::TooLong => return Ok(()),
         }
     }
 }
 
-fn run(room: &mut [u8]) {
-    match input::read_all(room) {
-        Input::Bytes(n) => list(&room[..n]),
-        Input::Failed => {
-            io::write_all(STDERR_FILENO, b"lister: standard input cannot be read\n");
-        }
+fn run(rt: &(impl Print + Eprint), reader: &mut impl Read, room: &mut [u8]) -> io::Result<()> {
+    match input::read_all(reader, room) {
+        Input::Bytes(n) => list(rt, &room[..n]),
+        Input::Failed => eprintln!(rt; "lister: standard input cannot be read"),
     }
 }
 
-fn main() {
+fn main(rt: HostRuntime) -> io::Result<()> {
     // one byte more than is listed, so that a longer input shows
     let mut room = [0u8; 65537];
-    run(&mut room);
+    run(&rt, &mut rt.stdin(), &mut room)
 }

@@ -1,0 +1,6 @@
+-- `list` ends: each line that leads on leaves less to come. Assumes nothing.
+use Rattle.listing.specs.Falls.{rank}
+use Rattle.lister.proofs.list.Given as goal
+
+abbrev pub decreases-loop-next : goal.decreases-loop-next
+decreases-loop-next g l = rank l.input l.place
