@@ -173,12 +173,7 @@ pub fn eistulko_feed(
     t
 }
 
-pub fn eistulko_give(
-    conn: &mut Connection,
-    row: &mut [Record],
-    id: u64,
-    block: &[u8],
-) -> Report
+pub fn eistulko_give(conn: &mut Connection, row: &mut [Record], id: u64, block: &[u8]) -> Report
     ensures { Given conn.old row.old id block.now conn.new row.new result }
 {
     step(conn, row, Call::On(Own::Give), id, 0, block)
