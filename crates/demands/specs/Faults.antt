@@ -9,7 +9,8 @@ use Rattle.rules.specs.Numbers.{ConnectionFault, stream_creation_error, Code, of
 use Rattle.rules.specs.OneWay.{one_way_read}
 use Rattle.meaning.specs.OneWayFeed as O
 use Rattle.meaning.proofs.OneWays.{one_moves}
-use Rattle.meaning.proofs.OneWayFirst.{FaultAt, Struck, NoFault, goes_on, one_fault, same_alone}
+use Rattle.meaning.specs.OneWayFirst.{FaultAt, Struck, NoFault}
+use Rattle.meaning.proofs.OneWayFirst.{goes_on, one_fault, same_alone}
 use Rattle.rules.specs.Calls.{Event, Fed, goes, feed, of_fed, map_out, fed, act₁, request, one_way, kind_of, telling, Pair, Call, on, Answer, gave, code, Entry, with, faulted, settle, act_on, fresh, call, run, trace}
 use Rattle.rules.specs.Shown.{Shown, Fate, unopened, spent, running, ended, dropped, refused, lost, View, plus_feed, plus_bytes, mine, view}
 use Rattle.traces.specs.Alone.{call_on}

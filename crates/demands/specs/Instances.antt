@@ -16,7 +16,7 @@ use Rattle.meaning.specs.Machine as M
 use Rattle.meaning.specs.Feed as F
 use Rattle.meaning.specs.OneWayFeed as O
 use Rattle.meaning.specs.FrameLaws.{head}
-use Rattle.meaning.proofs.Feeds.{headers_in}
+use Rattle.meaning.specs.Feeds.{headers_in}
 use Rattle.rules.specs.Calls.{settings, section_bytes, content_bytes, part, content_in, section_in, notices_in, qpack_in, done, fed, whole, freed, feed, section, end, reset, of_fed, of_given, of_ended, map_out, told_by, act, act₁, either, pick, kind_of, over, Call, open', on, gave, left, house, code, next_of, spend, keeping, killed, barred, find, put, behind, seat, same, with, alive, fresh, first, seated, opening, faulted, act_on, settle, acting, size_in, goaway_size, sending, call, run, trace}
 use Rattle.rules.specs.Shown.{ended, refused, View, nothing, plus_feed, plus_bytes, plus_section, fedly, mine, if_running, opened, unseen, seen, view_from, view, ledger, ledger_from, noted, dies, opens, counts, blank}
 use Rattle.traces.specs.Demands.{end_answer, Struck, SameOutput, is_ended}

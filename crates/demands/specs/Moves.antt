@@ -14,7 +14,8 @@ use Rattle.rules.specs.Control.{Control, control}
 use Rattle.rules.specs.OneWay.{Qpack, encoder, decoder, Kind, a_control, a_qpack, skipped, Typed, refuse, is, once, type_rule}
 use Rattle.meaning.specs.Machine as M
 use Rattle.meaning.specs.Feed as F
-use Rattle.meaning.proofs.EveryFeed.{ReadsOn, feed_moves}
+use Rattle.meaning.specs.EveryFeed.{ReadsOn}
+use Rattle.meaning.proofs.EveryFeed.{feed_moves}
 use Rattle.meaning.specs.OneWayFeed as O
 use Rattle.meaning.specs.TextLaws.{lookup_absent}
 use Rattle.rules.specs.Calls.{Event, Fed, goes, faults}

@@ -17,7 +17,7 @@ use Rattle.meaning.proofs.Cut.{run_append, read_from_is}
 use Rattle.meaning.specs.Feed as F
 use Rattle.meaning.proofs.Feeds.{feed_runs}
 use Rattle.meaning.specs.OneWayFeed as O
-use Rattle.meaning.proofs.OneWays.{resumed}
+use Rattle.meaning.specs.OneWays.{resumed}
 use Rattle.rules.specs.Calls.{Event, goes, fed, feed, act₁, one_way, kind_of, telling, Pair, Call, on, gave, act_on, fresh, call, run, trace}
 use Rattle.rules.specs.Shown.{Shown, running, View, nothing, plus_feed, view}
 use Rattle.traces.specs.Alone.{call_on}

@@ -4,7 +4,7 @@ use Rattle.std.specs.Prelude.{◌≡◌, refl, ℕ, List, [], ◌∷◌}
 use Rattle.rules.specs.Numbers.{missing_settings, stream_creation_error, of_connection}
 use Rattle.meaning.specs.Feed as F
 use Rattle.meaning.specs.OneWayFeed as O
-use Rattle.meaning.proofs.OneWayFirst.{Struck, NoFault}
+use Rattle.meaning.specs.OneWayFirst.{Struck, NoFault}
 use Rattle.rules.specs.Calls.{client_goaway, notice, fed, feed, told_by, part_by, of_type, act₁, Call, open', on, gave, code, Entry, fresh, trace}
 use Rattle.rules.specs.Shown.{refused, elsewhere, view}
 use Rattle.demands.specs.Streams.{came, types_in, kept_by, place_in, type_of, notice_of, frames_event, one_event, heard_by, streams}

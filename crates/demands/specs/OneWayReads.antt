@@ -17,11 +17,14 @@ use Rattle.rules.specs.OneWay.{Qpack, encoder, decoder}
 use Rattle.meaning.specs.IntegerLaws.{integer_append}
 use Rattle.meaning.specs.Machine as M
 use Rattle.meaning.specs.Feed as F
-use Rattle.meaning.proofs.Feeds.{unheaded, headers_in}
-use Rattle.meaning.proofs.EveryFeed.{ReadsOn, feed_silent}
+use Rattle.meaning.specs.Feeds.{unheaded, headers_in}
+use Rattle.meaning.specs.EveryFeed.{ReadsOn}
+use Rattle.meaning.proofs.EveryFeed.{feed_silent}
 use Rattle.meaning.specs.OneWayFeed as O
-use Rattle.meaning.proofs.OneWayFirst.{Struck, NoFault, calls_struck, calls_unhurt}
-use Rattle.meaning.proofs.OneWays.{Came, still_untyped, type_refused, a_control_stream, a_qpack_stream, a_skipped_stream, calls_read, always_reads, ReadsOnOne}
+use Rattle.meaning.specs.OneWayFirst.{Struck, NoFault}
+use Rattle.meaning.proofs.OneWayFirst.{calls_struck, calls_unhurt}
+use Rattle.meaning.specs.OneWays.{Came, still_untyped, type_refused, a_control_stream, a_qpack_stream, a_skipped_stream, ReadsOnOne}
+use Rattle.meaning.proofs.OneWays.{calls_read, always_reads}
 use Rattle.rules.specs.Calls.{Notice, told_by, notices_in, of_type, part_by, qpack_in, Event, content_in, section_in, goes, faults, end, reset, of_closed, map_out, freed, act₁, one_way, kind_of, telling, Pair, Call, on, Answer, left as is-left, code as is_code, with, faulted, settle, act_on, fresh, call, run, trace}
 use Rattle.rules.specs.Shown.{Shown, Fate, unopened, spent, running, ended, dropped, refused, lost, View, nothing, plus_feed, plus_bytes, view}
 use Rattle.traces.specs.Alone.{call_on}

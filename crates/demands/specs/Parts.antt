@@ -24,11 +24,13 @@ use Rattle.meaning.specs.Machine as M
 use Rattle.meaning.specs.Machine.{State, in_type, in_length, in_payload, due, Outcome, lives, dies, between}
 use Rattle.meaning.specs.Feed as F
 use Rattle.meaning.specs.Feed.{Feeding, halt, also, onward, judged_event, over_event, left_event, behind_header, named, taking}
-use Rattle.meaning.proofs.Feeds.{Within, feed_runs}
-use Rattle.meaning.proofs.EveryFeed as E
+use Rattle.meaning.specs.Feeds.{Within}
+use Rattle.meaning.proofs.Feeds.{feed_runs}
+use Rattle.meaning.specs.EveryFeed as E
 use Rattle.meaning.proofs.EveryFeed.{feed_stops, feed_allows}
 use Rattle.meaning.specs.OneWayFeed as O
-use Rattle.meaning.proofs.OneWays.{one_allows, OneStops, one_stops}
+use Rattle.meaning.specs.OneWays.{OneStops}
+use Rattle.meaning.proofs.OneWays.{one_allows, one_stops}
 use Rattle.rules.specs.Calls.{qpack_bytes, settings, client_goaway, max_push_id, Event, quiet, section_bytes, content_bytes, notice, Fed, goes, faults, Ended, is_whole, broken, done, fed, feed, of_fed, map_out, Machine, act, act₁, either, request, kind_of, Stream, asking, telling, Pair, Held, Call, on, Answer, gave, left, house, code, same, with, alive, faulted, act_on, settle, acting, find, fresh, call, run, trace, one_way}
 use Rattle.rules.specs.Calls as stream
 use Rattle.rules.specs.Shown.{Shown, running, View, plus_feed, view}

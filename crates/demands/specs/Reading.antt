@@ -4,8 +4,8 @@ use Rattle.std.specs.Prelude.{ℕ, List, map}
 use Rattle.rules.specs.Block.{Section, lines}
 use Rattle.rules.specs.Reading as R
 use Rattle.rules.specs.Request.{document, request}
-use Rattle.meaning.proofs.Feeds.{headers_in}
-use Rattle.meaning.proofs.First.{place_of}
+use Rattle.meaning.specs.Feeds.{headers_in}
+use Rattle.meaning.specs.First.{place_of}
 use Rattle.traces.specs.Demands.{Verdict, is_legal, bad, waits, Meaning}
 use Rattle.demands.specs.Streams.{section_of, streams}
 

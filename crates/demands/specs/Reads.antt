@@ -14,9 +14,11 @@ use Rattle.rules.specs.Message.{Message, opening}
 use Rattle.rules.specs.Request.{document, request}
 use Rattle.meaning.specs.Machine as M
 use Rattle.meaning.specs.Feed as F
-use Rattle.meaning.proofs.Feeds.{unheaded, Within, feed_runs, Call, feed_call, give_call, takes, Done, calls, Came, calls_come, verdict_of_done, CallsRead, calls_read}
+use Rattle.meaning.specs.Feeds.{unheaded, Within, Call, feed_call, give_call, takes, Done, calls, Came, verdict_of_done, CallsRead}
+use Rattle.meaning.proofs.Feeds.{feed_runs, calls_come, calls_read}
 use Rattle.meaning.proofs.EveryFeed.{feed_silent}
-use Rattle.meaning.proofs.First.{Inside, place_of, last_word, first_fault, end_rule, early_inside}
+use Rattle.meaning.specs.First.{Inside, place_of}
+use Rattle.meaning.proofs.First.{last_word, first_fault, end_rule, early_inside}
 use Rattle.rules.specs.Calls.{Event, part, content_in, section_in, notices_in, qpack_in, goes, faults, sound, unsound}
 use Rattle.rules.specs.Shown.{Shown, nothing, plus_feed, plus_bytes, plus_section}
 use Rattle.traces.specs.Story.{Reached, at_first, by_feed, by_section}

@@ -10,8 +10,8 @@ use Rattle.rules.specs.Shown.{Shown, running, nothing, fedly, plus_feed, mine, i
 use Rattle.traces.specs.Demands.{is_legal, bad, waits, Tells, end_answer}
 use Rattle.traces.specs.Progress.{Moves, awaits, faulty, moved, Takes}
 use Rattle.rules.specs.Worked.{answer}
-use Rattle.meaning.proofs.Feeds.{headers_in}
-use Rattle.meaning.proofs.First.{place_of}
+use Rattle.meaning.specs.Feeds.{headers_in}
+use Rattle.meaning.specs.First.{place_of}
 use Rattle.demands.specs.Streams.{stream_code, conn_code, streams}
 use Rattle.demands.specs.Reading.{sections_of, verdict_by, reading}
 use Rattle.demands.specs.Demands.{demand_2, end_exactly, progress, section_exactly}

@@ -19,7 +19,8 @@ use Rattle.meaning.specs.Machine as M
 use Rattle.meaning.specs.Machine.{Prog, State, in_type, in_length, in_payload, due, Outcome, lives, dies, between}
 use Rattle.meaning.specs.Feed as F
 use Rattle.meaning.specs.Feed.{Feeding, halt, also, onward, judged_event, left_event, over_event, behind_header, named, taking}
-use Rattle.meaning.proofs.Feeds.{Within, feed_runs}
+use Rattle.meaning.specs.Feeds.{Within}
+use Rattle.meaning.proofs.Feeds.{feed_runs}
 use Rattle.meaning.specs.OneWayFeed as O
 use Rattle.rules.specs.Calls.{qpack_bytes, settings, client_goaway, max_push_id, Event, quiet, section_bytes, content_bytes, notice, part, content_in, section_in, notices_in, goes, fed, feed, act, act₁, request, one_way, kind_of, asking, telling, Pair, Call, on, gave, act_on, fresh, call, run, trace}
 use Rattle.rules.specs.Shown.{Shown, running, View, plus_feed, view}

@@ -14,7 +14,8 @@ use Rattle.rules.specs.Message.{Message}
 use Rattle.rules.specs.Request.{document, request}
 use Rattle.meaning.specs.Machine as M
 use Rattle.meaning.specs.OneWayFeed as O
-use Rattle.meaning.proofs.OneWays.{ReadsOnOne, one_moves}
+use Rattle.meaning.specs.OneWays.{ReadsOnOne}
+use Rattle.meaning.proofs.OneWays.{one_moves}
 use Rattle.rules.specs.Calls.{Event, Fed, goes, faults, Given, sound, unsound, feed, section, Gave, done, fed, Left, Out, refuse, step, leave, fault, of_fed, of_given, map_out, Machine, act, act₁, either, request as a_request, one_way, kind_of, Stream, asking, telling, Pair, Held, Call, start, open', on, goaway, Answer, gave, left, house, code, keeping, find, same, with, faulted, settle, act_on, fresh, call, run, trace}
 use Rattle.rules.specs.Shown.{Shown, View, running, plus_feed, view}
 use Rattle.traces.specs.Row.{find_put_same}

@@ -13,7 +13,7 @@ use Rattle.rules.specs.OneWay.{encoder, decoder}
 use Rattle.meaning.specs.Machine as M
 use Rattle.meaning.specs.Feed as F
 use Rattle.meaning.specs.OneWayFeed as O
-use Rattle.meaning.proofs.OneWayFirst.{Struck}
+use Rattle.meaning.specs.OneWayFirst.{Struck}
 use Rattle.rules.specs.Calls.{Fed, goes, faults, Own, feed, section, end, reset, Out, refuse, step, leave, fault, of_fed, of_closed, map_out, act, act₁, Kind, request, one_way, kind_of, Stream, asking, telling, free, held, Pair, Held, Call, start, open', on, goaway, Answer, code, Entry, spend, keeping, killed, limited, find, put, same, with, faulted, settle, act_on, fresh, first, call, run, trace}
 use Rattle.rules.specs.Shown.{running, View, view}
 use Rattle.traces.specs.Row.{find_put_same, find_put_other, find_free_other, find_free_same, find_seat_same, find_seat_other, find_empty}

@@ -8,7 +8,7 @@ use Rattle.rules.specs.Reading.{whole, fault}
 use Rattle.rules.specs.OneWay.{one_way_read}
 use Rattle.rules.specs.Worked.{answer}
 use Rattle.meaning.specs.OneWayFeed as O
-use Rattle.meaning.proofs.OneWayFirst.{verdict_on, Struck}
+use Rattle.meaning.specs.OneWayFirst.{verdict_on, Struck}
 use Rattle.rules.specs.Calls.{quiet, fed, Fed, goes, faults, feed, section, end, reset, of_fed, map_out, one_way, kind_of, Stream, asking, telling, Pair, Call, start, open', on, goaway, gave, code, Entry, Result, alive, find, settle, fresh, call}
 use Rattle.rules.specs.Shown.{Shown, running, elsewhere, view}
 use Rattle.traces.specs.Oneways.{Both}

@@ -11,7 +11,8 @@ use Rattle.rules.specs.Frames.{Frames, frame, in_payload as in_frame, frames_up_
 use Rattle.rules.specs.Block.{Section}
 use Rattle.rules.specs.Reading.{Kept, Use, content, skipped, section, kept, Ruling, refuse, accept, Next, stop, go, Grammar, Verdict, fault, waits, Saying, header, refused, frame_kept, Reading, ending, put, told, Onward, stops, waiting, on, left_by, completed, judge, read_from, read}
 use Rattle.meaning.specs.IntegerLaws.{integer_length}
-use Rattle.meaning.specs.Machine.{fresh, after, fed, in_length, between, answered, typed, keep, over, with_left, ruled, sized, step, judged_says, over_says, left_says, rule_says, size_says, says, finish, Run, reads, stuck, resumed, supplied, settled, next, tells, finished, begins, reading, fresh_run}
+use Rattle.meaning.specs.Machine.{fresh, after, fed, in_length, between, answered, typed, keep, over, with_left, ruled, sized, step, judged_says, over_says, left_says, rule_says, size_says, says, finish, reads, stuck, resumed, supplied, settled, next, tells, finished, begins, reading, fresh_run}
+use Rattle.meaning.specs.Bridge.{resume, after_type, after_length, carried_on, Agree}
 
 module _ where
   pub put_put : (x y : List Saying) (r : Reading) → put x (put y r) ≡ put (x ++ y) r
@@ -42,29 +43,16 @@ module _ (G : Grammar) where
   stuck_reads o at v [] = refl
   stuck_reads o at v (b ∷ bs) = stuck_reads o (suc at) v bs
 
-  -- reading on from where a byte led to; o is the offset of the frame
-  abbrev resume : (o at : ℕ) → Run G.P → List ℕ → Reading
-  resume o at r bs = reading G (begins G o at r) at r bs
-
   module _ (total : ℕ) where
-    after_type : (o : ℕ) → G.P → List Section → Int → Reading
-    after_type o p bl cut = ending (fault G.cut total)
-    after_type o p bl (got t here rest) = reading G o here (reads bl (in_length t fresh p)) rest
-
     type_reads : (o : ℕ) (p : G.P) (bl : List Section) (k v at : ℕ) (bs : List ℕ) → at + length bs ≡ total
-        → resume o at (supplied G at bl (typed p (after k v))) bs ≡ after_type o p bl (more k v at bs)
+        → resume G o at (supplied G at bl (typed p (after k v))) bs ≡ after_type G total o p bl (more k v at bs)
     unfolding reading finish finished put next step settled supplied tells says begins typed after fed more after_type
     type_reads o p bl zero v at bs e = refl
     type_reads o p bl (suc k) v at [] e = ap (λ n. ending (fault G.cut n)) (omega arith)
     type_reads o p bl (suc k) v at (b ∷ bs) e = type_reads o p bl k (v * 256 + b) (suc at) bs (omega arith)
 
-    after_length : (o t : ℕ) → G.P → List Section → Int → Reading
-    after_length o t p bl cut = ending (fault G.cut total)
-    after_length o t p bl (got len from pay) =
-        put (rule_says G o from t len (G.rule p t len)) (resume o from (settled G from bl (ruled G len (G.rule p t len))) pay)
-
     length_reads : (o t : ℕ) (p : G.P) (bl : List Section) (k v at : ℕ) (bs : List ℕ) → at + length bs ≡ total
-        → put (size_says G o at t p (after k v)) (resume o at (settled G at bl (sized G t p (after k v))) bs) ≡ after_length o t p bl (more k v at bs)
+        → put (size_says G o at t p (after k v)) (resume G o at (settled G at bl (sized G t p (after k v))) bs) ≡ after_length G total o t p bl (more k v at bs)
     unfolding reading finish finished put next step settled supplied tells says begins sized size_says after fed more after_length
     length_reads o t p bl zero v at bs e = refl
     length_reads o t p bl (suc k) v at [] e = ap (λ n. ending (fault G.cut n)) (omega arith)
@@ -72,7 +60,7 @@ module _ (G : Grammar) where
 
     -- a payload that the bytes cut short
     short_reads : (o : ℕ) (u : Use) (k : List ℕ) (q : G.P) (bl : List Section) (l at : ℕ) (bs : List ℕ) → at + length bs ≡ total → length bs < l
-        → put (left_says G u k l q) (resume o at (settled G at bl (with_left G u k l q)) bs) ≡ put (told u bs) (ending (fault G.cut total))
+        → put (left_says G u k l q) (resume G o at (settled G at bl (with_left G u k l q)) bs) ≡ put (told u bs) (ending (fault G.cut total))
     unfolding reading finish finished put next step settled supplied tells says begins with_left left_says
     short_reads o u k q bl zero at bs e h = absurd (omega arith)
     short_reads o u k q bl (suc l) at [] e h = let t = told_nil u in let n : at ≡ total = omega arith in rw (t, n)
@@ -80,25 +68,19 @@ module _ (G : Grammar) where
         sym (put_put (told u (b ∷ [])) _ _) ∙ ap (put (told u (b ∷ []))) (short_reads o u (keep u k b) q bl l (suc at) bs (omega arith) (omega arith))
         ∙ put_put (told u (b ∷ [])) (told u bs) _ ∙ ap (λ x. put x (ending (fault G.cut total))) (sym (told_cons u b bs))
 
-    -- a payload that is all there
-    carried_on : (to : ℕ) (bs : List ℕ) → Onward G.P → Reading
-    carried_on to bs (stops code) = ending (fault code to)
-    carried_on to bs waiting = ending (waits to)
-    carried_on to bs (on r bl xs) = put xs (reading G to to (reads bl (between r)) bs)
-
     kept_over : (o : ℕ) (f : Kept) (k : List ℕ) (bl : List Section) (at : ℕ) (bs : List ℕ) (x : Next G.P)
-        → put (judged_says G f k x) (resume o at (settled G at bl (answered x)) bs) ≡ carried_on at bs (left_by G bl (frame_kept f k ∷ []) x)
+        → put (judged_says G f k x) (resume G o at (settled G at bl (answered x)) bs) ≡ carried_on G total at bs (left_by G bl (frame_kept f k ∷ []) x)
     unfolding judged_says answered settled supplied left_by carried_on begins
     kept_over o f k bl at bs (stop code) = put_nil _ ∙ stuck_reads o at (fault code at) bs
     kept_over o f k bl at bs (go p) = refl
 
-    due_over : (o : ℕ) (bl : List Section) (at : ℕ) (bs : List ℕ) (x : Next G.P) → resume o at (resumed G at bl x) bs ≡ carried_on at bs (left_by G bl [] x)
+    due_over : (o : ℕ) (bl : List Section) (at : ℕ) (bs : List ℕ) (x : Next G.P) → resume G o at (resumed G at bl x) bs ≡ carried_on G total at bs (left_by G bl [] x)
     unfolding resumed left_by carried_on begins
     due_over o bl at bs (stop code) = stuck_reads o at (fault code at) bs
     due_over o bl at bs (go p) = sym (put_nil _)
 
     over_reads : (o : ℕ) (u : Use) (k : List ℕ) (q : G.P) (bl : List Section) (at : ℕ) (bs : List ℕ)
-        → put (over_says G u k q) (resume o at (settled G at bl (over G u k q)) bs) ≡ carried_on at bs (completed G u q k bl)
+        → put (over_says G u k q) (resume G o at (settled G at bl (over G u k q)) bs) ≡ carried_on G total at bs (completed G u q k bl)
     unfolding over over_says completed settled supplied carried_on begins
     over_reads o content k q bl at bs = refl
     over_reads o skipped k q bl at bs = refl
@@ -116,8 +98,8 @@ module _ (G : Grammar) where
     completed_keep (kept t) q k b xs bl = let e = append_assoc k (b ∷ []) xs in rw e
 
     full_reads : (o : ℕ) (u : Use) (k : List ℕ) (q : G.P) (bl : List Section) (l at to : ℕ) (bs : List ℕ) → at + l ≡ to → l ≤ length bs
-        → put (left_says G u k l q) (resume o at (settled G at bl (with_left G u k l q)) bs)
-        ≡ put (told u (take l bs)) (carried_on to (drop l bs) (completed G u q (k ++ take l bs) bl))
+        → put (left_says G u k l q) (resume G o at (settled G at bl (with_left G u k l q)) bs)
+        ≡ put (told u (take l bs)) (carried_on G total to (drop l bs) (completed G u q (k ++ take l bs) bl))
     unfolding reading next step settled supplied tells says begins with_left left_says
     full_reads o u k q bl zero at to bs e h =
         let t = told_nil u in let n : at ≡ to = omega arith in let a = append-nil k in rw (t, n, a) (over_reads o u k q bl to bs ∙ sym (put_nil _))
@@ -128,13 +110,8 @@ module _ (G : Grammar) where
         ∙ ap (put (told u (b ∷ []))) (full_reads o u (keep u k b) q bl l (suc at) to bs (omega arith) (omega arith))
         ∙ put_put (told u (b ∷ [])) (told u (take l bs)) _ ∙ rw (c, told_cons u b (take l bs))
 
-    -- the rest of the stream agrees, with so much fuel
-    abbrev pub Agree : ℕ → Type 0
-    Agree f = (at : ℕ) (bs : List ℕ) (p : G.P) (bl : List Section) → length bs ≤ f → at + length bs ≡ total
-        → reading G at at (reads bl (between p)) bs ≡ judge G total p bl (frames_up_to f at bs)
-
-    onward_reads : {f : ℕ} → Agree f → (x : Onward G.P) (to : ℕ) (bs : List ℕ) → length bs ≤ f → to + length bs ≡ total
-        → carried_on to bs x ≡ (elim x [ stops code ↦ ending (fault code to) | waiting ↦ ending (waits to) | on r rest xs ↦ put xs (judge G total r rest (frames_up_to f to bs)) ])
+    onward_reads : {f : ℕ} → Agree G total f → (x : Onward G.P) (to : ℕ) (bs : List ℕ) → length bs ≤ f → to + length bs ≡ total
+        → carried_on G total to bs x ≡ (elim x [ stops code ↦ ending (fault code to) | waiting ↦ ending (waits to) | on r rest xs ↦ put xs (judge G total r rest (frames_up_to f to bs)) ])
     unfolding carried_on
     onward_reads ih (stops code) to bs h e = refl
     onward_reads ih waiting to bs h e = refl
@@ -143,16 +120,16 @@ module _ (G : Grammar) where
     -- behind a header: refused, or the payload, cut or not, and what follows it
     cut_reads : (o : ℕ) (p : G.P) (bl : List Section) (t len from : ℕ) (pay : List ℕ) → from + length pay ≡ total → length pay < len
         → (r : Ruling G.P) → G.rule p t len ≡ r
-        → after_length o t p bl (got len from pay) ≡ judge G total p bl (in_frame (record { at = o; from = from; type = t; len = len }) pay)
+        → after_length G total o t p bl (got len from pay) ≡ judge G total p bl (in_frame (record { at = o; from = from; type = t; len = len }) pay)
     unfolding after_length judge rule_says ruled settled begins
     cut_reads o p bl t len from pay e h (refuse code) q = rw (q, judge) (ap (put (refused (record { at = o; from = from; type = t; len = len }) ∷ [])) (stuck_reads o from (fault code from) pay))
     cut_reads o p bl t len from pay e h (accept u r) q =
         let hd = header (record { at = o; from = from; type = t; len = len }) u ∷ [] in
         rw (q, judge) (sym (put_put hd _ _) ∙ ap (put hd) (short_reads o u [] r bl len from pay e h) ∙ put_put hd _ _)
 
-    frame_reads : {f : ℕ} → Agree f → (o : ℕ) (p : G.P) (bl : List Section) (t len from : ℕ) (pay : List ℕ) → length pay ≤ f → from + length pay ≡ total → len ≤ length pay
+    frame_reads : {f : ℕ} → Agree G total f → (o : ℕ) (p : G.P) (bl : List Section) (t len from : ℕ) (pay : List ℕ) → length pay ≤ f → from + length pay ≡ total → len ≤ length pay
         → (r : Ruling G.P) → G.rule p t len ≡ r
-        → after_length o t p bl (got len from pay)
+        → after_length G total o t p bl (got len from pay)
         ≡ judge G total p bl (frame (record { at = o; from = from; type = t; len = len }) (take len pay) (frames_up_to f (from + len) (drop len pay)))
     unfolding after_length judge rule_says ruled settled begins
     frame_reads ih o p bl t len from pay hf e h (refuse code) q = rw (q, judge) (ap (put (refused (record { at = o; from = from; type = t; len = len }) ∷ [])) (stuck_reads o from (fault code from) pay))
@@ -163,9 +140,9 @@ module _ (G : Grammar) where
         rw (q, judge) (sym (put_put hd _ _)
         ∙ ap (put hd) (full_reads o u [] r bl len from (from + len) pay refl h ∙ ap (put (told u (take len pay))) rest) ∙ put_put hd _ _)
 
-    payload_reads : {f : ℕ} → Agree f → (o : ℕ) (p : G.P) (bl : List Section) (t len from : ℕ) (pay : List ℕ) → length pay ≤ f → from + length pay ≡ total
+    payload_reads : {f : ℕ} → Agree G total f → (o : ℕ) (p : G.P) (bl : List Section) (t len from : ℕ) (pay : List ℕ) → length pay ≤ f → from + length pay ≡ total
         → (x : Bool) → ltb (length pay) len ≡ x
-        → after_length o t p bl (got len from pay) ≡ judge G total p bl (elim x [
+        → after_length G total o t p bl (got len from pay) ≡ judge G total p bl (elim x [
           | true ↦ in_frame (record { at = o; from = from; type = t; len = len }) pay
           | false ↦ frame (record { at = o; from = from; type = t; len = len }) (take len pay) (frames_up_to f (from + len) (drop len pay))
         ])
@@ -173,19 +150,19 @@ module _ (G : Grammar) where
     payload_reads ih o p bl t len from pay hf e false x = frame_reads ih o p bl t len from pay hf e (nltb→le (length pay) len (rw x tt)) (G.rule p t len) refl
 
     length_starts : (o t : ℕ) (p : G.P) (bl : List Section) (at : ℕ) (bs : List ℕ) → at + length bs ≡ total
-        → reading G o at (reads bl (in_length t fresh p)) bs ≡ after_length o t p bl (integer at bs)
+        → reading G o at (reads bl (in_length t fresh p)) bs ≡ after_length G total o t p bl (integer at bs)
     unfolding reading finish finished next step tells says fed integer after_length
     length_starts o t p bl at [] e = ap (λ n. ending (fault G.cut n)) (omega arith)
     length_starts o t p bl at (b ∷ bs) e = length_reads o t p bl (extra b) (b % 64) (suc at) bs (omega arith)
 
     type_starts : (p : G.P) (bl : List Section) (at b : ℕ) (bs : List ℕ) → at + length (b ∷ bs) ≡ total
-        → reading G at at (reads bl (between p)) (b ∷ bs) ≡ after_type at p bl (integer at (b ∷ bs))
+        → reading G at at (reads bl (between p)) (b ∷ bs) ≡ after_type G total at p bl (integer at (b ∷ bs))
     unfolding reading next step settled tells says fed put integer
     type_starts p bl at b bs e = type_reads at p bl (extra b) (b % 64) (suc at) bs (omega arith)
 
-    second_reads : {f : ℕ} → Agree f → (o : ℕ) (p : G.P) (bl : List Section) (t here : ℕ) (rest : List ℕ) → length rest ≤ f → here + length rest ≡ total
+    second_reads : {f : ℕ} → Agree G total f → (o : ℕ) (p : G.P) (bl : List Section) (t here : ℕ) (rest : List ℕ) → length rest ≤ f → here + length rest ≡ total
         → (x : Int) → integer here rest ≡ x
-        → after_length o t p bl x ≡ judge G total p bl (elim x [
+        → after_length G total o t p bl x ≡ judge G total p bl (elim x [
           | cut ↦ Frames.in_header
           | got len from pay ↦ elim (ltb (length pay) len) [
             | true ↦ in_frame (record { at = o; from = from; type = t; len = len }) pay
@@ -198,8 +175,8 @@ module _ (G : Grammar) where
         let l = integer_length here rest x in
         payload_reads ih o p bl t len from pay (omega arith) (omega arith) (ltb (length pay) len) refl
 
-    first_reads : {f : ℕ} → Agree f → (p : G.P) (bl : List Section) (at b : ℕ) (bs : List ℕ) → length bs ≤ f → at + length (b ∷ bs) ≡ total
-        → (x : Int) → integer at (b ∷ bs) ≡ x → after_type at p bl x ≡ judge G total p bl (frames_up_to (suc f) at (b ∷ bs))
+    first_reads : {f : ℕ} → Agree G total f → (p : G.P) (bl : List Section) (at b : ℕ) (bs : List ℕ) → length bs ≤ f → at + length (b ∷ bs) ≡ total
+        → (x : Int) → integer at (b ∷ bs) ≡ x → after_type G total at p bl x ≡ judge G total p bl (frames_up_to (suc f) at (b ∷ bs))
     unfolding after_type judge frames_up_to
     first_reads ih p bl at b bs hf e cut x = rw (x, frames_up_to) refl
     first_reads ih p bl at b bs hf e (got t here rest) x =
@@ -207,7 +184,7 @@ module _ (G : Grammar) where
         let n : here + length rest ≡ total = omega arith in
         rw (x, frames_up_to) (length_starts at t p bl here rest n ∙ second_reads ih at p bl t here rest (omega arith) n (integer here rest) refl)
 
-    pub bridge : (fuel : ℕ) → Agree fuel
+    pub bridge : (fuel : ℕ) → Agree G total fuel
     unfolding frames_up_to judge
     bridge zero at [] p bl h e = let n : at ≡ total = omega arith in rw n (unfold reading finished finish in refl)
     bridge zero at (b ∷ bs) p bl h e = absurd (omega arith)

@@ -1,6 +1,6 @@
 -- What holds of every feed: one induction over the feeds of any grammar, and its uses: the stop rule, progress, maximal parts, the allowance and
 -- the mark. Assumes nothing.
-use Rattle.std.specs.Prelude.{◌≡◌, refl, Bool, true, false, length}
+use Rattle.std.specs.Prelude.{◌≡◌, refl, true, length}
 use Rattle.std.proofs.Common.{ap, arith}
 use Prim.Native.Nat.{ℕ, zero, suc, ◌+◌, ◌-◌, ◌≤◌, min, zero-le}
 use mathlib.Core.List.{List, [], ◌∷◌, ◌++◌}
@@ -8,22 +8,10 @@ use Rattle.std.proofs.Math.Dec.{eqb-suc-zero}
 use Rattle.rules.specs.Numbers.{Code}
 use Rattle.rules.specs.Reading.{Part, Kept, Use, content, skipped, section, kept, Ruling, refuse, accept, Next, stop, go, Grammar}
 use Rattle.meaning.specs.Machine.{Fed, going, value, fed, State, in_type, in_length, in_payload, due, lives, dies, between, answered, typed, over, with_left}
-use Rattle.meaning.specs.Feed.{quiet, section_bytes, content_bytes, taken, Feeding, halt, also, onward, judged_event, over_event, left_event, behind_header, named, taking, feed}
+use Rattle.meaning.specs.Feed.{quiet, section_bytes, Feeding, halt, also, onward, judged_event, over_event, left_event, behind_header, named, taking, feed}
+use Rattle.meaning.specs.EveryFeed.{Closed, Stops, at_section, at_content, at_taken, at_end, at_allowance, at_fault, while_due, ReadsOn, Greedy, no_part, no_bytes, piece_used, content_over, section_over, Marked, not_at_all, not_content, not_told, marked, unmarked, is_part}
 
 -- ---- one induction
-
--- A property of feeds, by what a feed is made of.
-pub record Closed (G : Grammar) (Q : (allow : ℕ) (piece : List ℕ) → Feeding G.P → Type 0) : Type 0 where
-  pub nothing_left : (allow : ℕ) (s : State G.P) → Q allow [] (halt quiet (lives s))
-  pub none_allowed : (s : State G.P) (piece : List ℕ) → Q zero piece (halt quiet (lives s))
-  pub waiting : (allow : ℕ) (piece : List ℕ) (t : Part) (p : G.P) → Q allow piece (halt quiet (lives (due t p)))
-  pub fault : (allow : ℕ) (piece : List ℕ) (code : Code) → Q allow piece (halt quiet (dies code))
-  pub empty_section : (allow : ℕ) (piece : List ℕ) (t : Part) (p : G.P) → Q allow piece (halt (section_bytes 0 true) (lives (due t p)))
-  pub told : (allow : ℕ) (piece : List ℕ) (k : Kept) (payload : List ℕ) (p : G.P) → Q allow piece (halt (taken k payload) (lives (between p)))
-  pub content_part : (allow left b : ℕ) (bs : List ℕ) (p : G.P) → let j = min left (length bs) in Q allow (b ∷ bs) (taking G content j (left - j) p)
-  pub section_part : (allow left b : ℕ) (bs : List ℕ) (t : Part) (p : G.P) → let j = min left (length bs) in Q allow (b ∷ bs) (taking G (section t) j (left - j) p)
-  pub byte : (allow b : ℕ) (bs : List ℕ) (f : Feeding G.P) → Q allow bs f → Q allow (b ∷ bs) (also 0 f)
-  pub header_byte : (allow b : ℕ) (bs : List ℕ) (f : Feeding G.P) → Q allow bs f → Q (suc allow) (b ∷ bs) (also 1 f)
 
 module _ (G : Grammar) (Q : (allow : ℕ) (piece : List ℕ) → Feeding G.P → Type 0) (c : Closed G Q) where
   judged_holds : (allow : ℕ) (piece : List ℕ) (k : Kept) (payload : List ℕ) (n : Next G.P) (f : State G.P → Feeding G.P) → Q allow piece (onward (judged_event k payload n) (answered n) f)
@@ -76,15 +64,6 @@ module _ (G : Grammar) (Q : (allow : ℕ) (piece : List ℕ) → Feeding G.P →
 
 -- ---- the stop rule
 
-pub data Stops {P : Type 0} (allow : ℕ) (piece : List ℕ) (f : Feeding P) : Type 0 where
-  at_section : {len : ℕ} {last : Bool} → f.event ≡ section_bytes len last → Stops allow piece f
-  at_content : {len : ℕ} → f.event ≡ content_bytes len → Stops allow piece f
-  at_taken : {k : Kept} {payload : List ℕ} → f.event ≡ taken k payload → Stops allow piece f
-  at_end : f.used ≡ length piece → Stops allow piece f
-  at_allowance : f.heads ≡ allow → Stops allow piece f
-  at_fault : {code : Code} → f.after ≡ dies code → Stops allow piece f
-  while_due : {t : Part} {p : P} → f.after ≡ lives (due t p) → Stops allow piece f
-
 also_stops : {P : Type 0} {allow : ℕ} (h all : ℕ) → h + allow ≡ all → {b : ℕ} {bs : List ℕ} {f : Feeding P} → Stops allow bs f → Stops all (b ∷ bs) (also h f)
 unfolding also
 also_stops h all n (at_section e) = at_section e
@@ -113,12 +92,6 @@ feed_stops G = every_feed G Stops (record {
 
 -- ---- progress
 
-abbrev pub ReadsOn : {P : Type 0} → State P → Type 0
-ReadsOn (in_type g p) = Unit {0}
-ReadsOn (in_length t g p) = Unit {0}
-ReadsOn (in_payload u k left p) = Unit {0}
-ReadsOn (due t p) = ⊥
-
 length_moves : (G : Grammar) (n t : ℕ) (p : G.P) (bs : List ℕ) (x : Fed) → 1 ≤ (elim x as (λ y. Feeding G.P) [
   | going g ↦ also 0 (feed G (suc n) (in_length t g p) bs)
   | value len ↦ also 1 (behind_header G len (G.rule p t len) (λ s. feed G n s bs))
@@ -139,13 +112,6 @@ feed_moves G n b (in_payload (kept t) k left p) bs h = omega arith
 feed_moves G n b (due t p) bs h = absurd h
 
 -- ---- a part is as long as the piece and the payload allow
-
-pub data Greedy {P : Type 0} (allow : ℕ) (piece : List ℕ) (f : Feeding P) : Type 0 where
-  no_part : f.event ≡ quiet → Greedy allow piece f
-  no_bytes : {k : Kept} {payload : List ℕ} → f.event ≡ taken k payload → Greedy allow piece f
-  piece_used : f.used ≡ length piece → Greedy allow piece f
-  content_over : {p : P} → f.after ≡ lives (between p) → Greedy allow piece f
-  section_over : {t : Part} {p : P} → f.after ≡ lives (due t p) → Greedy allow piece f
 
 also_greedy : {P : Type 0} {allow : ℕ} (h all : ℕ) {b : ℕ} {bs : List ℕ} {f : Feeding P} → Greedy allow bs f → Greedy all (b ∷ bs) (also h f)
 unfolding also
@@ -201,13 +167,6 @@ feed_allows G = every_feed G (λ allow piece f. f.heads ≤ allow) (record {
 
 -- ---- the mark
 
-pub data Marked {P : Type 0} (allow : ℕ) (piece : List ℕ) (f : Feeding P) : Type 0 where
-  not_at_all : f.event ≡ quiet → Marked allow piece f
-  not_content : {len : ℕ} → f.event ≡ content_bytes len → Marked allow piece f
-  not_told : {k : Kept} {payload : List ℕ} → f.event ≡ taken k payload → Marked allow piece f
-  marked : {len : ℕ} {t : Part} {p : P} → f.event ≡ section_bytes len true → f.after ≡ lives (due t p) → Marked allow piece f
-  unmarked : {len l : ℕ} {t : Part} {p : P} → f.event ≡ section_bytes len false → f.after ≡ lives (in_payload (section t) [] l p) → Marked allow piece f
-
 also_marked : {P : Type 0} {allow : ℕ} (h all : ℕ) {b : ℕ} {bs : List ℕ} {f : Feeding P} → Marked allow bs f → Marked all (b ∷ bs) (also h f)
 unfolding also
 also_marked h all (not_at_all e) = not_at_all e
@@ -241,12 +200,6 @@ feed_marks G = every_feed G Marked (record {
 
 never_dies : {P : Type 0} {A : Type 0} (s : State P) (code : Code) → lives s ≡ dies code → A
 never_dies s code e = let z : ◌≡◌ {A = ℕ} 0 1 = cc in absurd (omega arith)
-
-abbrev is_part : Use → Bool
-is_part content = true
-is_part skipped = false
-is_part (section t) = true
-is_part (kept k) = false
 
 part_lives : (G : Grammar) (u : Use) → is_part u ≡ true → (j l : ℕ) (p : G.P) (code : Code) → (taking G u j l p).after ≡ dies code → ⊥
 unfolding taking with_left over

@@ -10,20 +10,12 @@ use mathlib.Core.List.{List, [], ◌∷◌, ◌++◌, append_assoc, append-nil}
 use Rattle.std.proofs.Math.ListN.{length, take, length-append}
 use Rattle.std.proofs.Math.Seq.{length-take-le}
 use Rattle.rules.specs.Block.{Section}
-use Rattle.rules.specs.Reading.{Part, Kept, Use, content, skipped, section, kept, Ruling, refuse, accept, Next, stop, go, Grammar, Verdict, Saying, header, refused, section_byte, content_byte, frame_kept, told, read}
+use Rattle.rules.specs.Reading.{Kept, Use, content, skipped, section, kept, Ruling, refuse, accept, Next, stop, go, Grammar, Saying, header, refused, section_byte, content_byte, frame_kept, told}
 use Rattle.meaning.specs.Machine.{Prog, Fed, going, value, fed, State, in_type, in_length, in_payload, due, Outcome, lives, dies, between, answered, typed, keep, with_left, ruled, sized, step, given, judged_says, over_says, left_says, rule_says, size_says, says, reads, resumed, supplied, settled, next, tells, finished, begins, run, began, lists}
 use Rattle.meaning.specs.Feed.{Event, quiet, section_bytes, content_bytes, taken, Feeding, halt, also, onward, judged_event, over_event, left_event, behind_header, named, taking, feed, shows}
 use Rattle.meaning.proofs.Bridge.{told_cons, told_nil}
 use Rattle.meaning.proofs.Cut.{run_append, lists_append, read_is}
-
--- what is said, without the headers: that is what events show
-unfoldable pub unheaded : List Saying → List Saying
-unheaded [] = []
-unheaded (header h u ∷ xs) = unheaded xs
-unheaded (refused h ∷ xs) = unheaded xs
-unheaded (section_byte b ∷ xs) = section_byte b ∷ unheaded xs
-unheaded (content_byte b ∷ xs) = content_byte b ∷ unheaded xs
-unheaded (frame_kept t k ∷ xs) = frame_kept t k ∷ unheaded xs
+use Rattle.meaning.specs.Feeds.{unheaded, headers_in, Within, Call, feed_call, give_call, takes, Runs, rule_shows, Handed, of_content, of_section, calls, Came, verdict_of_done, CallsRead}
 
 pub unheaded_append : (x y : List Saying) → unheaded (x ++ y) ≡ unheaded x ++ unheaded y
 unfolding unheaded
@@ -33,15 +25,6 @@ unheaded_append (refused h ∷ x) y = unheaded_append x y
 unheaded_append (section_byte b ∷ x) y = ap (λ l. section_byte b ∷ l) (unheaded_append x y)
 unheaded_append (content_byte b ∷ x) y = ap (λ l. content_byte b ∷ l) (unheaded_append x y)
 unheaded_append (frame_kept t k ∷ x) y = ap (λ l. frame_kept t k ∷ l) (unheaded_append x y)
-
--- the headers finished, accepted or not
-unfoldable pub headers_in : List Saying → ℕ
-headers_in [] = 0
-headers_in (header h u ∷ xs) = suc (headers_in xs)
-headers_in (refused h ∷ xs) = suc (headers_in xs)
-headers_in (section_byte b ∷ xs) = headers_in xs
-headers_in (content_byte b ∷ xs) = headers_in xs
-headers_in (frame_kept t k ∷ xs) = headers_in xs
 
 pub headers_in_append : (x y : List Saying) → headers_in (x ++ y) ≡ headers_in x + headers_in y
 unfolding headers_in
@@ -72,12 +55,6 @@ told_then : (u : Use) (b : ℕ) (bs : List ℕ) (rest : List Saying) → told u 
 told_then u b bs rest e =
     told_cons u b bs ∙ ap (λ x. told u (b ∷ []) ++ x) e ∙ ap (λ x. x ++ unheaded rest) (sym (unheaded_told u (b ∷ []))) ∙ sym (unheaded_append (told u (b ∷ [])) rest)
 
-abbrev pub Within : Event → ℕ → Type 0
-Within quiet u = Unit {0}
-Within (section_bytes len last) u = len ≤ u
-Within (content_bytes len) u = len ≤ u
-Within (taken t k) u = Unit {0}
-
 pub shows_also : (e : Event) (u b : ℕ) (bs : List ℕ) → Within e u → shows e (suc u) (b ∷ bs) ≡ shows e u bs
 unfolding shows
 shows_also quiet u b bs w = refl
@@ -92,22 +69,14 @@ within_also (content_bytes len) u w = omega arith
 within_also (taken t k) u w = tt
 
 module _ (G : Grammar) where
-  -- A feed is the definition's reading of what it consumed, whatever blocks come: the state, what is shown (behind `before`), the headers.
-  pub record Runs (place : ℕ) (o : Outcome G.P) (before : List Saying) (piece : List ℕ) (f : Feeding G.P) : Type 0 where
-    pub fits : f.used ≤ length piece
-    pub within : Within f.event f.used
-    pub state : (bl : List Section) → settled G (place + f.used) bl f.after ≡ run G place (settled G place bl o) (take f.used piece)
-    pub shown : (begun : ℕ) (bl : List Section) → shows f.event f.used piece ≡ before ++ unheaded (lists G begun place (settled G place bl o) (take f.used piece))
-    pub heads : (begun : ℕ) (bl : List Section) → f.heads ≡ headers_in (lists G begun place (settled G place bl o) (take f.used piece))
-
   halt_runs : (place : ℕ) (e : Event) (o : Outcome G.P) (before : List Saying) (piece : List ℕ)
-      → Within e 0 → shows e 0 piece ≡ before → Runs place o before piece (halt e o)
+      → Within e 0 → shows e 0 piece ≡ before → Runs G place o before piece (halt e o)
   unfolding halt run lists headers_in unheaded
   halt_runs place e o before piece w s =
       record { fits = zero-le; within = w; state = λ bl. rw add-zero; shown = λ begun bl. s ∙ sym (append-nil before); heads = λ begun bl. refl }
 
   onward_runs : (place : ℕ) (e : Event) (o : Outcome G.P) (before : List Saying) (piece : List ℕ) (f : State G.P → Feeding G.P)
-      → Within e 0 → shows e 0 piece ≡ before → ((s : State G.P) → Runs place (lives s) [] piece (f s)) → Runs place o before piece (onward e o f)
+      → Within e 0 → shows e 0 piece ≡ before → ((s : State G.P) → Runs G place (lives s) [] piece (f s)) → Runs G place o before piece (onward e o f)
   unfolding onward shows
   onward_runs place quiet (lives s) before piece f w h r = rw (← h) (r s)
   onward_runs place quiet (dies code) before piece f w h r = halt_runs place quiet (dies code) before piece tt h
@@ -119,11 +88,11 @@ module _ (G : Grammar) where
   also_runs : (place : ℕ) (s : State G.P) (o : Outcome G.P) (before : List Saying) (b h : ℕ) (bs : List ℕ) (f : Feeding G.P)
       → ((bl : List Section) → supplied G place bl s ≡ reads bl s) → step G s b ≡ o
       → ((begun : ℕ) → unheaded (says G begun (suc place) s b) ≡ before) → ((begun : ℕ) → headers_in (says G begun (suc place) s b) ≡ h)
-      → Runs (suc place) o before bs f → Runs place (lives s) [] (b ∷ bs) (also h f)
+      → Runs G (suc place) o before bs f → Runs G place (lives s) [] (b ∷ bs) (also h f)
   unfolding also run lists next tells settled
   also_runs place s o before b h bs f g st fs fh r' =
       let n : place + suc f.used ≡ suc place + f.used = omega arith in
-      let r : Runs (suc place) (step G s b) before bs f = rw st r' in
+      let r : Runs G (suc place) (step G s b) before bs f = rw st r' in
       record {
         fits = omega (arith, r.fits);
         within = within_also f.event f.used r.within;
@@ -167,18 +136,13 @@ module _ (G : Grammar) where
   left_within (kept t) k zero p = judged_within t k (G.judged t p k)
   left_within u k (suc l) p = tt
 
-  -- what a ruling shows: all but the header
-  rule_shows : (len : ℕ) → Ruling G.P → List Saying
-  rule_shows len (refuse code) = []
-  rule_shows len (accept u p) = unheaded (left_says G u [] len p)
-
-  rule_unheaded : (begun place t len : ℕ) (ru : Ruling G.P) → unheaded (rule_says G begun place t len ru) ≡ rule_shows len ru
+  rule_unheaded : (begun place t len : ℕ) (ru : Ruling G.P) → unheaded (rule_says G begun place t len ru) ≡ rule_shows G len ru
   unfolding rule_says unheaded rule_shows
   rule_unheaded begun place t len (refuse code) = refl
   rule_unheaded begun place t len (accept u p) = refl
 
   behind_runs : (place len : ℕ) (ru : Ruling G.P) (bs : List ℕ) (f : State G.P → Feeding G.P)
-      → ((s : State G.P) → Runs place (lives s) [] bs (f s)) → Runs place (ruled G len ru) (rule_shows len ru) bs (behind_header G len ru f)
+      → ((s : State G.P) → Runs G place (lives s) [] bs (f s)) → Runs G place (ruled G len ru) (rule_shows G len ru) bs (behind_header G len ru f)
   unfolding behind_header ruled rule_shows
   behind_runs place len (refuse code) bs f r = halt_runs place quiet (dies code) [] bs tt (unfold shows in refl)
   behind_runs place len (accept u p) bs f r =
@@ -207,9 +171,9 @@ module _ (G : Grammar) where
   payload_heads begun place u k left p b =
       let a = headers_in_append (told u (b ∷ [])) (left_says G u (keep u k b) left p) in let c = told_heads u b in let d = left_heads u (keep u k b) left p in omega arith
 
-  length_runs : (n place t : ℕ) (g : Prog) (p : G.P) (b : ℕ) (bs : List ℕ) → ((n place : ℕ) (s : State G.P) → Runs place (lives s) [] bs (feed G n s bs))
+  length_runs : (n place t : ℕ) (g : Prog) (p : G.P) (b : ℕ) (bs : List ℕ) → ((n place : ℕ) (s : State G.P) → Runs G place (lives s) [] bs (feed G n s bs))
       → (x : Fed) → fed g b ≡ x
-      → Runs place (lives (in_length t g p)) [] (b ∷ bs) (elim x [
+      → Runs G place (lives (in_length t g p)) [] (b ∷ bs) (elim x [
         | going f ↦ also 0 (feed G (suc n) (in_length t f p) bs)
         | value len ↦ also 1 (behind_header G len (G.rule p t len) (λ s. feed G n s bs))
       ])
@@ -218,27 +182,24 @@ module _ (G : Grammar) where
       also_runs place (in_length t g p) (lives (in_length t f p)) [] b 0 bs (feed G (suc n) (in_length t f p) bs)
       (λ bl. refl) (rw e) (λ begun. rw e) (λ begun. rw e) (ih (suc n) (suc place) (in_length t f p))
   length_runs n place t g p b bs ih (value len) e =
-      also_runs place (in_length t g p) (ruled G len (G.rule p t len)) (rule_shows len (G.rule p t len)) b 1 bs _
+      also_runs place (in_length t g p) (ruled G len (G.rule p t len)) (rule_shows G len (G.rule p t len)) b 1 bs _
       (λ bl. refl) (rw e) (λ begun. rw e (rule_unheaded begun (suc place) t len (G.rule p t len))) (λ begun. rw e (rule_heads begun (suc place) t len (G.rule p t len)))
       (behind_runs (suc place) len (G.rule p t len) bs (λ s. feed G n s bs) (λ s. ih n (suc place) s))
 
   -- ---- a payload that is handed on: content, or a section
-  data Handed : Use → Type 0 where
-    of_content : Handed content
-    of_section : {t : Part} → Handed (section t)
 
-  handed_left : {u : Use} (l : ℕ) (p : G.P) → Handed u → left_says G u [] l p ≡ []
+  handed_left : {u : Use} (l : ℕ) (p : G.P) → Handed G u → left_says G u [] l p ≡ []
   unfolding left_says over_says
   handed_left zero p of_content = refl
   handed_left zero p of_section = refl
   handed_left (suc l) p h = refl
 
-  handed_keep : {u : Use} (k : List ℕ) (b : ℕ) → Handed u → keep u k b ≡ []
+  handed_keep : {u : Use} (k : List ℕ) (b : ℕ) → Handed G u → keep u k b ≡ []
   unfolding keep
   handed_keep k b of_content = refl
   handed_keep k b of_section = refl
 
-  payload_run : {u : Use} (h : Handed u) (p : G.P) (bl : List Section) (j l place : ℕ) (bs : List ℕ) → j ≤ l → j ≤ length bs
+  payload_run : {u : Use} (h : Handed G u) (p : G.P) (bl : List Section) (j l place : ℕ) (bs : List ℕ) → j ≤ l → j ≤ length bs
       → settled G (place + j) bl (with_left G u [] (l - j) p) ≡ run G place (settled G place bl (with_left G u [] l p)) (take j bs)
   unfolding run next step with_left settled supplied
   payload_run h p bl zero l place bs i m = rw (add-zero, sub-zero)
@@ -251,7 +212,7 @@ module _ (G : Grammar) where
       rw (n, d) (payload_run h p bl j l (suc place) bs (omega arith) (omega arith)
       ∙ ap (λ x. run G (suc place) (settled G (suc place) bl (with_left G u x l p)) (take j bs)) (sym k))
 
-  payload_says : {u : Use} (h : Handed u) (p : G.P) (bl : List Section) (j l begun place : ℕ) (bs : List ℕ) → j ≤ l → j ≤ length bs
+  payload_says : {u : Use} (h : Handed G u) (p : G.P) (bl : List Section) (j l begun place : ℕ) (bs : List ℕ) → j ≤ l → j ≤ length bs
       → (told u (take j bs) ≡ unheaded (lists G begun place (settled G place bl (with_left G u [] l p)) (take j bs)))
       × (0 ≡ headers_in (lists G begun place (settled G place bl (with_left G u [] l p)) (take j bs)))
   unfolding lists next step tells says with_left settled supplied
@@ -269,9 +230,9 @@ module _ (G : Grammar) where
         rw (k, e, a) (omega (arith, r.1, told_heads u b, headers_in_append (told u (b ∷ [])) (lists G begun' (suc place) q (take j bs)))),
       )
 
-  taking_runs : {u : Use} (h : Handed u) (k : List ℕ) (p : G.P) (j left place b : ℕ) (bs : List ℕ) → j ≤ left → j ≤ length bs
+  taking_runs : {u : Use} (h : Handed G u) (k : List ℕ) (p : G.P) (j left place b : ℕ) (bs : List ℕ) → j ≤ left → j ≤ length bs
       → shows (named G u (suc j) (left - j)) (suc j) (b ∷ bs) ≡ told u (b ∷ take j bs) → Within (named G u (suc j) (left - j)) (suc j)
-      → Runs place (lives (in_payload u k left p)) [] (b ∷ bs) (taking G u j (left - j) p)
+      → Runs G place (lives (in_payload u k left p)) [] (b ∷ bs) (taking G u j (left - j) p)
   unfolding taking settled supplied run lists next tells says step
   taking_runs {u} h k p j left place b bs i m c w =
       let n : place + suc j ≡ suc place + j = omega arith in
@@ -297,7 +258,7 @@ module _ (G : Grammar) where
             ));
       }
 
-  handed_shows : {u : Use} → Handed u → (j l b : ℕ) (bs : List ℕ) → shows (named G u (suc j) l) (suc j) (b ∷ bs) ≡ told u (b ∷ take j bs)
+  handed_shows : {u : Use} → Handed G u → (j l b : ℕ) (bs : List ℕ) → shows (named G u (suc j) l) (suc j) (b ∷ bs) ≡ told u (b ∷ take j bs)
   unfolding shows told named
   handed_shows of_content j l b bs = rw (sub_self (suc j))
   handed_shows of_section j l b bs = rw (sub_self (suc j))
@@ -308,7 +269,7 @@ module _ (G : Grammar) where
   skip_shows (suc l) p b bs = refl
 
   -- EVERY FEED is the reading of what it consumed
-  pub feed_runs : (allow place : ℕ) (s : State G.P) (piece : List ℕ) → Runs place (lives s) [] piece (feed G allow s piece)
+  pub feed_runs : (allow place : ℕ) (s : State G.P) (piece : List ℕ) → Runs G place (lives s) [] piece (feed G allow s piece)
   unfolding feed step supplied says keep named unheaded told headers_in
   feed_runs allow place s [] = halt_runs place quiet (lives s) [] [] tt (unfold shows in refl)
   feed_runs zero place (in_type g p) (b ∷ bs) = halt_runs place quiet (lives (in_type g p)) [] (b ∷ bs) tt (unfold shows in refl)
@@ -336,43 +297,7 @@ module _ (G : Grammar) where
 
 -- ---- the calls of one stream, in whatever order the host makes them
 
-pub data Call : Type 0 where
-  feed_call : (allow : ℕ) (piece : List ℕ) → Call  -- while a section is due it is refused with 4, and consumes nothing
-  give_call : Section → Call  -- where none is due it is refused with 5, and nothing is altered
-
--- the block is taken if a section is due
-unfoldable pub takes : {P : Type 0} → Section → State P → List Section
-takes block (in_type g p) = []
-takes block (in_length t g p) = []
-takes block (in_payload u k left p) = []
-takes block (due t p) = block ∷ []
-
--- what the calls came to: the bytes consumed, the blocks taken, what the events showed, the headers finished, and what is left
-pub record Done (P : Type 0) : Type 0 where
-  pub bytes : List ℕ
-  pub sections : List Section
-  pub shown : List Saying
-  pub heads : ℕ
-  pub after : Outcome P
-
 module _ (G : Grammar) where
-  unfoldable pub calls : Outcome G.P → List Call → Done G.P
-  calls o [] = record { bytes = []; sections = []; shown = []; heads = 0; after = o }
-  calls (dies code) (c ∷ cs) = calls (dies code) cs
-  calls (lives s) (feed_call allow piece ∷ cs) =
-      let f = feed G allow s piece in
-      let d = calls f.after cs in
-      record { bytes = take f.used piece ++ d.bytes; sections = d.sections; shown = shows f.event f.used piece ++ d.shown; heads = f.heads + d.heads; after = d.after }
-  calls (lives s) (give_call block ∷ cs) =
-      let d = calls (given G block s) cs in
-      record { bytes = d.bytes; sections = takes block s ++ d.sections; shown = d.shown; heads = d.heads; after = d.after }
-
-  -- the definition's reading of the bytes and blocks, whatever blocks would follow
-  pub record Came (place : ℕ) (o : Outcome G.P) (d : Done G.P) : Type 0 where
-    pub state : (bl : List Section) → settled G (place + length d.bytes) bl d.after ≡ run G place (settled G place (d.sections ++ bl) o) d.bytes
-    pub shown : (begun : ℕ) (bl : List Section) → d.shown ≡ unheaded (lists G begun place (settled G place (d.sections ++ bl) o) d.bytes)
-    pub heads : (begun : ℕ) (bl : List Section) → d.heads ≡ headers_in (lists G begun place (settled G place (d.sections ++ bl) o) d.bytes)
-
   answered_settled : (place : ℕ) (bl : List Section) (n : Next G.P) → resumed G place bl n ≡ settled G place bl (answered n)
   unfolding resumed settled supplied answered
   answered_settled place bl (stop code) = refl
@@ -386,7 +311,7 @@ module _ (G : Grammar) where
   given_settled place (due t p) block bl = answered_settled place bl (G.given t p block)
 
   -- WHATEVER THE CALLS, what they leave, show and count is the definition's for the bytes consumed and the blocks taken
-  pub calls_come : (place : ℕ) (o : Outcome G.P) (cs : List Call) → Came place o (calls o cs)
+  pub calls_come : (place : ℕ) (o : Outcome G.P) (cs : List Call) → Came G place o (calls G o cs)
   unfolding calls
   calls_come place o [] = unfold run lists headers_in unheaded in record { state = λ bl. rw add-zero; shown = λ begun bl. refl; heads = λ begun bl. refl }
   calls_come place (dies code) (c ∷ cs) = calls_come place (dies code) cs
@@ -395,7 +320,7 @@ module _ (G : Grammar) where
       let r = feed_runs G allow place s piece in
       let c = calls_come (place + f.used) f.after cs in
       let x = take f.used piece in
-      let d = calls f.after cs in
+      let d = calls G f.after cs in
       let l : length x ≡ f.used = length-take-le f.used piece r.fits in
       let n : place + length x ≡ place + f.used = ap (λ k. place + k) l in
       let m = length-append x d.bytes in
@@ -424,27 +349,18 @@ module _ (G : Grammar) where
       }
   calls_come place (lives s) (give_call block ∷ cs) =
       let c = calls_come place (given G block s) cs in
-      let d = calls (given G block s) cs in
+      let d = calls G (given G block s) cs in
       record {
         state = λ bl. (let e = append_assoc (takes block s) d.sections bl in let g = given_settled place s block (d.sections ++ bl) in rw (e, g) (c.state bl));
         shown = λ begun bl. (let e = append_assoc (takes block s) d.sections bl in let g = given_settled place s block (d.sections ++ bl) in rw (e, g) (c.shown begun bl));
         heads = λ begun bl. (let e = append_assoc (takes block s) d.sections bl in let g = given_settled place s block (d.sections ++ bl) in rw (e, g) (c.heads begun bl));
       }
 
-  -- the verdict at the end of the calls: a section still due is a wait
-  unfoldable pub verdict_of_done : Done G.P → Verdict
-  verdict_of_done d = finished G (length d.bytes) (settled G (length d.bytes) [] d.after)
-
-  pub record CallsRead (d : Done G.P) : Type 0 where
-    pub verdict : verdict_of_done d ≡ (read G d.sections d.bytes).verdict
-    pub shown : d.shown ≡ unheaded (read G d.sections d.bytes).said
-    pub heads : d.heads ≡ headers_in (read G d.sections d.bytes).said
-
   -- DEMAND 2, whole: any sequence of feeds, allowances and sections gives the reading of the bytes consumed and the blocks taken
-  pub calls_read : (cs : List Call) → CallsRead (calls (lives (between G.start)) cs)
+  pub calls_read : (cs : List Call) → CallsRead G (calls G (lives (between G.start)) cs)
   unfolding verdict_of_done settled supplied
   calls_read cs =
-      let d = calls (lives (between G.start)) cs in
+      let d = calls G (lives (between G.start)) cs in
       let c = calls_come 0 (lives (between G.start)) cs in
       let w = read_is G d.sections d.bytes in
       let z = zero-add (length d.bytes) in

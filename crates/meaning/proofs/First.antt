@@ -2,16 +2,17 @@
 -- For every grammar. Assumes nothing.
 use Rattle.std.proofs.Math.Path.{◌≡◌, refl, sym, ap, subst}
 use Rattle.std.proofs.Common.{◌∙◌}
-use Prim.Native.Nat.{ℕ, zero, suc, ◌+◌, ◌≤◌, ◌<◌}
+use Prim.Native.Nat.{ℕ, zero, suc, ◌<◌}
 use native.Mathlib.Omega.{arith}
 use mathlib.Core.List.{List, [], ◌∷◌, ◌++◌, append-nil}
 use Rattle.std.specs.Prelude.{◌↔◌, take}
 use Rattle.std.proofs.Math.ListN.{length, length-append}
 use Rattle.rules.specs.Numbers.{Code}
 use Rattle.rules.specs.Block.{Section}
-use Rattle.rules.specs.Reading.{Next, stop, go, End, complete, lacking, Grammar, Verdict, whole, fault, waits, ended, read}
+use Rattle.rules.specs.Reading.{Next, stop, go, End, complete, lacking, Grammar, Verdict, fault, waits, ended, read}
 use Rattle.meaning.specs.Machine.{fresh, need, State, in_type, in_length, in_payload, due, Outcome, lives, dies, between, step, finish, Run, reads, stuck, resumed, supplied, settled, next, tells, finished, begins, run, began, lists, fresh_run}
 use Rattle.meaning.proofs.Cut.{read_is, run_append, lists_append}
+use Rattle.meaning.specs.First.{place_of, ReadsOn, Inside, Struck, FirstFault, Due, Finds}
 
 module _ (G : Grammar) where
   pub stuck_run : (at : ℕ) (v : Verdict) (bs : List ℕ) → run G at (stuck v) bs ≡ stuck v
@@ -24,28 +25,7 @@ module _ (G : Grammar) where
   stuck_lists o at v [] = refl
   stuck_lists o at v (b ∷ bs) = stuck_lists o (suc at) v bs
 
-  -- The bytes settle the verdict inside the stream, before any end.
-  unfoldable pub Inside : List Section → List ℕ → Verdict → Type 0
-  Inside blocks bytes v = run G 0 (fresh_run G blocks) bytes ≡ stuck v
-
-unfoldable pub place_of : Verdict → ℕ
-place_of whole = 0
-place_of (fault code place) = place
-place_of (waits place) = place
-
-abbrev pub ReadsOn : {P : Type 0} → Run P → Type 0
-ReadsOn (reads bl s) = Unit {0}
-ReadsOn (stuck v) = ⊥
-
 module _ (G : Grammar) where
-  -- where a run struck: at a byte of the piece, and not before
-  record Struck (at : ℕ) (r : Run G.P) (bs : List ℕ) (v : Verdict) : Type 0 where
-    k : ℕ
-    fits : k ≤ length bs
-    place : place_of v ≡ at + k
-    then : run G at r (take k bs) ≡ stuck v
-    before : (q : ℕ) → q < k → ReadsOn (run G at r (take q bs))
-
   resumed_place : (place : ℕ) (bl : List Section) (n : Next G.P) (v : Verdict) → resumed G place bl n ≡ stuck v → place_of v ≡ place
   unfolding resumed
   resumed_place place bl (stop code) v e = let x : v ≡ fault code place = cc in rw x (unfold place_of in refl)
@@ -65,8 +45,8 @@ module _ (G : Grammar) where
   settled_place place bl (dies code) v e = let x : v ≡ fault code place = cc in rw x (unfold place_of in refl)
 
   strike : (at : ℕ) (bl : List Section) (s : State G.P) (b : ℕ) (bs : List ℕ) (v : Verdict)
-      → ((bl : List Section) (s : State G.P) → run G (suc at) (reads bl s) bs ≡ stuck v → Struck (suc at) (reads bl s) bs v)
-      → (x : Run G.P) → next G (suc at) (reads bl s) b ≡ x → run G (suc at) x bs ≡ stuck v → Struck at (reads bl s) (b ∷ bs) v
+      → ((bl : List Section) (s : State G.P) → run G (suc at) (reads bl s) bs ≡ stuck v → Struck G (suc at) (reads bl s) bs v)
+      → (x : Run G.P) → next G (suc at) (reads bl s) b ≡ x → run G (suc at) x bs ≡ stuck v → Struck G at (reads bl s) (b ∷ bs) v
   unfolding run next
   strike at bl s b bs v ih (stuck w) q e =
       let k = stuck_run G (suc at) w bs in
@@ -94,7 +74,7 @@ module _ (G : Grammar) where
       earlier c u k f q zero h = tt
       earlier c u k f q (suc n) h = subst (λ x. ReadsOn (run G (suc at) x (take n bs))) (sym q) (f n (omega arith))
 
-  struck : (at : ℕ) (bl : List Section) (s : State G.P) (bs : List ℕ) (v : Verdict) → run G at (reads bl s) bs ≡ stuck v → Struck at (reads bl s) bs v
+  struck : (at : ℕ) (bl : List Section) (s : State G.P) (bs : List ℕ) (v : Verdict) → run G at (reads bl s) bs ≡ stuck v → Struck G at (reads bl s) bs v
   unfolding run
   struck at bl s [] v e = let z : ◌≡◌ {A = ℕ} 0 1 = cc in absurd (omega arith)
   struck at bl s (b ∷ bs) v e = strike at bl s b bs v (λ c u. struck (suc at) c u bs v) (next G (suc at) (reads bl s) b) refl e
@@ -116,18 +96,11 @@ module _ (G : Grammar) where
         ap (λ r. r.said) (read_is G bl (x ++ t)) ∙ l ∙ ap (λ z. lists G 0 0 r0 x ++ z) n ∙ append-nil _ ∙ sym (ap (λ r. r.said) (read_is G bl x)),
       )
 
-  -- THE FIRST FAULT, at place p: it is there after p bytes, it is the verdict whatever follows them, and no shorter beginning settles anything.
-  pub record FirstFault (bl : List Section) (bytes : List ℕ) (code : Code) (p : ℕ) : Type 0 where
-    pub within : p ≤ length bytes
-    pub there : Inside G bl (take p bytes) (fault code p)
-    pub same : (t : List ℕ) → (read G bl (take p bytes ++ t)).verdict ≡ fault code p
-    pub first : (q : ℕ) (v : Verdict) → q < p → Inside G bl (take q bytes) v → ⊥
-
   not_both : (r : Run G.P) (v : Verdict) → ReadsOn r → r ≡ stuck v → ⊥
   not_both (reads bl s) v h e = let z : ◌≡◌ {A = ℕ} 0 1 = cc in omega arith
   not_both (stuck w) v h e = h
 
-  pub first_fault : (bl : List Section) (bytes : List ℕ) (code : Code) (p : ℕ) → Inside G bl bytes (fault code p) → FirstFault bl bytes code p
+  pub first_fault : (bl : List Section) (bytes : List ℕ) (code : Code) (p : ℕ) → Inside G bl bytes (fault code p) → FirstFault G bl bytes code p
   unfolding Inside place_of
   first_fault bl bytes code p e =
       let s = struck 0 bl (in_type fresh G.start) bytes (fault code p) e in
@@ -194,28 +167,18 @@ module _ (G : Grammar) where
 -- ---- and it depends on the sections due by then, and on no others
 
 module _ (G : Grammar) where
-  -- of some sections, those taken by a run that comes to a fault: whatever others follow them, it comes to the same
-  pub record Due (at : ℕ) (r : List Section → Run G.P) (bs : List ℕ) (code : Code) (place : ℕ) (sections : List Section) : Type 0 where
-    pub taken : List Section
-    pub left : List Section
-    pub are : sections ≡ taken ++ left
-    pub same : (others : List Section) → run G at (r (taken ++ others)) bs ≡ stuck (fault code place)
-
-  abbrev Finds : (at : ℕ) (bs : List ℕ) (code : Code) (place : ℕ) → Type 0
-  Finds at bs code place = (s : State G.P) (sections : List Section) → run G at (reads sections s) bs ≡ stuck (fault code place) → Due at (λ l. reads l s) bs code place sections
-
   none_taken : (at : ℕ) (bs : List ℕ) (code : Code) (place : ℕ) (c : Code) (p : ℕ) (sections : List Section) → run G at (stuck (fault c p)) bs ≡ stuck (fault code place)
-      → Due at (λ l. stuck (fault c p)) bs code place sections
+      → Due G at (λ l. stuck (fault c p)) bs code place sections
   none_taken at bs code place c p sections e = record { taken = []; left = sections; are = refl; same = λ others. e }
 
-  resumed_due : (at : ℕ) (bs : List ℕ) (code : Code) (place : ℕ) → Finds at bs code place → (sections : List Section) (n : Next G.P)
-      → run G at (resumed G at sections n) bs ≡ stuck (fault code place) → Due at (λ l. resumed G at l n) bs code place sections
+  resumed_due : (at : ℕ) (bs : List ℕ) (code : Code) (place : ℕ) → Finds G at bs code place → (sections : List Section) (n : Next G.P)
+      → run G at (resumed G at sections n) bs ≡ stuck (fault code place) → Due G at (λ l. resumed G at l n) bs code place sections
   unfolding resumed
   resumed_due at bs code place ih sections (stop c) e = none_taken at bs code place c at sections e
   resumed_due at bs code place ih sections (go p) e = ih (between p) sections e
 
-  supplied_due : (at : ℕ) (bs : List ℕ) (code : Code) (place : ℕ) → Finds at bs code place → (s : State G.P) (sections : List Section)
-      → run G at (supplied G at sections s) bs ≡ stuck (fault code place) → Due at (λ l. supplied G at l s) bs code place sections
+  supplied_due : (at : ℕ) (bs : List ℕ) (code : Code) (place : ℕ) → Finds G at bs code place → (s : State G.P) (sections : List Section)
+      → run G at (supplied G at sections s) bs ≡ stuck (fault code place) → Due G at (λ l. supplied G at l s) bs code place sections
   unfolding supplied
   supplied_due at bs code place ih (in_type g p) sections e = ih (in_type g p) sections e
   supplied_due at bs code place ih (in_length t g p) sections e = ih (in_length t g p) sections e
@@ -225,13 +188,13 @@ module _ (G : Grammar) where
       let d = resumed_due at bs code place ih sections (G.given t p c) e in
       record { taken = c ∷ d.taken; left = d.left; are = ap (λ l. c ∷ l) d.are; same = d.same }
 
-  settled_due : (at : ℕ) (bs : List ℕ) (code : Code) (place : ℕ) → Finds at bs code place → (o : Outcome G.P) (sections : List Section)
-      → run G at (settled G at sections o) bs ≡ stuck (fault code place) → Due at (λ l. settled G at l o) bs code place sections
+  settled_due : (at : ℕ) (bs : List ℕ) (code : Code) (place : ℕ) → Finds G at bs code place → (o : Outcome G.P) (sections : List Section)
+      → run G at (settled G at sections o) bs ≡ stuck (fault code place) → Due G at (λ l. settled G at l o) bs code place sections
   unfolding settled
   settled_due at bs code place ih (lives s) sections e = supplied_due at bs code place ih s sections e
   settled_due at bs code place ih (dies c) sections e = none_taken at bs code place c at sections e
 
-  finds : (bs : List ℕ) (at : ℕ) (code : Code) (place : ℕ) → Finds at bs code place
+  finds : (bs : List ℕ) (at : ℕ) (code : Code) (place : ℕ) → Finds G at bs code place
   unfolding run next
   finds [] at code place s sections e = let z : ◌≡◌ {A = ℕ} 0 1 = cc in absurd (omega arith)
   finds (b ∷ bs) at code place s sections e =

@@ -1,14 +1,13 @@
 -- An instance of each theorem, so that none is empty. Assumes nothing.
-use Rattle.std.specs.Prelude.{◌≡◌, refl, ℕ, ◌+◌, ◌≤◌, List, [], ◌∷◌, ◌++◌, true, false, length}
-use Rattle.std.proofs.Math.Option.{none, some}
+use Rattle.std.specs.Prelude.{◌≡◌, refl, ◌+◌, ◌≤◌, [], ◌∷◌, ◌++◌, true, false, length}
+use Rattle.std.proofs.Math.Option.{some}
 use Rattle.std.proofs.Common.{lit<}
 use Rattle.rules.specs.Numbers.{of_stream, message_error}
-use Rattle.rules.specs.Block.{Section}
 use Rattle.rules.specs.Integers.{got, integer}
 use Rattle.rules.specs.Frames.{frame, frames_from}
-use Rattle.rules.specs.Reading.{header_section, section, whole, fault, read, contents}
+use Rattle.rules.specs.Reading.{header_section, section, whole, read, contents}
 use Rattle.rules.specs.Message.{Message}
-use Rattle.rules.specs.Request.{Rules, all_sound, request}
+use Rattle.rules.specs.Request.{all_sound, request}
 use Rattle.rules.specs.OneWay.{encoder, one_way_read}
 use Rattle.rules.specs.Legal.{Legal}
 use Rattle.rules.specs.Worked.{answer}
@@ -17,30 +16,16 @@ use Rattle.meaning.specs.FrameLaws.{head, frame_back}
 use Rattle.meaning.specs.Machine.{fresh, in_payload, lives, between, given, answered, typed, keep, over, with_left, after, fed, supplied, settled, finished, finish, joined, pieces, fresh_run}
 use Rattle.meaning.proofs.Cut.{any_cutting}
 use Rattle.meaning.specs.Feed.{section_bytes, feed, halt, also, onward, over_event, left_event, behind_header, named, taking, shows}
-use Rattle.meaning.proofs.Feeds.{Call, feed_call, give_call, takes, calls, verdict_of_done, calls_read}
-use Rattle.meaning.proofs.First.{FirstFault, first_fault, early_inside}
+use Rattle.meaning.specs.Feeds.{takes, calls, verdict_of_done}
+use Rattle.meaning.specs.First.{FirstFault}
+use Rattle.meaning.proofs.First.{first_fault, early_inside}
 use Rattle.meaning.specs.Whole.{whole_iff_legal}
 use Rattle.meaning.specs.Longer.{Longer}
 use Rattle.meaning.proofs.Longer.{longer, half_is_never_whole, whole_content}
 use Rattle.meaning.specs.OneWayFeed as O
+use Rattle.meaning.specs.OneWays.{Came}
 use Rattle.meaning.proofs.OneWays as W
-
--- H, then DATA of three bytes: document 01's stream, with Content-Length 3
-unfoldable pub H : List ℕ
-H = 0x01 ∷ 0x01 ∷ 0x00 ∷ []
-
-unfoldable pub upload : List ℕ
-upload = 0x01 ∷ 0x01 ∷ 0x00 ∷ 0x00 ∷ 0x03 ∷ 0x61 ∷ 0x62 ∷ 0x63 ∷ []
-
--- an empty DATA and an unknown frame behind it
-unfoldable pub behind : List ℕ
-behind = 0x00 ∷ 0x00 ∷ 0x21 ∷ 0x00 ∷ []
-
-abbrev three : Rules
-three = all_sound (some 3)
-
-abbrev one : List Section
-one = [] ∷ []
+use Rattle.meaning.specs.Instances.{H, upload, behind, three, one, some_calls, its_calls}
 
 -- integers: 37 in one byte, and no form of it shorter than that
 pub thirty_seven : integer 5 (0x25 ∷ 0x99 ∷ []) ≡ got 37 6 (0x99 ∷ [])
@@ -86,19 +71,6 @@ pub three_bytes : length (contents (read (request three) one upload).said) ≡ 3
 unfolding answer upload
 three_bytes = whole_content three [] [] upload 3 refl refl
 
--- calls: in pieces, an allowance of one header at a time, a feed while the section is due, a section too many, a feed with no allowance
-unfoldable pub some_calls : List Call
-some_calls =
-    feed_call 1 (0x01 ∷ [])
-    ∷ feed_call 1 (0x01 ∷ 0x00 ∷ 0x00 ∷ [])
-    ∷ feed_call 1 (0x00 ∷ 0x03 ∷ [])
-    ∷ give_call []
-    ∷ give_call []
-    ∷ feed_call 0 (0x00 ∷ 0x03 ∷ [])
-    ∷ feed_call 1 (0x00 ∷ 0x03 ∷ 0x61 ∷ 0x62 ∷ [])
-    ∷ feed_call 0 (0x63 ∷ [])
-    ∷ []
-
 pub they_come : let d = calls (request three) (lives (between Message.opening)) some_calls in
     (d.bytes ≡ upload) × (d.sections ≡ one) × (d.heads ≡ 2) × (verdict_of_done (request three) d ≡ whole)
 unfolding some_calls calls verdict_of_done feed halt also onward over_event left_event behind_header named taking shows takes given answered typed keep over with_left after fed supplied settled finished finish upload answer
@@ -110,11 +82,7 @@ pub marked_last : let half = in_payload (section header_section) [] 0 Message.op
 unfolding feed also onward left_event behind_header named taking typed with_left after fed answer
 marked_last = (refl, refl, refl)
 
--- a one-way stream: its type in two bytes, SETTINGS {6: 5} in pieces, a GOAWAY 4
-unfoldable pub its_calls : List O.Call
-its_calls = O.feed_call 0 (0x40 ∷ []) ∷ O.feed_call 1 (0x00 ∷ 0x04 ∷ 0x02 ∷ 0x06 ∷ []) ∷ O.feed_call 0 (0x05 ∷ 0x07 ∷ []) ∷ O.feed_call 5 (0x07 ∷ 0x01 ∷ 0x04 ∷ []) ∷ []
-
-pub it_comes : let d = O.calls [] O.nothing_done its_calls in W.Came [] d (one_way_read [] d.bytes)
+pub it_comes : let d = O.calls [] O.nothing_done its_calls in Came [] d (one_way_read [] d.bytes)
 it_comes = W.calls_read [] its_calls
 
 -- a QPACK stream's part begins behind its type

@@ -9,7 +9,7 @@ use Rattle.std.proofs.Math.Option.{Option, some}
 use Rattle.std.proofs.Math.ListN.{length-append}
 use Rattle.rules.specs.Block.{Section}
 use Rattle.rules.specs.Frames.{Frames, Frames.none as no_more, in_header, in_payload, frame, frames_from}
-use Rattle.rules.specs.Reading.{header_section, trailers, content, section, accept, whole, Saying, section_byte, content_byte, Reading, put, told, left_by, completed, judge, read_from, read, contents, header_bytes}
+use Rattle.rules.specs.Reading.{header_section, trailers, content, section, accept, whole, Saying, section_byte, content_byte, put, told, left_by, completed, judge, read_from, read, contents, header_bytes}
 use Rattle.rules.specs.Message.{opening, body, trailed, heads, trails}
 use Rattle.rules.specs.Request.{Rules, Header.good as good-header, rule, given, headed_by, trailed_by, next_of, request}
 use Rattle.rules.specs.Legal.{Unknown, AddsUp, Unknowns, Rest, Legal}
@@ -18,7 +18,7 @@ use Rattle.meaning.specs.MessageLaws.{Fits, carry_goes}
 use Rattle.meaning.specs.RequestLaws.{rule_unknown, rule_data, rule_header, rule_trailers}
 use Rattle.meaning.specs.FrameLaws.{Complete, AllThere, join, complete_from, frames_append}
 use Rattle.meaning.specs.Whole.{rest_fits, whole_iff_legal}
-use Rattle.meaning.specs.Longer.{no_headers, no_trailers, count_headers, Extra, end, unknown, empty_data, with_trailers, Longer, data_of, headers_of}
+use Rattle.meaning.specs.Longer.{Carries, Behind, no_headers, no_trailers, count_headers, Extra, Longer, data_of, headers_of}
 
 unknown_not : (t k : ℕ) → Unknown t → k ≤ 9 → eqb t k ≡ false
 unfolding Unknown
@@ -33,11 +33,6 @@ section_told : (p : List ℕ) (xs : List Saying) → (contents (map section_byte
 unfolding contents header_bytes
 section_told [] xs = (refl, refl)
 section_told (b ∷ p) xs = let i = section_told p xs in (i.0, ap (λ l. b ∷ l) i.1)
-
--- a reading carries this content and this header section
-record Carries (r : Reading) (its-data its-header : List ℕ) : Type 0 where
-  content : contents r.said ≡ its-data
-  header : header_bytes r.said ≡ its-header
 
 module _ (R : Rules) (total : ℕ) where
   unknowns_carry : (stated : Option ℕ) (sum : ℕ) (sections : List Section) {fs : Frames} → Unknowns fs → Carries (judge (request R) total (trailed stated sum) sections fs) [] []
@@ -127,14 +122,6 @@ no_both : {A : Type 0} (t : ℕ) → t ≡ 0 → t ≡ 1 → A
 no_both t z o = absurd (omega arith)
 
 module _ (R : Rules) (n : ℕ) (gs : Frames) where
-  -- of some sections, these are taken before gs comes, and gs is extra to what was before it
-  record Behind (sections : List Section) (count : ℕ) (may : Bool) : Type 0 where
-    taken : List Section
-    left : List Section
-    are : sections ≡ taken ++ left
-    each : length taken ≡ count
-    extra : Extra R may left gs
-
   -- behind DATA of the sum n, where n is stated, nothing more carries content
   full_extra : {sum : ℕ} {sections : List Section} {fs : Frames} → sum ≡ n → Rest R (some n) sum sections fs → Extra R true sections fs
   full_extra e (Rest.end a) = Extra.end
@@ -146,7 +133,7 @@ module _ (R : Rules) (n : ℕ) (gs : Frames) where
       Extra.empty_data z y (full_extra g r)
   full_extra e (Rest.trailers {sections = sections} z l t a u) = Extra.with_trailers z l t (unknowns_extra R sections u)
 
-  rest_behind : {sum : ℕ} {sections others : List Section} {fs : Frames} → Rest R (some n) sum sections fs → Rest R (some n) sum others (join fs gs) → Behind others (count_headers fs) (no_headers fs)
+  rest_behind : {sum : ℕ} {sections others : List Section} {fs : Frames} → Rest R (some n) sum sections fs → Rest R (some n) sum others (join fs gs) → Behind R n gs others (count_headers fs) (no_headers fs)
   unfolding join no_headers count_headers AddsUp
   rest_behind {others = others} (Rest.end a) w = record { taken = []; left = others; are = refl; each = refl; extra = full_extra a w }
   rest_behind (Rest.unknown {h = h} u r) (Rest.unknown v w) = let o = unknown_not h.type 1 u (omega arith) in rw (o, no_headers, count_headers) (rest_behind r w)
@@ -162,7 +149,7 @@ module _ (R : Rules) (n : ℕ) (gs : Frames) where
       rw (z, no_headers, count_headers, q) (record { taken = s ∷ []; left = left; are = refl; each = refl; extra = unknowns_extra R left (unknowns_behind gs u w) })
 
   legal_behind : {first : Section} {sections others : List Section} {fs : Frames} → R.header first ≡ good-header (some n)
-      → Legal R (first ∷ sections) fs → Legal R (first ∷ others) (join fs gs) → Behind (first ∷ others) (count_headers fs) (no_trailers fs)
+      → Legal R (first ∷ sections) fs → Legal R (first ∷ others) (join fs gs) → Behind R n gs (first ∷ others) (count_headers fs) (no_trailers fs)
   unfolding join no_trailers count_headers
   legal_behind e (Legal.unknown {h = h} u r) (Legal.unknown v w) = let o = unknown_not h.type 1 u (omega arith) in rw (o, no_trailers, count_headers) (legal_behind e r w)
   legal_behind e (Legal.unknown {h = h} u r) (Legal.headers z l s w) = no_mix h.type 1 u z (omega arith)

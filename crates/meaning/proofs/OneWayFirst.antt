@@ -12,38 +12,21 @@ use Rattle.rules.specs.Text.{is_one_of, lookup}
 use Rattle.rules.specs.Reading.{Saying, Verdict, whole, fault, waits, ended}
 use Rattle.rules.specs.Integers.{Int, cut, got, more, integer}
 use Rattle.rules.specs.Control.{Control, unset, control}
-use Rattle.rules.specs.OneWay.{encoder, decoder, Kind, a_control, a_qpack, skipped, Typed, refuse, is, once, type_rule, OneWay, untyped, refused, of_control, of_qpack, passed_over, typed, behind_type, one_way_read}
+use Rattle.rules.specs.OneWay.{encoder, decoder, Kind, a_control, a_qpack, skipped, Typed, refuse, is, once, type_rule, typed, behind_type, one_way_read}
 use Rattle.meaning.specs.IntegerLaws.{integer_length, integer_append}
 use Rattle.meaning.specs.Machine.{Prog, fresh, need, State, in_type, in_length, in_payload, due, Outcome, between, supplied, settled, finish, finished, run, next, fresh_run, step}
 use Rattle.meaning.proofs.Cut.{run_append, read_from_is}
 use Rattle.meaning.specs.TextLaws.{lookup_view, lookup_absent}
-use Rattle.meaning.proofs.First.{place_of, stuck_run}
+use Rattle.meaning.specs.First.{place_of}
+use Rattle.meaning.proofs.First.{stuck_run}
 use Rattle.meaning.specs.OneWayFeed.{OneState, lives, dies, Call, nothing_done, calls}
-use Rattle.meaning.proofs.OneWays.{resumed, Holds, h_type, h_refused, h_control, h_died, h_qpack, h_skipped, calls_hold, first_holds}
+use Rattle.meaning.specs.OneWays.{resumed, Holds, h_type, h_refused, h_control, h_died, h_qpack, h_skipped}
+use Rattle.meaning.proofs.OneWays.{calls_hold, first_holds}
+use Rattle.meaning.specs.OneWayFirst.{verdict_on, RefusedToo, SameToo, FaultAt, Struck, NoFault, Alike}
 
 -- ---- DEFINITION
 
--- the verdict on the bytes of a one-way stream (a QPACK stream's, and those that are passed over, are not judged)
-unfoldable pub verdict_on : OneWay → Verdict
-verdict_on untyped = whole
-verdict_on (refused code place) = fault code place
-verdict_on (of_control r) = r.verdict
-verdict_on (of_qpack q bytes) = whole
-verdict_on passed_over = whole
-
 module _ (seen : List ℕ) where
-  -- A FAULT OF THE BYTES: the verdict is this code at this place, whatever bytes follow (that of a control stream's end is none: its place moves)
-  abbrev pub FaultAt : Code → (place : ℕ) → List ℕ → Type 0
-  FaultAt code place bytes = (more : List ℕ) → verdict_on (one_way_read seen (bytes ++ more)) ≡ fault code place
-
-  -- the last of the bytes brings it
-  abbrev pub Struck : Code → List ℕ → Type 0
-  Struck code bytes = FaultAt code (length bytes) bytes
-
-  -- there is none among the bytes
-  abbrev pub NoFault : List ℕ → Type 0
-  NoFault bytes = (code : Code) (place : ℕ) → FaultAt code place bytes → ⊥
-
   -- ---- one fault only
 
   no_more : (x more : List ℕ) → length (x ++ more) ≡ length x → more ≡ []
@@ -54,11 +37,11 @@ module _ (seen : List ℕ) where
   same_fault v j k p q e f = (cc, cc)
 
   -- a fault of the bytes is one of all that begins with them
-  pub goes_on : (k : Code) (place : ℕ) (x more : List ℕ) → FaultAt k place x → FaultAt k place (x ++ more)
+  pub goes_on : (k : Code) (place : ℕ) (x more : List ℕ) → FaultAt seen k place x → FaultAt seen k place (x ++ more)
   goes_on k place x more f = λ rest. rw (append_assoc x more rest) (f (more ++ rest))
 
   -- no two are brought at different bytes
-  pub one_fault : (j k : Code) (w more : List ℕ) → Struck j w → Struck k (w ++ more) → (j ≡ k) × (more ≡ [])
+  pub one_fault : (j k : Code) (w more : List ℕ) → Struck seen j w → Struck seen k (w ++ more) → (j ≡ k) × (more ≡ [])
   one_fault j k w more a b =
       let x = w ++ more in
       let c : verdict_on (one_way_read seen x) ≡ fault k (length x) = rw (append-nil x) at (b []) in
@@ -80,7 +63,7 @@ module _ (seen : List ℕ) where
       let m : at + length (rest ++ more) ≡ length all = omega arith in
       rw (g, behind_type, r) (ap (λ x. x.verdict) (read_from_is control at (length all) [] (rest ++ more) m) ∙ ap (finished control (length all)) (run_append control at (length bytes) (fresh_run control []) rest more n))
 
-  struck : {bytes : List ℕ} {frames : List Saying} {qpack : List ℕ} {heads : ℕ} {code : Code} → Holds seen bytes frames qpack heads (dies code) → Struck code bytes
+  struck : {bytes : List ℕ} {frames : List Saying} {qpack : List ℕ} {heads : ℕ} {code : Code} → Holds seen bytes frames qpack heads (dies code) → Struck seen code bytes
   unfolding one_way_read behind_type typed verdict_on settled finished
   struck {bytes} (h_refused e r f q n) = λ more. (let g = integer_append 0 bytes more e in rw (g, behind_type, r) refl)
   struck {bytes} {code = code} (h_died e r c q) = λ more. (
@@ -119,11 +102,11 @@ module _ (seen : List ℕ) where
   no_bytes (need k v) at = refl
 
   -- of these bytes alone
-  alone : (code : Code) (place : ℕ) (bytes : List ℕ) → FaultAt code place bytes → verdict_on (one_way_read seen bytes) ≡ fault code place
+  alone : (code : Code) (place : ℕ) (bytes : List ℕ) → FaultAt seen code place bytes → verdict_on (one_way_read seen bytes) ≡ fault code place
   alone code place bytes f = rw (append-nil bytes) at (f [])
 
   control_unhurt : (bytes : List ℕ) (s : State Control) {t at : ℕ} {rest : List ℕ} → integer 0 bytes ≡ got t at rest → type_rule seen t ≡ is a_control
-      → settled control (length bytes) [] (Outcome.lives s) ≡ run control at (fresh_run control []) rest → NoFault bytes
+      → settled control (length bytes) [] (Outcome.lives s) ≡ run control at (fresh_run control []) rest → NoFault seen bytes
   unfolding run
   control_unhurt bytes s e r c code place x =
       let n = length bytes in
@@ -135,7 +118,7 @@ module _ (seen : List ℕ) where
       let z = moves_on n s code place b in
       omega arith
 
-  unhurt : {bytes : List ℕ} {frames : List Saying} {qpack : List ℕ} {heads : ℕ} {s : OneState} → Holds seen bytes frames qpack heads (lives s) → NoFault bytes
+  unhurt : {bytes : List ℕ} {frames : List Saying} {qpack : List ℕ} {heads : ℕ} {s : OneState} → Holds seen bytes frames qpack heads (lives s) → NoFault seen bytes
   unfolding one_way_read behind_type typed verdict_on
   unhurt {bytes} (h_type {g = g} h f q n) = λ code place x. (
       let e : integer 0 bytes ≡ cut = rw (append-nil bytes) at (h [] ∙ no_bytes g (length bytes)) in
@@ -147,21 +130,16 @@ module _ (seen : List ℕ) where
   -- ---- whatever the feeds
 
   -- A STREAM THAT WAS REFUSED was so for a fault that the last byte consumed brings
-  pub calls_struck : (cs : List Call) (code : Code) → (calls seen nothing_done cs).after ≡ dies code → Struck code (calls seen nothing_done cs).bytes
+  pub calls_struck : (cs : List Call) (code : Code) → (calls seen nothing_done cs).after ≡ dies code → Struck seen code (calls seen nothing_done cs).bytes
   calls_struck cs code e =
       let d = calls seen nothing_done cs in struck (subst (Holds seen d.bytes d.frames d.qpack d.heads) e (calls_hold seen nothing_done cs (first_holds seen)))
 
   -- and ONE THAT WAS NOT has none among its bytes
-  pub calls_unhurt : (cs : List Call) (s : OneState) → (calls seen nothing_done cs).after ≡ lives s → NoFault (calls seen nothing_done cs).bytes
+  pub calls_unhurt : (cs : List Call) (s : OneState) → (calls seen nothing_done cs).after ≡ lives s → NoFault seen (calls seen nothing_done cs).bytes
   calls_unhurt cs s e =
       let d = calls seen nothing_done cs in unhurt (subst (Holds seen d.bytes d.frames d.qpack d.heads) e (calls_hold seen nothing_done cs (first_holds seen)))
 
 -- ---- the types that came before matter for the type alone
-
--- a type that is refused by itself is refused wherever it comes
-abbrev RefusedToo : (seen : List ℕ) (type : ℕ) → Typed → Type 0
-RefusedToo seen t (refuse code) = type_rule seen t ≡ refuse code
-RefusedToo seen t (is k) = Unit {0}
 
 once_fresh : (seen : List ℕ) (t n : ℕ) (k : Kind) → RefusedToo seen t (once [] n k)
 unfolding once is_one_of
@@ -174,11 +152,6 @@ push_refused seen t e = rw e refl
 refused_too : (seen : List ℕ) (t : ℕ) → RefusedToo seen t (type_rule [] t)
 refused_too seen t =
     unfold type_rule in (lookup_view t (RefusedToo seen t) _ (is skipped) ((λ e. once_fresh seen t 0 a_control), ((λ e. push_refused seen t e), ((λ e. once_fresh seen t 2 (a_qpack encoder)), ((λ e. once_fresh seen t 3 (a_qpack decoder)), tt)))) (λ a. tt))
-
--- and one that is not refused is what it is by itself
-abbrev SameToo : (type : ℕ) → Typed → Type 0
-SameToo t (refuse code) = Unit {0}
-SameToo t (is k) = type_rule [] t ≡ is k
 
 once_too : (seen : List ℕ) (t n : ℕ) (k : Kind) → type_rule [] t ≡ is k → SameToo t (once seen n k)
 unfolding once
@@ -200,15 +173,12 @@ same_too seen t =
     (λ a. lookup_absent t _ (is skipped) a)
 
 module _ (seen w : List ℕ) (j k : Code) (place : ℕ) (struck-there : Struck seen j w) (fault-alone : FaultAt [] k place w) where
-  abbrev Alike : Type 0
-  Alike = (j ≡ k) × (place ≡ length w)
-
   -- the last of the bytes is the type's
   at_type : {t at : ℕ} {rest : List ℕ} → integer 0 w ≡ got t at rest → at ≡ length w → rest ≡ []
   at_type {rest = []} e n = refl
   at_type {at = at} {rest = b ∷ rest} e n = let i = integer_length 0 w e in absurd (omega arith)
 
-  when_refused : {t at : ℕ} {rest : List ℕ} (c : Code) → integer 0 w ≡ got t at rest → (j ≡ c) × (length w ≡ at) → (x : Typed) → type_rule [] t ≡ x → RefusedToo seen t x → type_rule seen t ≡ refuse c → Alike
+  when_refused : {t at : ℕ} {rest : List ℕ} (c : Code) → integer 0 w ≡ got t at rest → (j ≡ c) × (length w ≡ at) → (x : Typed) → type_rule [] t ≡ x → RefusedToo seen t x → type_rule seen t ≡ refuse c → Alike seen w j k place struck-there fault-alone
   unfolding one_way_read behind_type typed verdict_on settled supplied run
   when_refused {t} {at} c e h (refuse code) r q y =
       let d : refuse c ≡ refuse code = sym y ∙ q in
@@ -218,7 +188,7 @@ module _ (seen w : List ℕ) (j k : Code) (place : ℕ) (struck-there : Struck s
   when_refused c e h (is (a_qpack x)) r q y = absurd (not_whole [] k place (rw (e, behind_type, r) at (alone [] k place w fault-alone)))
   when_refused c e h (is skipped) r q y = absurd (not_whole [] k place (rw (e, behind_type, r) at (alone [] k place w fault-alone)))
 
-  by_type : {t at : ℕ} {rest : List ℕ} → integer 0 w ≡ got t at rest → (y : Typed) → type_rule seen t ≡ y → SameToo t y → Alike
+  by_type : {t at : ℕ} {rest : List ℕ} → integer 0 w ≡ got t at rest → (y : Typed) → type_rule seen t ≡ y → SameToo t y → Alike seen w j k place struck-there fault-alone
   unfolding one_way_read behind_type typed verdict_on
   by_type {t} {at} e (refuse c) y q =
       let g : fault c at ≡ fault j (length w) = rw (e, behind_type, y) at (alone seen j (length w) w struck-there) in
@@ -229,7 +199,7 @@ module _ (seen w : List ℕ) (j k : Code) (place : ℕ) (struck-there : Struck s
       let s = same_fault [] _ j k (length w) place a b in
       (s.0, sym s.1)
 
-  by_integer : (x : Int) → integer 0 w ≡ x → Alike
+  by_integer : (x : Int) → integer 0 w ≡ x → Alike seen w j k place struck-there fault-alone
   unfolding one_way_read behind_type verdict_on
   by_integer cut e = absurd (not_whole seen j (length w) (rw (e, behind_type) at (alone seen j (length w) w struck-there)))
   by_integer (got t at rest) e = by_type e (type_rule seen t) refl (same_too seen t)

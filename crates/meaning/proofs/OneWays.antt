@@ -9,27 +9,24 @@ use native.Mathlib.Omega.{arith}
 use mathlib.Core.List.{List, [], ◌∷◌, ◌++◌, append_assoc, append-nil}
 use Rattle.std.proofs.Math.ListN.{length, take, length-append}
 use Rattle.std.proofs.Math.Seq.{length-take-le, take-length}
-use Rattle.rules.specs.Numbers.{Code}
 use Rattle.rules.specs.Block.{Section}
-use Rattle.rules.specs.Integers.{Int, cut, got, more, extra, integer}
-use Rattle.rules.specs.Reading.{Part, skipped as skipped-frame, kept, Use, content, section, Ruling, Next, stop, go, Saying, whole, fault, waits, Reading}
+use Rattle.rules.specs.Integers.{cut, got, more, extra, integer}
+use Rattle.rules.specs.Reading.{skipped as skipped-frame, kept, Use, content, section, Ruling, Next, stop, go, Saying}
 use Rattle.rules.specs.Control.{Control, unset, control}
-use Rattle.rules.specs.OneWay.{Qpack, a_control, a_qpack, skipped, Typed, refuse, is, type_rule, OneWay, untyped, refused, of_control as is_control, of_qpack, passed_over, typed, behind_type, one_way_read}
+use Rattle.rules.specs.OneWay.{Qpack, a_control, a_qpack, skipped, Typed, refuse, is, type_rule, typed, behind_type, one_way_read}
 use Rattle.meaning.specs.IntegerLaws.{integer_length, integer_append}
 use Rattle.meaning.specs.Machine.{Prog, fresh, need, Fed, going, value, after, fed, State, in_type, in_length, in_payload, due, Outcome, between, Run, reads, stuck, supplied, settled, finished, began, run, lists, fresh_run, answered, typed as machine-typed, keep, over, with_left, ruled, sized, step, next}
 use Rattle.meaning.specs.ControlLaws.{ControlView, v_refused, v_skipped, v_kept, control_view}
 use Rattle.meaning.proofs.Cut.{run_append, lists_append, read_from_is}
 use Rattle.meaning.specs.Feed as F
-use Rattle.meaning.proofs.Feeds.{Within, shows_also, within_also, unheaded, unheaded_append, headers_in, headers_in_append, feed_runs}
-use Rattle.meaning.proofs.EveryFeed.{Stops, feed_stops, ReadsOn, feed_moves, feed_allows}
+use Rattle.meaning.specs.Feeds.{unheaded, headers_in}
+use Rattle.meaning.proofs.Feeds.{shows_also, within_also, unheaded_append, headers_in_append, feed_runs}
+use Rattle.meaning.specs.EveryFeed.{Stops, ReadsOn}
+use Rattle.meaning.proofs.EveryFeed.{feed_stops, feed_moves, feed_allows}
 use Rattle.meaning.specs.OneWayFeed.{OneState, in_stream_type, in_control, in_qpack, in_skipped, OneOutcome, lives, dies, OneEvent, of_frames, qpack_bytes, OneFeeding, controlled, of_control, halt, also, qpack_feed, kind_feed, typed_feed, type_feed, feed, shows, Call, feed_call, Done, nothing_done, done_then, called, calls}
+use Rattle.meaning.specs.OneWays.{resumed, OneWithin, OfControl, ReadsOnOne, OneStops, at_event, NoSection, NoSectionRun, Holds, h_type, h_refused, h_control, h_died, h_qpack, h_skipped, Went, HoldsOf, Came, still_untyped, type_refused, a_control_stream, a_qpack_stream, a_skipped_stream}
 
 -- ---- the type, a byte at a time
-
--- an integer that goes on
-unfoldable pub resumed : Prog → (at : ℕ) → List ℕ → Int
-resumed fresh at bs = integer at bs
-resumed (need k v) at bs = more (suc k) v at bs
 
 after_going : (k v at : ℕ) (y : List ℕ) {g : Prog} → after k v ≡ going g → more k v at y ≡ resumed g at y
 unfolding after resumed
@@ -59,10 +56,6 @@ no_more (need k v) at = refl
 
 -- ---- what holds of the bytes consumed, what was shown, the headers finished and the state
 
-abbrev OneWithin : OneEvent → ℕ → Type 0
-OneWithin (of_frames e) u = Within e u
-OneWithin (qpack_bytes q len) u = len ≤ u
-
 one_shows_also : (e : OneEvent) (u b : ℕ) (bs : List ℕ) → OneWithin e u → shows e (suc u) (b ∷ bs) ≡ shows e u bs
 unfolding shows
 one_shows_also (of_frames e) u b bs w = let x = shows_also e u b bs w in rw x
@@ -72,35 +65,9 @@ one_within_also : (e : OneEvent) (u : ℕ) → OneWithin e u → OneWithin e (su
 one_within_also (of_frames e) u w = within_also e u w
 one_within_also (qpack_bytes q len) u w = omega arith
 
--- of a control stream whose frames are `rest`, from `next` on
-pub record OfControl (bytes : List ℕ) (frames : List Saying) (count next : ℕ) (rest : List ℕ) (o : Outcome Control) : Type 0 where
-  pub state : settled control (length bytes) [] o ≡ run control next (fresh_run control []) rest
-  shown : frames ≡ unheaded (lists control next next (fresh_run control []) rest)
-  heads : count ≡ headers_in (lists control next next (fresh_run control []) rest)
-
 module _ (seen : List ℕ) where
-  pub data Holds (bytes : List ℕ) (frames : List Saying) (qpack : List ℕ) (heads : ℕ) : OneOutcome → Type 0 where
-    h_type : {g : Prog} → ((y : List ℕ) → integer 0 (bytes ++ y) ≡ resumed g (length bytes) y) → frames ≡ [] → qpack ≡ [] → heads ≡ 0
-        → Holds bytes frames qpack heads (lives (in_stream_type g))
-    h_refused : {t : ℕ} {code : Code} → integer 0 bytes ≡ got t (length bytes) [] → type_rule seen t ≡ refuse code → frames ≡ [] → qpack ≡ [] → heads ≡ 0
-        → Holds bytes frames qpack heads (dies code)
-    h_control : {t next : ℕ} {rest : List ℕ} {s : State Control} → integer 0 bytes ≡ got t next rest → type_rule seen t ≡ is a_control
-        → OfControl bytes frames heads next rest (Outcome.lives s) → qpack ≡ [] → Holds bytes frames qpack heads (lives (in_control s))
-    h_died : {t next : ℕ} {rest : List ℕ} {code : Code} → integer 0 bytes ≡ got t next rest → type_rule seen t ≡ is a_control
-        → OfControl bytes frames heads next rest (Outcome.dies code) → qpack ≡ [] → Holds bytes frames qpack heads (dies code)
-    h_qpack : {t next : ℕ} {q : Qpack} → integer 0 bytes ≡ got t next qpack → type_rule seen t ≡ is (a_qpack q) → frames ≡ [] → heads ≡ 0
-        → Holds bytes frames qpack heads (lives (in_qpack q))
-    h_skipped : {t next : ℕ} {rest : List ℕ} → integer 0 bytes ≡ got t next rest → type_rule seen t ≡ is skipped → frames ≡ [] → qpack ≡ [] → heads ≡ 0
-        → Holds bytes frames qpack heads (lives in_skipped)
-
-  -- a feed that begins behind these bytes, with so much shown
-  record Went (bytes : List ℕ) (frames : List Saying) (qpack : List ℕ) (heads : ℕ) (piece : List ℕ) (f : OneFeeding) : Type 0 where
-    fits : f.used ≤ length piece
-    within : OneWithin f.event f.used
-    holds : Holds (bytes ++ take f.used piece) (frames ++ (shows f.event f.used piece).frames) (qpack ++ (shows f.event f.used piece).qpack) (heads + f.heads) f.after
-
   controlled_holds : {bytes : List ℕ} {frames : List Saying} {qpack : List ℕ} {heads t next : ℕ} {rest : List ℕ} (o : Outcome Control) → integer 0 bytes ≡ got t next rest
-      → type_rule seen t ≡ is a_control → OfControl bytes frames heads next rest o → qpack ≡ [] → Holds bytes frames qpack heads (controlled o)
+      → type_rule seen t ≡ is a_control → OfControl bytes frames heads next rest o → qpack ≡ [] → Holds seen bytes frames qpack heads (controlled o)
   unfolding controlled
   controlled_holds (Outcome.lives s) e r c q = h_control e r c q
   controlled_holds (Outcome.dies code) e r c q = h_died e r c q
@@ -108,7 +75,7 @@ module _ (seen : List ℕ) where
   -- frames behind bytes that hold frames already, or none
   control_went : {bytes : List ℕ} {frames : List Saying} {qpack : List ℕ} {heads t next : ℕ} {rest : List ℕ} (allow : ℕ) (s : State Control) (piece : List ℕ)
       → integer 0 bytes ≡ got t next rest → type_rule seen t ≡ is a_control → OfControl bytes frames heads next rest (Outcome.lives s) → qpack ≡ []
-      → Went bytes frames qpack heads piece (of_control (F.feed control allow s piece))
+      → Went seen bytes frames qpack heads piece (of_control (F.feed control allow s piece))
   unfolding of_control shows
   control_went {bytes} {frames} {qpack} {heads} {t} {next} {rest} allow s piece e ru c q =
       let f = F.feed control allow s piece in
@@ -136,14 +103,14 @@ module _ (seen : List ℕ) where
       }
 
   -- nothing more is read
-  halted : {bytes : List ℕ} {frames : List Saying} {qpack : List ℕ} {heads : ℕ} (piece : List ℕ) (o : OneOutcome) → Holds bytes frames qpack heads o
-      → Went bytes frames qpack heads piece (halt o)
+  halted : {bytes : List ℕ} {frames : List Saying} {qpack : List ℕ} {heads : ℕ} (piece : List ℕ) (o : OneOutcome) → Holds seen bytes frames qpack heads o
+      → Went seen bytes frames qpack heads piece (halt o)
   unfolding halt shows
   halted {bytes} {frames} {qpack} {heads} piece o h =
       record { fits = zero-le; within = tt; holds = unfold F.shows in rw (append-nil bytes, append-nil frames, append-nil qpack, add-zero heads) h }
 
   qpack_went : {bytes : List ℕ} {frames : List Saying} {qpack : List ℕ} {heads t next : ℕ} (q : Qpack) (piece : List ℕ)
-      → integer 0 bytes ≡ got t next qpack → type_rule seen t ≡ is (a_qpack q) → frames ≡ [] → heads ≡ 0 → Went bytes frames qpack heads piece (qpack_feed q piece)
+      → integer 0 bytes ≡ got t next qpack → type_rule seen t ≡ is (a_qpack q) → frames ≡ [] → heads ≡ 0 → Went seen bytes frames qpack heads piece (qpack_feed q piece)
   unfolding qpack_feed shows
   qpack_went q [] e r f h = halted [] (lives (in_qpack q)) (h_qpack e r f h)
   qpack_went {bytes} {frames} {qpack} {heads} q (b ∷ bs) e r f h =
@@ -152,14 +119,14 @@ module _ (seen : List ℕ) where
       record { fits = omega arith; within = omega arith; holds = rw (n, k) (h_qpack (integer_append 0 bytes (b ∷ bs) e) r (rw f refl) (omega arith)) }
 
   skip_went : {bytes : List ℕ} {frames : List Saying} {qpack : List ℕ} {heads t next : ℕ} {rest : List ℕ} (allow : ℕ) (piece : List ℕ)
-      → integer 0 bytes ≡ got t next rest → type_rule seen t ≡ is skipped → frames ≡ [] → qpack ≡ [] → heads ≡ 0 → Went bytes frames qpack heads piece (kind_feed allow skipped piece)
+      → integer 0 bytes ≡ got t next rest → type_rule seen t ≡ is skipped → frames ≡ [] → qpack ≡ [] → heads ≡ 0 → Went seen bytes frames qpack heads piece (kind_feed allow skipped piece)
   unfolding kind_feed shows F.shows
   skip_went {bytes} {frames} {qpack} {heads} allow piece e r f q h =
       let k = take-length piece in
       record { fits = omega arith; within = tt; holds = rw k (h_skipped (integer_append 0 bytes piece e) r (append-nil frames ∙ f) (append-nil qpack ∙ q) (omega arith)) }
 
-  also_went : {bytes : List ℕ} {frames : List Saying} {qpack : List ℕ} {heads : ℕ} (b : ℕ) (bs : List ℕ) (f : OneFeeding) → Went (bytes ++ (b ∷ [])) frames qpack heads bs f
-      → Went bytes frames qpack heads (b ∷ bs) (also f)
+  also_went : {bytes : List ℕ} {frames : List Saying} {qpack : List ℕ} {heads : ℕ} (b : ℕ) (bs : List ℕ) (f : OneFeeding) → Went seen (bytes ++ (b ∷ [])) frames qpack heads bs f
+      → Went seen bytes frames qpack heads (b ∷ bs) (also f)
   unfolding also
   also_went {bytes} b bs f w =
       let s = one_shows_also f.event f.used b bs w.within in
@@ -168,7 +135,7 @@ module _ (seen : List ℕ) where
 
   -- the type has come whole, and nothing behind it yet
   typed_went : {bytes : List ℕ} (allow t : ℕ) (piece : List ℕ) → integer 0 bytes ≡ got t (length bytes) [] → (x : Typed) → type_rule seen t ≡ x
-      → Went bytes [] [] 0 piece (typed_feed allow x piece)
+      → Went seen bytes [] [] 0 piece (typed_feed allow x piece)
   unfolding typed_feed
   typed_went allow t piece e (refuse code) r = halted piece (dies code) (h_refused e r refl refl refl)
   typed_went allow t piece e (is a_control) r =
@@ -177,9 +144,9 @@ module _ (seen : List ℕ) where
   typed_went allow t piece e (is skipped) r = skip_went allow piece e r refl refl refl
 
   type_byte : (allow : ℕ) (g : Prog) (bytes : List ℕ) (b : ℕ) (bs : List ℕ) → ((y : List ℕ) → integer 0 (bytes ++ y) ≡ resumed g (length bytes) y)
-      → ((g : Prog) (bytes : List ℕ) → ((y : List ℕ) → integer 0 (bytes ++ y) ≡ resumed g (length bytes) y) → Went bytes [] [] 0 bs (type_feed seen allow g bs))
+      → ((g : Prog) (bytes : List ℕ) → ((y : List ℕ) → integer 0 (bytes ++ y) ≡ resumed g (length bytes) y) → Went seen bytes [] [] 0 bs (type_feed seen allow g bs))
       → (x : Fed) → fed g b ≡ x
-      → Went (bytes ++ (b ∷ [])) [] [] 0 bs (elim x [ going g' ↦ type_feed seen allow g' bs | value t ↦ typed_feed allow (type_rule seen t) bs ])
+      → Went seen (bytes ++ (b ∷ [])) [] [] 0 bs (elim x [ going g' ↦ type_feed seen allow g' bs | value t ↦ typed_feed allow (type_rule seen t) bs ])
   type_byte allow g bytes b bs h ih (going g') e =
       let l = length-append bytes (b ∷ []) in
       let n : length (bytes ++ (b ∷ [])) ≡ suc (length bytes) = omega arith in
@@ -190,46 +157,34 @@ module _ (seen : List ℕ) where
       typed_went allow t bs (rw n (h (b ∷ []) ∙ fed_value g b (length bytes) [] e)) (type_rule seen t) refl
 
   type_went : (allow : ℕ) (piece : List ℕ) (g : Prog) (bytes : List ℕ) → ((y : List ℕ) → integer 0 (bytes ++ y) ≡ resumed g (length bytes) y)
-      → Went bytes [] [] 0 piece (type_feed seen allow g piece)
+      → Went seen bytes [] [] 0 piece (type_feed seen allow g piece)
   unfolding type_feed
   type_went allow [] g bytes h = halted [] (lives (in_stream_type g)) (h_type h refl refl refl)
   type_went allow (b ∷ bs) g bytes h = also_went b bs _ (type_byte allow g bytes b bs h (type_went allow bs) (fed g b) refl)
 
   -- ANY FEED keeps it
-  feed_went : {bytes : List ℕ} {frames : List Saying} {qpack : List ℕ} {heads : ℕ} (allow : ℕ) {s : OneState} (piece : List ℕ) → Holds bytes frames qpack heads (lives s)
-      → Went bytes frames qpack heads piece (feed seen allow s piece)
+  feed_went : {bytes : List ℕ} {frames : List Saying} {qpack : List ℕ} {heads : ℕ} (allow : ℕ) {s : OneState} (piece : List ℕ) → Holds seen bytes frames qpack heads (lives s)
+      → Went seen bytes frames qpack heads piece (feed seen allow s piece)
   unfolding feed
   feed_went {bytes} allow piece (h_type {g = g} h f q n) = rw (f, q, n) (type_went allow piece g bytes h)
   feed_went allow piece (h_control {s = s} e r c q) = control_went allow s piece e r c q
   feed_went allow piece (h_qpack {q = q} e r f n) = qpack_went q piece e r f n
   feed_went allow piece (h_skipped e r f q n) = skip_went allow piece e r f q n
 
-  abbrev pub HoldsOf : Done → Type 0
-  HoldsOf d = Holds d.bytes d.frames d.qpack d.heads d.after
-
-  called_holds : (d : Done) (c : Call) (o : OneOutcome) → d.after ≡ o → HoldsOf d → HoldsOf (called seen d c o)
+  called_holds : (d : Done) (c : Call) (o : OneOutcome) → d.after ≡ o → HoldsOf seen d → HoldsOf seen (called seen d c o)
   unfolding called done_then
   called_holds d (feed_call allow piece) (lives s) e h = (feed_went allow {s = s} piece (rw e at h)).holds
   called_holds d (feed_call allow piece) (dies code) e h = h
 
-  pub calls_hold : (d : Done) (cs : List Call) → HoldsOf d → HoldsOf (calls seen d cs)
+  pub calls_hold : (d : Done) (cs : List Call) → HoldsOf seen d → HoldsOf seen (calls seen d cs)
   unfolding calls
   calls_hold d [] h = h
   calls_hold d (c ∷ cs) h = calls_hold (called seen d c d.after) cs (called_holds d c d.after refl h)
 
   -- ---- in the words of the definition
 
-  -- what the calls came to, beside what the bytes consumed mean
-  pub data Came (d : Done) : OneWay → Type 0 where
-    still_untyped : {g : Prog} → d.after ≡ lives (in_stream_type g) → d.frames ≡ [] → d.qpack ≡ [] → d.heads ≡ 0 → Came d untyped
-    type_refused : {code : Code} → d.after ≡ dies code → d.frames ≡ [] → d.qpack ≡ [] → d.heads ≡ 0 → Came d (refused code (length d.bytes))
-    a_control_stream : {r : Reading} (o : Outcome Control) → d.after ≡ controlled o → d.frames ≡ unheaded r.said → d.qpack ≡ [] → d.heads ≡ headers_in r.said
-        → r.verdict ≡ finished control (length d.bytes) (settled control (length d.bytes) [] o) → Came d (is_control r)
-    a_qpack_stream : {q : Qpack} → d.after ≡ lives (in_qpack q) → d.frames ≡ [] → d.heads ≡ 0 → Came d (of_qpack q d.qpack)
-    a_skipped_stream : d.after ≡ lives in_skipped → d.frames ≡ [] → d.qpack ≡ [] → d.heads ≡ 0 → Came d passed_over
-
   control_came : (d : Done) {t next : ℕ} {rest : List ℕ} (o : Outcome Control) → integer 0 d.bytes ≡ got t next rest → type_rule seen t ≡ is a_control
-      → OfControl d.bytes d.frames d.heads next rest o → d.qpack ≡ [] → d.after ≡ controlled o → Came d (one_way_read seen d.bytes)
+      → OfControl d.bytes d.frames d.heads next rest o → d.qpack ≡ [] → d.after ≡ controlled o → Came seen d (one_way_read seen d.bytes)
   unfolding one_way_read behind_type typed
   control_came d {t} {next} {rest} o e r c q a =
       let i = integer_length 0 d.bytes e in
@@ -238,7 +193,7 @@ module _ (seen : List ℕ) where
       rw (e, behind_type, r) (a_control_stream o a (c.shown ∙ sym (ap (λ x. unheaded x.said) w)) q (c.heads ∙ sym (ap (λ x. headers_in x.said) w))
       (ap (λ x. x.verdict) w ∙ ap (finished control (length d.bytes)) (sym c.state)))
 
-  came : (d : Done) (o : OneOutcome) → d.after ≡ o → Holds d.bytes d.frames d.qpack d.heads o → Came d (one_way_read seen d.bytes)
+  came : (d : Done) (o : OneOutcome) → d.after ≡ o → Holds seen d.bytes d.frames d.qpack d.heads o → Came seen d (one_way_read seen d.bytes)
   unfolding one_way_read behind_type typed
   came d o a (h_type {g = g} h f q n) = let e : integer 0 d.bytes ≡ cut = rw (append-nil d.bytes) at (h [] ∙ no_more g (length d.bytes)) in rw (e, behind_type) (still_untyped a f q n)
   came d o a (h_refused e r f q n) = rw (e, behind_type, r) (type_refused a f q n)
@@ -247,22 +202,15 @@ module _ (seen : List ℕ) where
   came d o a (h_qpack e r f n) = rw (e, behind_type, r) (a_qpack_stream a f n)
   came d o a (h_skipped e r f q n) = rw (e, behind_type, r) (a_skipped_stream a f q n)
 
-  pub first_holds : HoldsOf nothing_done
+  pub first_holds : HoldsOf seen nothing_done
   unfolding nothing_done resumed
   first_holds = h_type {g = fresh} (λ y. refl) refl refl refl
 
   -- DEMAND 2 for one-way streams: whatever the feeds and allowances, what they show, count and leave is what the bytes consumed mean
-  pub calls_read : (cs : List Call) → let d = calls seen nothing_done cs in Came d (one_way_read seen d.bytes)
+  pub calls_read : (cs : List Call) → let d = calls seen nothing_done cs in Came seen d (one_way_read seen d.bytes)
   calls_read cs = let d = calls seen nothing_done cs in came d d.after refl (calls_hold nothing_done cs first_holds)
 
 -- ---- progress, the stop rule and the allowance
-
--- no section is ever due on a control stream, so a byte moves it
-abbrev pub ReadsOnOne : OneState → Type 0
-ReadsOnOne (in_stream_type g) = Unit {0}
-ReadsOnOne (in_control s) = ReadsOn s
-ReadsOnOne (in_qpack q) = Unit {0}
-ReadsOnOne in_skipped = Unit {0}
 
 -- PROGRESS: with an allowance and a byte, a feed consumes one or more
 pub one_moves : (seen : List ℕ) (n b : ℕ) (s : OneState) (bs : List ℕ) → ReadsOnOne s → 1 ≤ (feed seen (suc n) s (b ∷ bs)).used
@@ -271,21 +219,6 @@ one_moves seen n b (in_stream_type g) bs h = omega arith
 one_moves seen n b (in_control s) bs h = feed_moves control n b s bs h
 one_moves seen n b (in_qpack q) bs h = omega arith
 one_moves seen n b in_skipped bs h = omega arith
-
--- an event that is one
-abbrev Loud : OneEvent → Type 0
-Loud (of_frames F.quiet) = ⊥
-Loud (of_frames (F.section_bytes len last)) = Unit {0}
-Loud (of_frames (F.content_bytes len)) = Unit {0}
-Loud (of_frames (F.taken k p)) = Unit {0}
-Loud (qpack_bytes q len) = Unit {0}
-
-pub data OneStops (allow : ℕ) (piece : List ℕ) (f : OneFeeding) : Type 0 where
-  at_event : Loud f.event → OneStops allow piece f
-  at_end : f.used ≡ length piece → OneStops allow piece f
-  at_allowance : f.heads ≡ allow → OneStops allow piece f
-  at_fault : {code : Code} → f.after ≡ dies code → OneStops allow piece f
-  while_due : {t : Part} {c : Control} → f.after ≡ lives (in_control (due t c)) → OneStops allow piece f  -- which never comes: never_due
 
 control_stops : {allow : ℕ} {piece : List ℕ} (f : F.Feeding Control) → Stops allow piece f → OneStops allow piece (of_control f)
 unfolding of_control controlled
@@ -371,21 +304,6 @@ module _ (seen : List ℕ) where
   one_allows allow in_skipped piece = zero-le
 
 -- ---- no section is ever due on a control stream
-
-abbrev NoSection : State Control → Type 0
-NoSection (in_type g c) = Unit {0}
-NoSection (in_length t g c) = Unit {0}
-NoSection (in_payload content k l c) = Unit {0}
-NoSection (in_payload skipped-frame k l c) = Unit {0}
-NoSection (in_payload (section t) k l c) = ⊥
-NoSection (in_payload (kept f) k l c) = Unit {0}
-NoSection (due t c) = ⊥
-
-abbrev NoSectionRun : Run Control → Type 0
-NoSectionRun (reads bl s) = NoSection s
-NoSectionRun (stuck whole) = Unit {0}
-NoSectionRun (stuck (fault code place)) = Unit {0}
-NoSectionRun (stuck (waits place)) = ⊥
 
 answered_none : (bl : List Section) (at : ℕ) (n : Next Control) → NoSectionRun (settled control at bl (answered n))
 unfolding answered settled supplied

@@ -6,27 +6,10 @@ use Prim.Native.Nat.{ℕ, zero, suc, ◌+◌}
 use native.Mathlib.Omega.{arith}
 use mathlib.Core.List.{List, [], ◌∷◌, ◌++◌, map}
 use Rattle.rules.specs.Block.{Section}
-use Rattle.rules.specs.Reading.{Kept, Use, Ruling, refuse, accept, content, skipped, section, kept, Next, stop, go, Grammar, Verdict, whole, fault, waits, Saying, header, refused, section_byte, content_byte, frame_kept, Reading, put, read_from, read, told, ended, End, complete, lacking}
+use Rattle.rules.specs.Reading.{Kept, Use, Ruling, refuse, accept, content, skipped, section, kept, Next, stop, go, Grammar, Saying, header, Reading, put, read_from, read, told, ended, End, complete, lacking}
 use Rattle.meaning.specs.Machine.{fresh, need, Fed, going, value, fed, State, in_type, in_length, in_payload, due, Outcome, lives, dies, keep, step, judged_says, over_says, left_says, rule_says, size_says, says, finish, Run, reads, stuck, resumed, supplied, settled, next, tells, finished, begins, reading, fresh_run}
 use Rattle.meaning.proofs.Bridge.{by_bytes_from, by_bytes}
-
--- a saying, k bytes further on
-module _ (k : ℕ) where
-  unfoldable pub later : Saying → Saying
-  later (header h u) = header (record { at = k + h.at; from = k + h.from; type = h.type; len = h.len }) u
-  later (refused h) = refused (record { at = k + h.at; from = k + h.from; type = h.type; len = h.len })
-  later (section_byte b) = section_byte b
-  later (content_byte b) = content_byte b
-  later (frame_kept t p) = frame_kept t p
-
-unfoldable pub later_verdict : ℕ → Verdict → Verdict
-later_verdict k whole = whole
-later_verdict k (fault code place) = fault code (k + place)
-later_verdict k (waits place) = waits (k + place)
-
--- a reading, k bytes further on
-unfoldable pub shift : ℕ → Reading → Reading
-shift k r = record { said = map (later k) r.said; verdict = later_verdict k r.verdict }
+use Rattle.meaning.specs.Shift.{later_verdict, shift, later, later_run}
 
 map_join : {A B : Type 0} (f : A → B) (x y : List A) → map f (x ++ y) ≡ map f x ++ map f y
 map_join f [] y = refl
@@ -49,16 +32,12 @@ ended_later k at complete = refl
 ended_later k at (lacking code) = refl
 
 module _ (G : Grammar) (k : ℕ) where
-  unfoldable pub later_run : Run G.P → Run G.P
-  later_run (reads bl s) = reads bl s
-  later_run (stuck v) = stuck (later_verdict k v)
-
-  resumed_later : (at : ℕ) (bl : List Section) (n : Next G.P) → resumed G (k + at) bl n ≡ later_run (resumed G at bl n)
+  resumed_later : (at : ℕ) (bl : List Section) (n : Next G.P) → resumed G (k + at) bl n ≡ later_run G k (resumed G at bl n)
   unfolding resumed later_run later_verdict
   resumed_later at bl (stop code) = refl
   resumed_later at bl (go p) = refl
 
-  supplied_later : (at : ℕ) (bl : List Section) (s : State G.P) → supplied G (k + at) bl s ≡ later_run (supplied G at bl s)
+  supplied_later : (at : ℕ) (bl : List Section) (s : State G.P) → supplied G (k + at) bl s ≡ later_run G k (supplied G at bl s)
   unfolding supplied later_run later_verdict
   supplied_later at bl (in_type g p) = refl
   supplied_later at bl (in_length t g p) = refl
@@ -66,12 +45,12 @@ module _ (G : Grammar) (k : ℕ) where
   supplied_later at [] (due t p) = refl
   supplied_later at (b ∷ bl) (due t p) = resumed_later at bl (G.given t p b)
 
-  settled_later : (at : ℕ) (bl : List Section) (o : Outcome G.P) → settled G (k + at) bl o ≡ later_run (settled G at bl o)
+  settled_later : (at : ℕ) (bl : List Section) (o : Outcome G.P) → settled G (k + at) bl o ≡ later_run G k (settled G at bl o)
   unfolding settled later_run later_verdict
   settled_later at bl (lives s) = supplied_later at bl s
   settled_later at bl (dies code) = refl
 
-  next_later : (at : ℕ) (r : Run G.P) (b : ℕ) → next G (k + at) (later_run r) b ≡ later_run (next G at r b)
+  next_later : (at : ℕ) (r : Run G.P) (b : ℕ) → next G (k + at) (later_run G k r) b ≡ later_run G k (next G at r b)
   unfolding next later_run
   next_later at (reads bl s) b = settled_later at bl (step G s b)
   next_later at (stuck v) b = refl
@@ -99,7 +78,7 @@ module _ (G : Grammar) (k : ℕ) where
   size_later o place t p (going g) = refl
   size_later o place t p (value len) = rule_later o place t len (G.rule p t len)
 
-  tells_later : (o place : ℕ) (r : Run G.P) (b : ℕ) → tells G (k + o) (k + place) (later_run r) b ≡ map (later k) (tells G o place r b)
+  tells_later : (o place : ℕ) (r : Run G.P) (b : ℕ) → tells G (k + o) (k + place) (later_run G k r) b ≡ map (later k) (tells G o place r b)
   unfolding tells says later_run
   tells_later o place (reads bl (in_type g p)) b = refl
   tells_later o place (reads bl (in_length t g p)) b = size_later o place t p (fed g b)
@@ -109,7 +88,7 @@ module _ (G : Grammar) (k : ℕ) where
   tells_later o place (reads bl (due t p)) b = refl
   tells_later o place (stuck v) b = refl
 
-  begins_later : (o place : ℕ) (r : Run G.P) → begins G (k + o) (k + place) (later_run r) ≡ k + begins G o place r
+  begins_later : (o place : ℕ) (r : Run G.P) → begins G (k + o) (k + place) (later_run G k r) ≡ k + begins G o place r
   unfolding begins later_run
   begins_later o place (reads bl (in_type fresh p)) = refl
   begins_later o place (reads bl (in_type (need n v) p)) = refl
@@ -118,7 +97,7 @@ module _ (G : Grammar) (k : ℕ) where
   begins_later o place (reads bl (due t p)) = refl
   begins_later o place (stuck v) = refl
 
-  finished_later : (at : ℕ) (r : Run G.P) → finished G (k + at) (later_run r) ≡ later_verdict k (finished G at r)
+  finished_later : (at : ℕ) (r : Run G.P) → finished G (k + at) (later_run G k r) ≡ later_verdict k (finished G at r)
   unfolding finished finish later_run later_verdict
   finished_later at (reads bl (in_type fresh p)) = ended_later k at (G.end p)
   finished_later at (reads bl (in_type (need n v) p)) = refl
@@ -128,7 +107,7 @@ module _ (G : Grammar) (k : ℕ) where
   finished_later at (stuck v) = refl
 
   -- THE SHIFT LAW: what is read k bytes further on is the same, with every place k further on
-  pub reading_shifts : (o at : ℕ) (r : Run G.P) (bs : List ℕ) → reading G (k + o) (k + at) (later_run r) bs ≡ shift k (reading G o at r bs)
+  pub reading_shifts : (o at : ℕ) (r : Run G.P) (bs : List ℕ) → reading G (k + o) (k + at) (later_run G k r) bs ≡ shift k (reading G o at r bs)
   unfolding reading
   reading_shifts o at r [] = unfold shift in ap (λ v. record { said = []; verdict = v }) (finished_later at r)
   reading_shifts o at r (b ∷ bs) =

@@ -1,9 +1,8 @@
 -- How a feed goes (Feed) by whole headers and whole payloads, as an engine reads them. For every grammar. Assumes nothing.
 use Rattle.std.proofs.Math.Path.{◌≡◌}
 use Rattle.std.proofs.Common.{zero-add}
-use Prim.Native.Nat.{ℕ, suc, ◌+◌, ◌-◌}
+use Prim.Native.Nat.{ℕ, suc, ◌+◌}
 use native.Mathlib.Omega.{arith}
-use Rattle.meaning.specs.Machine.{after}
 use Rattle.meaning.specs.Feed.{Feeding, also}
 
 -- so many bytes and headers more, before what follows

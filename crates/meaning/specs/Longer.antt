@@ -1,6 +1,6 @@
 -- DEMAND 3: what a longer request stream can add to one that is whole and states a Content-Length. Assumes nothing.
 use Rattle.std.specs.Prelude.{◌≡◌, Bool, true, false, not, ◌&&◌, eqb, length}
-use Prim.Native.Nat.{ℕ, suc, ◌+◌, ◌≤◌}
+use Prim.Native.Nat.{ℕ, suc, ◌≤◌}
 use mathlib.Core.List.{List, [], ◌∷◌, ◌++◌}
 use Rattle.rules.specs.Block.{Section}
 use Rattle.rules.specs.Frames.{Header, Frames, Frames.none as no_more, in_header, in_payload, frame, frames_from}
@@ -64,3 +64,19 @@ headers_of no_more = []
 headers_of in_header = []
 headers_of (in_payload h part) = []
 headers_of (frame h payload fs) = elim (eqb h.type 1) [ true ↦ payload | false ↦ headers_of fs ]
+
+-- a reading carries this content and this header section
+pub record Carries (r : Reading) (its-data its-header : List ℕ) : Type 0 where
+  pub content : contents r.said ≡ its-data
+  pub header : header_bytes r.said ≡ its-header
+
+-- ---- what follows a legal request within a longer one
+
+module _ (R : Rules) (n : ℕ) (gs : Frames) where
+  -- of some sections, these are taken before gs comes, and gs is extra to what was before it
+  pub record Behind (sections : List Section) (count : ℕ) (may : Bool) : Type 0 where
+    pub taken : List Section
+    pub left : List Section
+    pub are : sections ≡ taken ++ left
+    pub each : length taken ≡ count
+    pub extra : Extra R may left gs

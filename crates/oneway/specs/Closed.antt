@@ -11,8 +11,9 @@ use Rattle.rules.specs.Integers.{integer}
 use Rattle.rules.specs.OneWay.{OneWay, untyped, refused, of_control, of_qpack, passed_over, one_way_read, fault_in, closed}
 use Rattle.meaning.specs.Machine.{fresh, need, State, in_type, in_length, in_payload, due, Outcome, finish, finished, settled, supplied, between}
 use Rattle.meaning.specs.OneWayFeed.{OneState, in_stream_type, in_control, in_qpack, in_skipped, lives, dies, controlled, Call, nothing_done, calls, Done}
-use Rattle.meaning.proofs.EveryFeed.{ReadsOn}
-use Rattle.meaning.proofs.OneWays.{Came, still_untyped, type_refused, a_control_stream, a_qpack_stream, a_skipped_stream, calls_read, ReadsOnOne, always_reads}
+use Rattle.meaning.specs.EveryFeed.{ReadsOn}
+use Rattle.meaning.specs.OneWays.{Came, still_untyped, type_refused, a_control_stream, a_qpack_stream, a_skipped_stream, ReadsOnOne}
+use Rattle.meaning.proofs.OneWays.{calls_read, always_reads}
 use Rattle.varint.specs.ByByte.{prog}
 use Rattle.frames.specs.Modes.{mode_of}
 use Rattle.frames.specs.declared.Cells.{Cells}
