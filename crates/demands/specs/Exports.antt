@@ -1,4 +1,4 @@
--- THE FUNCTIONS THAT A HOST LINKS: each exported function, by its own name and as it is proved, makes the call that these theorems speak of. What is
+-- THE FUNCTIONS BEHIND WHAT A HOST LINKS (calls_c gives each its name in C, under the same promise): each, by its own name and as it is proved, makes the call that these theorems speak of. What is
 -- cited of a function is its own theorem (`Met`), so another function's promise under its name is refused here. Assumes nothing.
 use Rattle.std.specs.Prelude.{ℕ, ◌≡◌, refl, List, [], ◌∷◌, length}
 use seplogic.Ra.Ura.{Ura}

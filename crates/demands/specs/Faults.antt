@@ -31,7 +31,7 @@ Calls = List (Call streams)
 
 -- ---- DEFINITION
 
--- why a feed refuses a one_way stream that had consumed `before` and now these bytes: the last of them brings the fault, whatever follows; or, its type
+-- why a feed refuses a one-way stream that had consumed `before` and now these bytes: the last of them brings the fault, whatever follows; or, its type
 -- not shown before, it is the second of a type that may come once
 pub data Brought (t : List (Entry streams)) (before : List ℕ) (bytes : List ℕ) : Code → Type 0 where
   of_its_bytes : {k : Code} → Struck [] k bytes → Brought t before bytes k

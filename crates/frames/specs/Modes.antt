@@ -242,7 +242,7 @@ SECTION-MODES = 2
 abbrev pub KEPT-MODES : ℕ
 KEPT-MODES = 4
 
--- ---- phases: a place is read from its numbers by Uses.placeOf
+-- ---- phases: a place is read from its numbers by Uses.place_of
 
 abbrev pub OPENING : ℕ
 OPENING = 0
