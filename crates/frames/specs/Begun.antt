@@ -12,7 +12,7 @@ use Rattle.meaning.specs.Machine.{in_payload, lives, between, over, with_left}
 use Rattle.meaning.specs.Feed.{quiet, Feeding, halt, onward, left_event, over_event, behind_header, feed}
 use Rattle.meaning.specs.FeedLaws.{past, past_none, past_past}
 use Rattle.meaning.proofs.FeedLaws.{feed_nothing, feed_held, feed_held_length, unfinished_type, unfinished_length}
-use Rattle.varint.specs.ByByte.{part, prog}
+use Rattle.varint.specs.ByByte.{prog}
 use Rattle.frames.specs.Modes.{IN-TYPE, IN-LENGTH, IN-SKIPPED, USE-SKIPPED, NO-USE, HEAD-WHOLE, OPENING, mode_of}
 use Rattle.frames.specs.declared.Cells.{Cells}
 use Rattle.frames.specs.declared.Head.{Head}

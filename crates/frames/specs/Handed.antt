@@ -15,7 +15,7 @@ use Rattle.meaning.specs.Machine.{in_payload, due, Outcome, lives, between, over
 use Rattle.meaning.specs.Feed.{Event, quiet, section_bytes, content_bytes, halt, over_event, named, feed}
 use Rattle.meaning.specs.FeedLaws.{past, past_past}
 use Rattle.meaning.proofs.FeedLaws.{feed_nothing, kept_short}
-use Rattle.varint.specs.ByByte.{part, prog, fresh_good}
+use Rattle.varint.specs.ByByte.{prog, fresh_good}
 use Rattle.frames.specs.Modes.{IN-TYPE, IN-SKIPPED, IN-CONTENT, IN-HEADER-SECTION, IN-TRAILERS, HEADER-SECTION-DUE, TRAILERS-DUE, IN-SETTINGS, IN-CANCEL-PUSH, mode_of}
 use Rattle.frames.specs.declared.Cells.{Cells}
 use Rattle.frames.specs.declared.Telling.{Telling}

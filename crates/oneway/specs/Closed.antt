@@ -5,12 +5,12 @@ use Rattle.std.proofs.Common.{◌∙◌, arith}
 use Prim.Native.Nat.{ℕ, zero, suc, ◌≤◌, ◌<◌}
 use Rattle.std.proofs.Math.Option.{Option, none, some}
 use Rattle.rules.specs.Numbers.{CLOSED-CRITICAL-STREAM, Code, of_connection, closed_critical_stream, id_error, code_number}
-use Rattle.rules.specs.Reading.{Kept, settings, goaway, max_push_id, cancel_push, Next, stop, go, Verdict, whole, fault, waits, Reading, lacking, ended}
+use Rattle.rules.specs.Reading.{Kept, settings, goaway, max_push_id, cancel_push, Next, stop, go, fault, ended}
 use Rattle.rules.specs.Control.{Settings, settings_of, Control, unset, set, control, only, above, below, after_settings, after_integer, after_goaway, after_max_push, judged}
 use Rattle.rules.specs.Integers.{integer}
-use Rattle.rules.specs.OneWay.{OneWay, untyped, refused, of_control, of_qpack, passed_over, one_way_read, fault_in, closed}
+use Rattle.rules.specs.OneWay.{OneWay, one_way_read, fault_in, closed}
 use Rattle.meaning.specs.Machine.{fresh, need, State, in_type, in_length, in_payload, due, Outcome, finish, finished, settled, supplied, between}
-use Rattle.meaning.specs.OneWayFeed.{OneState, in_stream_type, in_control, in_qpack, in_skipped, lives, dies, controlled, Call, nothing_done, calls, Done}
+use Rattle.meaning.specs.OneWayFeed.{OneState, in_stream_type, in_control, in_qpack, in_skipped, lives, controlled, Call, nothing_done, calls, Done}
 use Rattle.meaning.specs.EveryFeed.{ReadsOn}
 use Rattle.meaning.specs.OneWays.{Came, still_untyped, type_refused, a_control_stream, a_qpack_stream, a_skipped_stream, ReadsOnOne}
 use Rattle.meaning.proofs.OneWays.{calls_read, always_reads}

@@ -1,5 +1,5 @@
 -- Laws of the calls on one one-way stream: a law for each way out. Assumes nothing.
-use Rattle.std.specs.Prelude.{◌≡◌, ◌⊎◌, drop, replicate, eqb, Bool, true, false}
+use Rattle.std.specs.Prelude.{◌≡◌, drop, replicate, eqb, Bool, true, false}
 use Rattle.std.proofs.Math.Path.{refl, sym, ap}
 use Rattle.std.proofs.Common.{◌∙◌, subst, ⊎_elim, take_all}
 use Prim.Native.Nat.{ℕ, zero, suc, ◌+◌, ◌-◌, ◌%◌, ◌≤◌, ◌<◌, ◌^◌, min}
@@ -7,33 +7,26 @@ use Rattle.std.proofs.Math.Nat.{add-zero}
 use native.Mathlib.Omega.{arith}
 use mathlib.Core.List.{List, [], ◌++◌}
 use Rattle.std.proofs.Math.ListN.{length, take, length-append}
-use Rattle.std.proofs.lemmas.List.{length-replicate}
-use Rattle.std.proofs.lemmas.List.Edits.{sets, sets-eq}
-use Rattle.std.proofs.Math.Seq.{length-sets, take-nil, take-append_seam, length-take-le}
+use Rattle.std.proofs.Math.Seq.{take-nil, length-take-le}
 use borrow.Author.Tests.{le-ltb, eq-eqb, eqb-true, eqb-false}
 use Rattle.rules.specs.Events.{NOTHING, FAULT, KEPT, KEPT-PART, QPACK}
 use Rattle.rules.specs.Numbers.{ACCEPTED, Code, code_number, coded}
-use Rattle.rules.specs.Reading.{Kept as Payload, Next, stop, go, kept}
+use Rattle.rules.specs.Reading.{Next, stop, go, kept}
 use Rattle.rules.specs.Control.{Control, control, judged, Told}
 use Rattle.meaning.specs.Machine.{in_payload, between, answered}
-use Rattle.meaning.specs.Machine as M
 use Rattle.meaning.specs.Feed.{Feeding, halt, judged_event}
 use Rattle.meaning.specs.Feed as F
 use Rattle.meaning.specs.FeedLaws.{past}
 use Rattle.meaning.proofs.FeedLaws.{kept_short}
-use Rattle.meaning.specs.OneWayFeed.{OneState, OneFeeding, OneOutcome, lives, dies, of_frames, in_control, controlled, of_control, feed}
-use Rattle.varint.specs.ByByte.{prog}
+use Rattle.meaning.specs.OneWayFeed.{OneState, OneFeeding, lives, dies, of_frames, in_control, controlled, of_control, feed}
 use Rattle.frames.specs.Modes.{IN-SETTINGS, SET}
 use Rattle.frames.specs.declared.Cells.{Cells}
-use Rattle.frames.specs.Both as both
-use Rattle.frames.specs.Heads.{head_state}
 use Rattle.frames.specs.Parts.{judged_as, kept_judged}
-use Rattle.frames.specs.Answers.{kept_state, kept_at, state_of, StandsIn, Sane}
+use Rattle.frames.specs.Answers.{kept_state, kept_at, state_of, Sane}
 use Rattle.record.specs.Kinds.{CONTROL}
 use Rattle.record.specs.declared.Record.{Record}
 use Rattle.record.specs.Row.{place_in, one_way_record, free_record}
 use Rattle.record.specs.Sound.{Fit, cells_in, stream, Written}
-use Rattle.oneway.specs.declared.Seen.{Seen}
 use Rattle.oneway.specs.declared.OneWay.{OneWay}
 use Rattle.oneway.specs.declared.OneAnswer.{OneAnswer}
 use Rattle.oneway.specs.Types.{types_of}
@@ -43,7 +36,7 @@ use Rattle.oneway.specs.Row.{one_fit}
 use Rattle.oneway.specs.Closed.{closes, Closes, behind_judged, behind_between}
 use Rattle.control.specs.declared.Kept.{Kept}
 use Rattle.control.specs.declared.Verdict.{Verdict}
-use Rattle.control.specs.Judged.{refusal, judged_of}
+use Rattle.control.specs.Judged.{judged_of}
 use Rattle.control.specs.Rules.{control_of, Says, judged_says}
 use Rattle.meaning.specs.NumberLaws.{code_high}
 use Rattle.oneway.specs.declared.calls.Side.{Side}
@@ -52,8 +45,8 @@ use Rattle.oneway.specs.Mirror.{kept_numbers, kept_in, sofar_in, bytes_of, held_
 use Rattle.oneway.specs.Numbers.{begun_none, bytes_back}
 use Rattle.oneway.specs.Room.{OneFits, stays_fit}
 use Rattle.oneway.specs.Back.{here_fits, left_back}
-use Rattle.oneway.specs.Heard.{Heeds, place_here, sofar_here, state_here, heard, refused, taken_number, value_in, frame_event, frame_value, type_number, said_by, said, judging, judged_here, feeding, fed_here, Stays, given_here, closed_by, closed_here, HeardAs, shut, opened}
-use Rattle.oneway.specs.Leaves.{heeds_sound, heeds_shape, control_stands, stands_here, none_held, control_row, row_of_state, sofar_none, sofar_kept, control_side, side_of_state, take_least}
+use Rattle.oneway.specs.Heard.{Heeds, place_here, sofar_here, state_here, heard, taken_number, value_in, frame_event, frame_value, type_number, said_by, said, judging, judged_here, feeding, fed_here, Stays, closed_by, closed_here, HeardAs, shut, opened}
+use Rattle.oneway.specs.Leaves.{heeds_shape, control_stands, stands_here, none_held, control_row, row_of_state, sofar_none, sofar_kept, control_side, side_of_state, take_least}
 
 pub lives_one : {s t : OneState} → lives s ≡ lives t → s ≡ t
 lives_one e = cc
