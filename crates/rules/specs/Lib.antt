@@ -30,3 +30,4 @@ pub mod NumberEdges
 pub mod WriterEdges
 pub mod Bytes
 pub mod BytesEdges
+pub mod Named

@@ -1,6 +1,7 @@
 // The rules are in specs/. Here are the names that the code has for document 01's numbers (specs/Numbers, in the same order).
 #![tactic(auto)]
 
+pub mod codes;
 pub mod reasons;
 
 pub const ACCEPTED: u64 = 0;
