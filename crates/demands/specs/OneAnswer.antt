@@ -43,6 +43,10 @@ use Rattle.connection.specs.Briefly.{Briefly}
 use Rattle.connection.specs.Nearly.{one_near}
 use Rattle.connection.specs.One.{one_turn, one_goaway}
 use Rattle.calls.specs.Once as once
+use Rattle.rules.specs.contracts.codes.House.number as house-number
+use Rattle.rules.proofs.codes.House.number.Symbol as house-number-is
+use Rattle.rules.specs.contracts.codes.Code.number as code-number
+use Rattle.rules.proofs.codes.Code.number.Symbol as code-number-is
 use Rattle.varint.specs.contracts.fresh as varint-fresh
 use Rattle.varint.proofs.fresh.Symbol as varint-fresh-is
 use Rattle.varint.specs.contracts.read_step as varint-read-step
@@ -307,6 +311,12 @@ module _ (w : World) where
   pub equal : {A B : Type 0} {r q z : A} {ws : B} → ent w.𝓤 (sep w.𝓤 (fact w.𝓤 (r ≡ z)) (fact w.𝓤 (q ≡ z))) (fact w.𝓤 ((r ≡ q) × (ws ≡ ws)))
   equal = facts (λ x y. (one x y, refl))
 
+  abbrev of_codes : List Function
+  of_codes =
+      function house-number-is.symbol house-number.ended (house-number.clauses w.𝓛 w.𝓜.mem w.𝓡.returns) (λ κs a g r q ws vs. equal)
+      ∷ function code-number-is.symbol code-number.ended (code-number.clauses w.𝓛 w.𝓜.mem w.𝓡.returns) (λ κs a g r q ws vs. equal)
+      ∷ []
+
   abbrev of_varint : List Function
   of_varint =
       function varint-fresh-is.symbol varint-fresh.ended (varint-fresh.clauses w.𝓛 w.𝓜.mem w.𝓡.returns) (λ κs a g r q ws vs. equal)
@@ -445,10 +455,25 @@ module _ (w : World) where
 
   -- all of them, by the name in the source
   abbrev pub functions : List Function
-  functions = of_varint ++ (of_ids ++ (of_wire ++ (of_settings ++ (of_fields ++ (of_section ++ (of_streams ++ (of_record ++ (of_given_lem ++ (of_oneway ++ (of_control ++ (of_requests ++ (of_doors ++ (of_oneways ++ (of_connection ++ (of_board)))))))))))))))
+  functions = of_codes ++ (of_varint ++ (of_ids ++ (of_wire ++ (of_settings ++ (of_fields ++ (of_section ++ (of_streams ++ (of_record ++ (of_given_lem ++ (of_oneway ++ (of_control ++ (of_requests ++ (of_doors ++ (of_oneways ++ (of_connection ++ (of_board))))))))))))))))
 
   pub listed : ◌≡◌ {A = List Symbol} (map (λ (f : Function). f.name) functions)
-      ("varint::fresh" ∷ "varint::read_step" ∷ "varint::ends" ∷ "varint::value" ∷ "varint::near_value" ∷ "varint::read" ∷ "varint::size" ∷ "varint::put" ∷ "varint::write" ∷ "wire::ids::is_request" ∷ "wire::write_header" ∷ "wire::write_integer_frame" ∷ "wire::write_opening" ∷ "wire::write_goaway" ∷ "control::settings::judge" ∷ "control::settings::only" ∷ "fields::has_byte" ∷ "fields::begins_with" ∷ "fields::same_bytes" ∷ "fields::any_outside" ∷ "fields::bad_line" ∷ "fields::decimal_of" ∷ "fields::line_spot" ∷ "fields::line_at" ∷ "section::code" ∷ "section::header_section" ∷ "section::trailers" ∷ "frames::ruled" ∷ "frames::end" ∷ "record::cells_in" ∷ "record::free" ∷ "record::is_free" ∷ "record::read" ∷ "record::row" ∷ "record::write" ∷ "record::in_content" ∷ "requests::given::give" ∷ "oneway::close" ∷ "control::judge" ∷ "requests::reset" ∷ "requests::end" ∷ "requests::feed" ∷ "requests::give" ∷ "connection::doors::fresh" ∷ "connection::doors::open" ∷ "connection::doors::send_goaway" ∷ "oneway::calls::fresh" ∷ "oneway::calls::feed" ∷ "oneway::calls::give" ∷ "oneway::calls::close" ∷ "connection::fresh" ∷ "connection::wanted" ∷ "connection::answer" ∷ "connection::decide" ∷ "connection::begin" ∷ "connection::swept" ∷ "connection::say_goaway" ∷ "calls::step" ∷ "calls::eistulko_start" ∷ "calls::eistulko_open" ∷ "calls::eistulko_feed" ∷ "calls::eistulko_give" ∷ "calls::eistulko_end" ∷ "calls::eistulko_reset" ∷ "calls::eistulko_goaway" ∷ "calls::eistulko_write_header" ∷ "calls::eistulko_write_integer_frame" ∷ "calls::eistulko_write_opening" ∷ "calls::eistulko_connection_size" ∷ "calls::eistulko_record_size" ∷ "calls::eistulko_report_size" ∷ "calls::eistulko_written_size" ∷ [])
+      ("rules::codes::House::number" ∷ "rules::codes::Code::number" ∷
+      "varint::fresh" ∷ "varint::read_step" ∷ "varint::ends" ∷ "varint::value" ∷ "varint::near_value" ∷ "varint::read" ∷ "varint::size" ∷ "varint::put" ∷ "varint::write" ∷
+      "wire::ids::is_request" ∷ "wire::write_header" ∷ "wire::write_integer_frame" ∷ "wire::write_opening" ∷ "wire::write_goaway" ∷
+      "control::settings::judge" ∷ "control::settings::only" ∷
+      "fields::has_byte" ∷ "fields::begins_with" ∷ "fields::same_bytes" ∷ "fields::any_outside" ∷ "fields::bad_line" ∷ "fields::decimal_of" ∷ "fields::line_spot" ∷ "fields::line_at" ∷
+      "section::code" ∷ "section::header_section" ∷ "section::trailers" ∷
+      "frames::ruled" ∷ "frames::end" ∷
+      "record::cells_in" ∷ "record::free" ∷ "record::is_free" ∷ "record::read" ∷ "record::row" ∷ "record::write" ∷ "record::in_content" ∷
+      "requests::given::give" ∷
+      "oneway::close" ∷
+      "control::judge" ∷
+      "requests::reset" ∷ "requests::end" ∷ "requests::feed" ∷ "requests::give" ∷
+      "connection::doors::fresh" ∷ "connection::doors::open" ∷ "connection::doors::send_goaway" ∷
+      "oneway::calls::fresh" ∷ "oneway::calls::feed" ∷ "oneway::calls::give" ∷ "oneway::calls::close" ∷
+      "connection::fresh" ∷ "connection::wanted" ∷ "connection::answer" ∷ "connection::decide" ∷ "connection::begin" ∷ "connection::swept" ∷ "connection::say_goaway" ∷
+      "calls::step" ∷ "calls::eistulko_start" ∷ "calls::eistulko_open" ∷ "calls::eistulko_feed" ∷ "calls::eistulko_give" ∷ "calls::eistulko_end" ∷ "calls::eistulko_reset" ∷ "calls::eistulko_goaway" ∷ "calls::eistulko_write_header" ∷ "calls::eistulko_write_integer_frame" ∷ "calls::eistulko_write_opening" ∷ "calls::eistulko_connection_size" ∷ "calls::eistulko_record_size" ∷ "calls::eistulko_report_size" ∷ "calls::eistulko_written_size" ∷ [])
   listed = refl
 
   -- ---- and those that do not
