@@ -1,6 +1,7 @@
 -- ONE ANSWER: for each public function of the engine, by its own name and its own promise, two results and two contents of lent memory that meet the
 -- promise are equal. The exceptions are named too: below a record two feeds leave open numbers that say nothing (docs/DECISIONS, N9), and what may
 -- decline leaves open what it then answers. What is no part of the engine is in docs/PROOFS. Assumes nothing.
+use Rattle.std.specs.Prelude as std
 use Rattle.std.specs.Prelude.{◌≡◌, refl, ℕ, List, [], ◌∷◌, ◌++◌, map, Bool, true, false}
 use Rattle.std.proofs.Common.{sym, ap, ap₂, ◌∙◌}
 use Rattle.std.proofs.Math.Option.{Option, none, some}
@@ -88,16 +89,16 @@ use Rattle.fields.proofs.same_bytes.Symbol as fields-same-bytes-is
 use Rattle.rules.specs.Bytes as bytes
 use Rattle.rules.specs.Bytes.{Fault, empty_name, capital, bad_in_name, bad_in_value, blank_at_end}
 use Rattle.fields.specs.declared.Spot.{Spot}
-use Rattle.fields.specs.declared.Spot.TheVariants.{Nowhere, EmptyName, Capital, BadInName, BadInValue, BlankAtEnd}
+use Rattle.fields.specs.declared.Spot.TheVariants.{EmptyName, Capital, BadInName, BadInValue, BlankAtEnd}
 use Rattle.fields.specs.Spots.{spot_of}
-use Rattle.fields.specs.contracts.any_outside as fields-any-outside
-use Rattle.fields.proofs.any_outside.Symbol as fields-any-outside-is
-use Rattle.fields.specs.contracts.bad_line as fields-bad-line
-use Rattle.fields.proofs.bad_line.Symbol as fields-bad-line-is
+use Rattle.fields.specs.contracts.Table.any_outside as fields-any-outside
+use Rattle.fields.proofs.Table.any_outside.Symbol as fields-any-outside-is
+use Rattle.fields.specs.contracts.Table.bad_line as fields-bad-line
+use Rattle.fields.proofs.Table.bad_line.Symbol as fields-bad-line-is
 use Rattle.fields.specs.contracts.decimal_of as fields-decimal-of
 use Rattle.fields.proofs.decimal_of.Symbol as fields-decimal-of-is
-use Rattle.fields.specs.contracts.line_spot as fields-line-spot
-use Rattle.fields.proofs.line_spot.Symbol as fields-line-spot-is
+use Rattle.fields.specs.contracts.Table.line_spot as fields-line-spot
+use Rattle.fields.proofs.Table.line_spot.Symbol as fields-line-spot-is
 use Rattle.fields.specs.contracts.line_at as fields-line-at
 use Rattle.fields.proofs.line_at.Symbol as fields-line-at-is
 use Rattle.fields.proofs.classes.Symbol as fields-classes-is
@@ -233,20 +234,20 @@ spot_as bad_in_name p = BadInName p
 spot_as bad_in_value p = BadInValue p
 spot_as blank_at_end p = BlankAtEnd p
 
-spot_back : Option bytes.Spot → Spot
-spot_back none = Nowhere
-spot_back (some s) = spot_as s.fault s.place
+spot_back : Option bytes.Spot → std.Option Spot
+spot_back none = std.None
+spot_back (some s) = std.Some (spot_as s.fault s.place)
 
-spot_back_lem : (x : Spot) → spot_back (spot_of x) ≡ x
+spot_back_lem : (x : std.Option Spot) → spot_back (spot_of x) ≡ x
 unfolding spot_back spot_as
-spot_back_lem Nowhere = refl
-spot_back_lem (EmptyName p) = refl
-spot_back_lem (Capital p) = refl
-spot_back_lem (BadInName p) = refl
-spot_back_lem (BadInValue p) = refl
-spot_back_lem (BlankAtEnd p) = refl
+spot_back_lem std.None = refl
+spot_back_lem (std.Some (EmptyName p)) = refl
+spot_back_lem (std.Some (Capital p)) = refl
+spot_back_lem (std.Some (BadInName p)) = refl
+spot_back_lem (std.Some (BadInValue p)) = refl
+spot_back_lem (std.Some (BlankAtEnd p)) = refl
 
-pub one_line_spot : {b : _} {x y : Spot} → spot_of x ≡ b → spot_of y ≡ b → x ≡ y
+pub one_line_spot : {b : _} {x y : std.Option Spot} → spot_of x ≡ b → spot_of y ≡ b → x ≡ y
 one_line_spot e f = read_alike spot_of (λ x y q. sym (spot_back_lem x) ∙ ap spot_back q ∙ spot_back_lem y) e f
 
 -- ---- tests
@@ -462,7 +463,7 @@ module _ (w : World) where
       "varint::fresh" ∷ "varint::read_step" ∷ "varint::ends" ∷ "varint::value" ∷ "varint::near_value" ∷ "varint::read" ∷ "varint::size" ∷ "varint::put" ∷ "varint::write" ∷
       "wire::ids::is_request" ∷ "wire::write_header" ∷ "wire::write_integer_frame" ∷ "wire::write_opening" ∷ "wire::write_goaway" ∷
       "control::settings::judge" ∷ "control::settings::only" ∷
-      "fields::has_byte" ∷ "fields::begins_with" ∷ "fields::same_bytes" ∷ "fields::any_outside" ∷ "fields::bad_line" ∷ "fields::decimal_of" ∷ "fields::line_spot" ∷ "fields::line_at" ∷
+      "fields::has_byte" ∷ "fields::begins_with" ∷ "fields::same_bytes" ∷ "fields::Table::any_outside" ∷ "fields::Table::bad_line" ∷ "fields::decimal_of" ∷ "fields::Table::line_spot" ∷ "fields::line_at" ∷
       "section::code" ∷ "section::header_section" ∷ "section::trailers" ∷
       "frames::ruled" ∷ "frames::end" ∷
       "record::cells_in" ∷ "record::free" ∷ "record::is_free" ∷ "record::read" ∷ "record::row" ∷ "record::write" ∷ "record::in_content" ∷
