@@ -457,6 +457,9 @@ pub struct Line {
 #[derive(Clone, Copy, Debug, PartialEq, Eq)]
 pub struct Unreadable;
 
+// The one kind of record.
+const FIELD_LINE: usize = 1;
+
 fn number_at(block: &[u8], at: usize) -> usize
     requires { at + 1 < length block.now }
     ensures { result ≡ little (get_or block.now at 0) (get_or block.now (at + 1) 0) }
@@ -464,7 +467,7 @@ fn number_at(block: &[u8], at: usize) -> usize
     u16::from_le_bytes([block[at], block[at + 1]]) as usize
 }
 
-// The record at a place of a block, none at the block's end: the length of what follows, the kind (1), the name's length, name, value.
+// The record at a place of a block, none at the block's end: the length of what follows, the kind, the name's length, name, value.
 pub fn line_at(block: &[u8], at: usize) -> Result<Option<Line>, Unreadable>
     ensures { result ≡ record_at block.now at }
 {
@@ -478,7 +481,7 @@ pub fn line_at(block: &[u8], at: usize) -> Result<Option<Line>, Unreadable>
     let len = number_at(block, at);
     let kind = number_at(block, at + 2);
     let named = number_at(block, at + 4);
-    if len < 4 || left - 2 < len || kind != 1 || len - 4 < named {
+    if len < 4 || left - 2 < len || kind != FIELD_LINE || len - 4 < named {
         return Err(Unreadable);
     }
     Ok(Some(Line {
