@@ -21,7 +21,9 @@ use varint::Wrote;
 fn find(row: &[Record], call: Call, id: u64) -> usize
     ensures { FirstIn call id row.now result }
 {
-    row.iter().position(|r| connection::wanted(call, id, *r)).unwrap_or(row.len())
+    row.iter()
+        .position(|r| connection::wanted(call, id, *r))
+        .unwrap_or(row.len())
 }
 
 // What is at a place of the row: past the end a free record.
