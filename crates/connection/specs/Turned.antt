@@ -1,7 +1,10 @@
 -- What each call makes of a connection and the record that was found (document 01, "Calls and the host's memory"), in document 01's order.
 -- Assumes nothing.
-use Rattle.std.specs.Prelude.{◌≡◌, ℕ, zero, suc, ◌%◌, ◌<◌, List, true, false, ◌⊎◌, eqb, ltb}
-use Rattle.rules.specs.Numbers.{NOT-OPEN, OTHER-ROW}
+use Rattle.std.specs.Prelude.{◌≡◌, ℕ, zero, suc, ◌%◌, ◌<◌, List, true, false, ◌⊎◌, eqb, ltb, Result, Ok, Err}
+use Rattle.rules.specs.Numbers.{NOT-OPEN, OTHER-ROW, house_number}
+use Rattle.rules.specs.Named.{house_of}
+use Rattle.rules.specs.declared.codes.House.{House}
+use Rattle.rules.specs.declared.codes.House.TheVariants.{OtherRow}
 use Rattle.rules.specs.Message.{Message, opening}
 use Rattle.meaning.specs.Machine.{State, between, fresh}
 use Rattle.meaning.specs.OneWayFeed.{OneState, in_stream_type}
@@ -25,7 +28,6 @@ use Rattle.connection.specs.declared.Report.{Report}
 use Rattle.connection.specs.declared.Found.{Found}
 use Rattle.connection.specs.declared.Near.{Near}
 use Rattle.connection.specs.declared.Turn.{Turn}
-use Rattle.connection.specs.declared.Begun.{Begun}
 use Rattle.connection.specs.declared.Gone.{Gone}
 use Rattle.connection.specs.Whose.{Vacant}
 use Rattle.connection.specs.Halves.{stream_id, both, side_in}
@@ -47,7 +49,7 @@ turn c r p = record { conn = c; row = r; report = p }
 
 -- what leaves the side as it is, beside any
 abbrev pub near : Doors → Record → Report → Near
-near d r p = record { aside = false; doors = d; row = r; report = p }
+near d r p = record { doors = d; row = r; report = p }
 
 abbrev pub beside : Side → Near → Turn
 beside s n = turn (both n.doors s) n.row n.report
@@ -107,8 +109,11 @@ pub record Asks (r : Record) (own : Own) (allow : ℕ) (piece : List ℕ) (a : R
   pub answers : Answered r (request_as own allow piece r) a
   pub stays : a.number ≡ 0 → Open a.row ⊎ Vacant a.row
 
+abbrev pub request_report : Reply → Report
+request_report a = told a.number a.event a.start a.len a.used a.heads 0
+
 abbrev pub replies : Doors → Reply → Near
-replies d a = near (code_in d a.number) a.row (told a.number a.event a.start a.len a.used a.heads 0)
+replies d a = near (code_in d a.number) a.row (request_report a)
 
 abbrev pub replied : Connection → Reply → Turn
 replied c a = beside c.side (replies c.doors a)
@@ -125,8 +130,11 @@ pub record Hears (r : Record) (d : Side) (own : Own) (allow : ℕ) (piece : List
   pub answers : HeardAs r d (one_way_as own allow piece r d) a
   pub stays : Heeds r → StaysOn own allow piece r d a
 
+abbrev pub one_way_report : Heard → Report
+one_way_report a = told a.number a.event a.start a.len a.used a.heads a.value
+
 abbrev pub overhears : Doors → Heard → Turn
-overhears d a = turn (both (code_in d a.number) a.side) a.row (told a.number a.event a.start a.len a.used a.heads a.value)
+overhears d a = turn (both (code_in d a.number) a.side) a.row (one_way_report a)
 
 abbrev pub overheard : Connection → Heard → Turn
 overheard c a = overhears c.doors a
@@ -156,8 +164,21 @@ pub data Turned (c : Connection) (f : Found) (call : Call) (id allow : ℕ) (pie
 
 -- ---- start
 
-unfoldable pub begun_of : Connection → (len : ℕ) → Begun
-begun_of c len = elim (eqb len 24) [ true ↦ record { number = 0; conn = fresh_connection } | false ↦ record { number = 9; conn = c } ]
+-- a fresh connection; 9 on another row
+unfoldable pub begins : (len : ℕ) → Result Connection House
+begins len = elim (eqb len 24) [ true ↦ Ok fresh_connection | false ↦ Err OtherRow ]
+
+-- what it answers, and what it leaves: a refusal leaves the connection that it was lent
+pub record Begun : Type 0 where
+  pub number : ℕ
+  pub conn : Connection
+
+abbrev pub begun_as : Connection → Result Connection House → Begun
+begun_as c (Ok d) = record { number = 0; conn = d }
+begun_as c (Err h) = record { number = house_number (house_of h); conn = c }
+
+abbrev pub begun_of : Connection → (len : ℕ) → Begun
+begun_of c len = begun_as c (begins len)
 
 -- what start frees: every record
 abbrev pub vacated : Record → Record

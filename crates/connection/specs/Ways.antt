@@ -2,7 +2,7 @@
 use Rattle.std.proofs.Math.Path.{◌≡◌, refl, ap}
 use Rattle.std.proofs.Common.{sym, ◌∙◌, arith}
 use Prim.Native.Nat.{ℕ, zero, suc, ◌%◌, ◌≤◌, ◌<◌}
-use Rattle.std.specs.Prelude.{List, ◌⊎◌}
+use Rattle.std.specs.Prelude.{List, ◌⊎◌, Ok, Err}
 use Rattle.std.proofs.Math.Logic.{inl, inr}
 use borrow.Author.Tests.{eq-eqb, ne_eqb, lt-ltb, le-ltb}
 use Rattle.rules.specs.Reading.{Verdict, whole, fault, waits}
@@ -10,6 +10,7 @@ use Rattle.rules.specs.Message.{Message}
 use Rattle.rules.specs.Request.{document}
 use Rattle.rules.specs.Request as rules
 use Rattle.rules.specs.Numbers.{NOT-OPEN, number_of, rows as answers, named_in, named as answer-named, house_leaves, leaves, REQUEST-REJECTED}
+use Rattle.rules.specs.declared.codes.House.TheVariants.{OtherRow}
 use Rattle.meaning.specs.Machine.{State, finish}
 use Rattle.meaning.specs.Hom.{map_state}
 use Rattle.meaning.specs.OneWayFeed.{OneState}
@@ -39,17 +40,23 @@ use Rattle.connection.specs.declared.Turn.{Turn}
 use Rattle.connection.specs.Whose.{Vacant}
 use Rattle.connection.specs.Halves.{stream_id, doors_in, side_in}
 use Rattle.connection.specs.Faults.{kept_small}
-use Rattle.connection.specs.Turned.{fresh_connection, numbered, turn, near, unaltered, first_as, first_record, taken_by, free_at, lets_in, let_in, opens_at, opened_at, by_own, request_as, Asks, replied, one_way_as, Hears, overheard, Alive, Turned, not_open, request, one_way, begun_of, swept_of, gone_by, GoesAway}
+use Rattle.connection.specs.Turned.{fresh_connection, numbered, turn, near, unaltered, first_as, first_record, taken_by, free_at, lets_in, let_in, opens_at, opened_at, by_own, request_as, Asks, replied, one_way_as, Hears, overheard, Alive, Turned, not_open, request, one_way, begins, begun_as, begun_of, swept_of, gone_by, GoesAway}
 
 -- ---- start
 
+pub begins_fresh : (len : ℕ) {d : Connection} → len ≡ 24 → d ≡ fresh_connection → Ok d ≡ begins len
+unfolding begins
+begins_fresh len e q = let x = eq-eqb len 24 e in ap Ok q ∙ rw (x, begins) refl
+
+pub begins_other : (len : ℕ) → (len ≡ 24 → ⊥) → Err OtherRow ≡ begins len
+unfolding begins
+begins_other len n = let x = ne_eqb len 24 n in rw (x, begins) refl
+
 pub begun_fresh : (c : Connection) (len : ℕ) {d : Connection} → len ≡ 24 → d ≡ fresh_connection → record { number = 0; conn = d } ≡ begun_of c len
-unfolding begun_of
-begun_fresh c len e q = let x = eq-eqb len 24 e in ap (λ y. record { number = 0; conn = y }) q ∙ rw (x, begun_of) refl
+begun_fresh c len e q = ap (begun_as c) (begins_fresh len e q)
 
 pub begun_other : (c : Connection) (len : ℕ) → (len ≡ 24 → ⊥) → record { number = 9; conn = c } ≡ begun_of c len
-unfolding begun_of
-begun_other c len n = let x = ne_eqb len 24 n in rw (x, begun_of) refl
+begun_other c len n = ap (begun_as c) (begins_other len n)
 
 module _ (len : ℕ) (r : Record) {q : Record} where
   pub swept_free : len ≡ 24 → q ≡ free_record → q ≡ swept_of len r
@@ -167,6 +174,10 @@ module _ (r : Record) (d : Side) (allow : ℕ) (piece : List ℕ) {own : Own} {a
   pub hears_reset : own ≡ Own.Reset → HeardAs r d (closed_here r d) a → Hears r d own allow piece a
   unfolding by_own
   hears_reset e = hears_other (rw e refl) (rw e refl)
+
+  pub hears_close : (own ≡ Own.End) ⊎ (own ≡ Own.Reset) → HeardAs r d (closed_here r d) a → Hears r d own allow piece a
+  hears_close (inl e) = hears_end e
+  hears_close (inr e) = hears_reset e
 
 module _ {c : Connection} {f : Found} {call : Call} {own : Own} (id allow : ℕ) {piece : List ℕ} {t : Turn} (live : Alive c.doors f) (n : call ≡ Call.On own) where
   pub past_row : 24 ≤ f.at → t ≡ unaltered NOT-OPEN c f → Turned c f call id allow piece t

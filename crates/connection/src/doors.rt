@@ -8,6 +8,9 @@ use varint::Wrote;
 use wire::Sent;
 use wire::ids::StreamId;
 
+// A stream's ID is below 2^62.
+const IDS: u64 = 1 << 62;
+
 // code: of the connection fault, 0 while there was none. requests and oneways: the lowest ID of each kind that was not opened yet.
 // goaways 0: we sent no GOAWAY; goaway: the last one's.
 #[repr(C)]
@@ -33,7 +36,7 @@ pub fn fresh() -> Doors
     }
 }
 
-// number 0: accepted.
+// number 0: accepted. No Result: 0x010b, too, spends the ID, so each number comes with doors.
 #[derive(Clone, Copy)]
 pub struct Opening {
     pub number: u64,
@@ -50,11 +53,7 @@ fn refused(number: u64, d: Doors) -> Opening
 fn barred(d: Doors, id: StreamId) -> bool
     ensures { result ≡ barred_at d.goaways d.goaway.0 id.0 }
 {
-    let bar = d.goaway;
-    if d.goaways == 0 {
-        return false;
-    }
-    bar.0 <= id.0
+    d.goaways != 0 && d.goaway.0 <= id.0
 }
 
 // The ID is spent.
@@ -62,18 +61,20 @@ fn next_request(d: Doors) -> Doors
     requires { d.requests < 2 ^ 62 }
     ensures { result ≡ next_request d }
 {
-    let mut next = d;
-    next.requests = d.requests + 4;
-    next
+    Doors {
+        requests: d.requests + 4,
+        ..d
+    }
 }
 
 fn next_one_way(d: Doors) -> Doors
     requires { d.oneways < 2 ^ 62 }
     ensures { result ≡ next_one_way d }
 {
-    let mut next = d;
-    next.oneways = d.oneways + 4;
-    next
+    Doors {
+        oneways: d.oneways + 4,
+        ..d
+    }
 }
 
 // A record must be free; free is how many are.
@@ -84,7 +85,7 @@ fn admitted(free: u64, next: Doors, d: Doors) -> Opening
         refused(rules::NO_RECORD, d)
     } else {
         Opening {
-            number: 0,
+            number: rules::ACCEPTED,
             doors: next,
         }
     }
@@ -124,16 +125,14 @@ pub fn open(d: Doors, id: StreamId, free: u64) -> Opening
     if d.code != 0 {
         return refused(d.code, d);
     }
-    if 4611686018427387904 <= id.0 {
+    if IDS <= id.0 {
         return refused(rules::NOT_NEXT, d);
     }
-    if id.0 % 4 == 0 {
-        return open_request(d, id, free);
+    match id.0 % 4 {
+        0 => open_request(d, id, free),
+        2 => open_one_way(d, id, free),
+        _ => refused(rules::NOT_NEXT, d),
     }
-    if id.0 % 4 == 2 {
-        return open_one_way(d, id, free);
-    }
-    refused(rules::NOT_NEXT, d)
 }
 
 // ---- our GOAWAY
@@ -149,21 +148,21 @@ pub struct Goaway {
 fn sent(d: Doors) -> Sent
     ensures { sent_of result ≡ sent_in d }
 {
-    let goaway = d.goaway;
     if d.goaways == 0 {
         Sent::Nothing
     } else {
-        Sent::Up(goaway)
+        Sent::Up(d.goaway)
     }
 }
 
 fn gone_away(d: Doors, id: StreamId) -> Doors
     ensures { result ≡ gone_away d id }
 {
-    let mut after = d;
-    after.goaways = 1;
-    after.goaway = id;
-    after
+    Doors {
+        goaways: 1,
+        goaway: id,
+        ..d
+    }
 }
 
 // We send a GOAWAY of this ID: dead connection, 8, 7.

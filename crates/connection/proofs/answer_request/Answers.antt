@@ -1,5 +1,5 @@
 use Rattle.connection.specs.Ways.{asks_feed, asks_give, asks_end, asks_reset}
-use Rattle.connection.proofs.ask.Goals as goal
+use Rattle.connection.proofs.answer_request.Goals as goal
 
 pub returns-in-Feed : goal.returns-in-Feed
 returns-in-Feed c = asks_feed _ _ _ c.in-Feed.is c.feed.ensures
