@@ -158,16 +158,19 @@ pub fn eistulko_feed(
         allow,
         piece,
     };
-    // The search of a row of a known length is compiled without a loop (docs/PERFORMANCE.md).
-    if row.len() != connection::ROW {
-        return step(conn, row, ask);
-    }
-    let at = find(row, ask.call, id);
-    if let Some(content) = connection::brisk(conn.doors.code, found_at(row, at), allow, piece) {
-        store_content(row, at, content.row);
-        return content.report;
-    }
-    step_at(conn, row, at, ask)
+    // Speed (docs/PERFORMANCE.md): a row of a known length is searched without a loop, and content's report stays in registers beside the calls' one.
+    let report = if row.len() == connection::ROW {
+        let at = find(row, ask.call, id);
+        let found = found_at(row, at);
+        if let Some(content) = connection::brisk(conn.doors.code, found, allow, piece) {
+            store_content(row, at, content.row);
+            return content.report;
+        }
+        step_at(conn, row, at, ask)
+    } else {
+        step(conn, row, ask)
+    };
+    report
 }
 
 pub fn eistulko_give(conn: &mut Connection, row: &mut [Record], id: u64, block: &[u8]) -> Report

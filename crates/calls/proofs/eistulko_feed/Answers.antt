@@ -11,8 +11,8 @@ returns-in-Some c = record {
   found = found_at c.args.row.now c.find-at.result;
   turn = turn c.args.conn.now c.in-Some.content.row c.in-Some.content.report;
   is_found = finds _ _ _ _ c.find-at.ensures;
-  turned = rw c.found_at.ensures at (c.in-Some.ensures.turns c.args.conn.now c.args.id refl);
+  turned = rw c.found_at-found.ensures at (c.in-Some.ensures.turns c.args.conn.now c.args.id refl);
   conn_left = refl;
-  rows_left = c.store_content.ensures ∙ ap (set c.args.row.now c.find-at.result) (sym (rw c.found_at.ensures at c.in-Some.ensures.alters));
+  rows_left = c.store_content.ensures ∙ ap (set c.args.row.now c.find-at.result) (sym (rw c.found_at-found.ensures at c.in-Some.ensures.alters));
   answered = refl;
 }
