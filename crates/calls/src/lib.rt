@@ -2,10 +2,7 @@
 // One record is found, stepped by value and stored back; the others are not touched.
 #![tactic(auto)]
 
-ghost use Rattle.std.specs.Prelude.{◌≡◌, map, length, set, get_or};
-ghost use Rattle.record.specs.Row.{free_record};
-ghost use Rattle.record.specs.Sound.{cells_in};
-ghost use Rattle.record.specs.Body.{content_in};
+ghost use Rattle.std.specs.Prelude.{◌≡◌, map, length, set};
 ghost use Rattle.connection.specs.Turned.{turn, Turned, swept_of};
 ghost use Rattle.calls.specs.Layout.{connection_size, record_size, report_size, written_size};
 ghost use Rattle.calls.specs.Lent.{FirstIn, found_at};
@@ -44,20 +41,6 @@ fn store(row: &mut [Record], i: usize, r: Record)
     // No get_mut: std says nothing of what it leaves of the slice.
     if i < row.len() {
         row[i] = r;
-    }
-}
-
-// The same of what content alters of a record.
-fn store_content(row: &mut [Record], i: usize, r: Record)
-    ensures { row.new ≡ set row.old i (content_in (get_or row.old i free_record) (cells_in r)) }
-{
-    if i < row.len() {
-        row[i] = Record {
-            acc: r.acc,
-            mode: r.mode,
-            sum: r.sum,
-            ..row[i]
-        };
     }
 }
 
@@ -163,7 +146,7 @@ pub fn eistulko_feed(
         let at = find(row, ask.call, id);
         let found = found_at(row, at);
         if let Some(content) = connection::brisk(conn.doors.code, found, allow, piece) {
-            store_content(row, at, content.row);
+            store(row, at, content.row);
             return content.report;
         }
         step_at(conn, row, at, ask)
