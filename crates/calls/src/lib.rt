@@ -2,10 +2,7 @@
 // One record is found, stepped by value and stored back; the others are not touched.
 #![tactic(auto)]
 
-ghost use Rattle.std.specs.Prelude.{◌≡◌, map, length, set, get_or};
-ghost use Rattle.record.specs.Row.{free_record};
-ghost use Rattle.record.specs.Sound.{cells_in};
-ghost use Rattle.record.specs.Body.{content_in};
+ghost use Rattle.std.specs.Prelude.{◌≡◌, map, length, set};
 ghost use Rattle.connection.specs.Turned.{turn, Turned, swept_of};
 ghost use Rattle.calls.specs.Layout.{connection_size, record_size, report_size, written_size};
 ghost use Rattle.calls.specs.Lent.{FirstIn, found_at};
@@ -45,20 +42,6 @@ fn store(row: &mut [Record], i: usize, r: Record)
     // No get_mut: std says nothing of what it leaves of the slice.
     if i < row.len() {
         row[i] = r;
-    }
-}
-
-// The same of what content alters of a record.
-fn store_content(row: &mut [Record], i: usize, r: Record)
-    ensures { row.new ≡ set row.old i (content_in (get_or row.old i free_record) (cells_in r)) }
-{
-    if i < row.len() {
-        row[i] = Record {
-            acc: r.acc,
-            mode: r.mode,
-            sum: r.sum,
-            ..row[i]
-        };
     }
 }
 
@@ -159,16 +142,19 @@ pub fn eistulko_feed(
         allow,
         piece,
     };
-    // The search of a row of a known length is compiled without a loop (docs/PERFORMANCE.md).
-    if row.len() != connection::ROW {
-        return step(conn, row, ask);
-    }
-    let at = find(row, ask.call, id);
-    if let Some(content) = connection::brisk(conn.doors.code, found_at(row, at), allow, piece) {
-        store_content(row, at, content.row);
-        return content.report;
-    }
-    step_at(conn, row, at, ask)
+    // Speed (docs/PERFORMANCE.md): a row of a known length is searched without a loop, and content's report stays in registers beside the calls' one.
+    let report = if row.len() == connection::ROW {
+        let at = find(row, ask.call, id);
+        let found = found_at(row, at);
+        if let Some(content) = connection::brisk(conn.doors.code, found, allow, piece) {
+            store(row, at, content.row);
+            return content.report;
+        }
+        step_at(conn, row, at, ask)
+    } else {
+        step(conn, row, ask)
+    };
+    report
 }
 
 pub fn eistulko_give(conn: &mut Connection, row: &mut [Record], id: u64, block: &[u8]) -> Report

@@ -1,5 +1,5 @@
 -- A FEED OF CONTENT: it is answered from the connection's code alone, the same for every connection of that code. Assumes nothing.
-use Rattle.std.specs.Prelude.{◌≡◌, refl, ℕ, ◌<◌, List, Option, IfSome}
+use Rattle.std.specs.Prelude.{◌≡◌, refl, ℕ, ◌<◌, List, Option, Some, IfSome}
 use Rattle.std.proofs.Common.{ap, ◌∙◌, arith}
 use Rattle.record.specs.Kinds.{REQUEST}
 use Rattle.record.specs.Sound.{cells_in}
@@ -26,16 +26,18 @@ pub record Content (code : ℕ) (f : Found) (allow : ℕ) (piece : List ℕ) (b 
   pub turns : (c : Connection) (id : ℕ) → c.doors.code ≡ code → Turned c f (Call.On Own.Feed) id allow piece (turn (content_leaves c b) b.row b.report)
   pub alters : b.row ≡ content_in f.row (cells_in b.row)  -- three numbers of the record
 
-abbrev pub Briefly : (code : ℕ) (f : Found) (allow : ℕ) (piece : List ℕ) → Option Brief → Type 0
-Briefly code f allow piece o = IfSome o (Content code f allow piece)
+pub record Briefly (code : ℕ) (f : Found) (allow : ℕ) (piece : List ℕ) (o : Option Brief) : Type 0 where
+  pub content : IfSome o (Content code f allow piece)
 
 module _ {code : ℕ} {f : Found} {allow : ℕ} {piece : List ℕ} where
   pub briefly_so : f.len ≡ 24 → code ≡ 0 → f.at < 24 → f.row.kind ≡ REQUEST → {a : Reply} → (a.number ≡ 0 → Keeps f.row (fed_as f.row allow piece) a × (a.row ≡ content_in f.row (cells_in a.row)))
-      → a.number ≡ 0 → {r : Report} → r ≡ request_report a → Content code f allow piece (record { row = a.row; report = r })
+      → a.number ≡ 0 → {r : Report} → r ≡ request_report a → Briefly code f allow piece (Some (record { row = a.row; report = r }))
   briefly_so l z w k {a} keeps y {r} q = record {
-    accepted = ap (λ (x : Report). x.number) q ∙ y;
-    turns = λ c id e.
-        on_request id allow (record { long = l; alive = e ∙ z }) refl w {a = a} k (asks_feed f.row allow piece refl (keeps y).0)
-        (ap (turn c a.row) q ∙ ap (λ x. turn x a.row (request_report a)) (kept_small c a.number (omega arith)));
-    alters = (keeps y).1;
+    content = record {
+      accepted = ap (λ (x : Report). x.number) q ∙ y;
+      turns = λ c id e.
+          on_request id allow (record { long = l; alive = e ∙ z }) refl w {a = a} k (asks_feed f.row allow piece refl (keeps y).0)
+          (ap (turn c a.row) q ∙ ap (λ x. turn x a.row (request_report a)) (kept_small c a.number (omega arith)));
+      alters = (keeps y).1;
+    };
   }

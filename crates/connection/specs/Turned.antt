@@ -165,8 +165,8 @@ pub data Turned (c : Connection) (f : Found) (call : Call) (id allow : ℕ) (pie
 -- ---- start
 
 -- a fresh connection; 9 on another row
-unfoldable pub begins : (len : ℕ) → Result Connection House
-begins len = elim (eqb len 24) [ true ↦ Ok fresh_connection | false ↦ Err OtherRow ]
+unfoldable pub started_of : (len : ℕ) → Result Connection House
+started_of len = elim (eqb len 24) [ true ↦ Ok fresh_connection | false ↦ Err OtherRow ]
 
 -- what it answers, and what it leaves: a refusal leaves the connection that it was lent
 pub record Begun : Type 0 where
@@ -178,7 +178,7 @@ begun_as c (Ok d) = record { number = 0; conn = d }
 begun_as c (Err h) = record { number = house_number (house_of h); conn = c }
 
 abbrev pub begun_of : Connection → (len : ℕ) → Begun
-begun_of c len = begun_as c (begins len)
+begun_of c len = begun_as c (started_of len)
 
 -- what start frees: every record
 abbrev pub vacated : Record → Record

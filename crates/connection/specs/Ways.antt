@@ -40,23 +40,23 @@ use Rattle.connection.specs.declared.Turn.{Turn}
 use Rattle.connection.specs.Whose.{Vacant}
 use Rattle.connection.specs.Halves.{stream_id, doors_in, side_in}
 use Rattle.connection.specs.Faults.{kept_small}
-use Rattle.connection.specs.Turned.{fresh_connection, numbered, turn, near, unaltered, first_as, first_record, taken_by, free_at, lets_in, let_in, opens_at, opened_at, by_own, request_as, Asks, replied, one_way_as, Hears, overheard, Alive, Turned, not_open, request, one_way, begins, begun_as, begun_of, swept_of, gone_by, GoesAway}
+use Rattle.connection.specs.Turned.{fresh_connection, numbered, turn, near, unaltered, first_as, first_record, taken_by, free_at, lets_in, let_in, opens_at, opened_at, by_own, request_as, Asks, replied, one_way_as, Hears, overheard, Alive, Turned, not_open, request, one_way, started_of, begun_as, begun_of, swept_of, gone_by, GoesAway}
 
 -- ---- start
 
-pub begins_fresh : (len : ℕ) {d : Connection} → len ≡ 24 → d ≡ fresh_connection → Ok d ≡ begins len
-unfolding begins
-begins_fresh len e q = let x = eq-eqb len 24 e in ap Ok q ∙ rw (x, begins) refl
+pub started_fresh : (len : ℕ) {d : Connection} → len ≡ 24 → d ≡ fresh_connection → Ok d ≡ started_of len
+unfolding started_of
+started_fresh len e q = let x = eq-eqb len 24 e in ap Ok q ∙ rw (x, started_of) refl
 
-pub begins_other : (len : ℕ) → (len ≡ 24 → ⊥) → Err OtherRow ≡ begins len
-unfolding begins
-begins_other len n = let x = ne_eqb len 24 n in rw (x, begins) refl
+pub started_other : (len : ℕ) → (len ≡ 24 → ⊥) → Err OtherRow ≡ started_of len
+unfolding started_of
+started_other len n = let x = ne_eqb len 24 n in rw (x, started_of) refl
 
 pub begun_fresh : (c : Connection) (len : ℕ) {d : Connection} → len ≡ 24 → d ≡ fresh_connection → record { number = 0; conn = d } ≡ begun_of c len
-begun_fresh c len e q = ap (begun_as c) (begins_fresh len e q)
+begun_fresh c len e q = ap (begun_as c) (started_fresh len e q)
 
 pub begun_other : (c : Connection) (len : ℕ) → (len ≡ 24 → ⊥) → record { number = 9; conn = c } ≡ begun_of c len
-begun_other c len n = ap (begun_as c) (begins_other len n)
+begun_other c len n = ap (begun_as c) (started_other len n)
 
 module _ (len : ℕ) (r : Record) {q : Record} where
   pub swept_free : len ≡ 24 → q ≡ free_record → q ≡ swept_of len r

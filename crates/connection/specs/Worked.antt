@@ -32,7 +32,7 @@ use Rattle.connection.specs.declared.Found.{Found}
 use Rattle.connection.specs.declared.Turn.{Turn}
 use Rattle.connection.specs.Halves.{stream_id, doors_in, with_doors, side_in, with_side}
 use Rattle.connection.specs.Faults.{keeps, kept_if, with_code}
-use Rattle.connection.specs.Turned.{fresh_connection, told, numbered, turn, first_as, taken_by, free_at, opened_at, by_own, request_as, replied, one_way_as, overheard, Turned, other_row, dead, begins, begun_of, swept_of, gone_by}
+use Rattle.connection.specs.Turned.{fresh_connection, told, numbered, turn, first_as, taken_by, free_at, opened_at, by_own, request_as, replied, one_way_as, overheard, Turned, other_row, dead, started_of, begun_of, swept_of, gone_by}
 
 pub record Row : Type 0 where
   pub asked : Turn
@@ -109,7 +109,7 @@ rows =
     ∷ []
 
 pub worked : map (λ (r : Row). r.asked) rows ≡ map (λ (r : Row). r.says) rows
-unfolding rows one_way_record is_one_of lookup extra ended carries tally ends column kind_of code_of data_rule rule_for rule end_of_ended once type_rule number_of answers named_in answer-named house_leaves leaves after fed typed finish halt also onward over_event behind_header feed one.controlled one.of_control one.halt one.also one.qpack_feed one.kind_feed one.typed_feed one.type_feed one.feed place_in frees freed_if said_by unless_due ended_by doors.barred_at doors.admitted_as doors.request_of doors.one_way_of doors.kind_of doors.alive_of sent_as sending_of write_of writer.into writer.both writer.frame_header_bytes writer.integer_frame writer.is_higher writer.bad_goaway writer.write_integer_frame writer.write_goaway integers.rows integers.low integers.in_row integers.in_first integers.written integers.largest came types_of closes sofar_in kept_numbers side_after heard.said_by heard.frame_event heard.frame_value heard.type_number heard.closed_by keeps kept_if first_as taken_by free_at by_own begins swept_of
+unfolding rows one_way_record is_one_of lookup extra ended carries tally ends column kind_of code_of data_rule rule_for rule end_of_ended once type_rule number_of answers named_in answer-named house_leaves leaves after fed typed finish halt also onward over_event behind_header feed one.controlled one.of_control one.halt one.also one.qpack_feed one.kind_feed one.typed_feed one.type_feed one.feed place_in frees freed_if said_by unless_due ended_by doors.barred_at doors.admitted_as doors.request_of doors.one_way_of doors.kind_of doors.alive_of sent_as sending_of write_of writer.into writer.both writer.frame_header_bytes writer.integer_frame writer.is_higher writer.bad_goaway writer.write_integer_frame writer.write_goaway integers.rows integers.low integers.in_row integers.in_first integers.written integers.largest came types_of closes sofar_in kept_numbers side_after heard.said_by heard.frame_event heard.frame_value heard.type_number heard.closed_by keeps kept_if first_as taken_by free_at by_own started_of swept_of
 worked = refl
 
 -- 9 before the code of a dead connection; that code before all else

@@ -9,7 +9,7 @@ ghost use Rattle.connection.specs.Whose.{Wanted};
 ghost use Rattle.record.specs.Row.{record_at, no_cells};
 ghost use Rattle.rules.specs.Numbers.{leaves, named};
 ghost use Rattle.connection.specs.Faults.{keeps, code_in};
-ghost use Rattle.connection.specs.Turned.{fresh_connection, numbered, stays, first_record, taken_by, free_at, opens_at, Asks, replies, beside, Hears, overhears, Turned, begins, swept_of, GoesAway};
+ghost use Rattle.connection.specs.Turned.{fresh_connection, numbered, stays, first_record, taken_by, free_at, opens_at, Asks, replies, beside, Hears, overhears, Turned, started_of, swept_of, GoesAway};
 ghost use Rattle.connection.specs.Nearly.{Nearly};
 ghost use Rattle.connection.specs.Briefly.{Briefly};
 
@@ -398,7 +398,7 @@ pub fn brisk(code: u64, f: Found, allow: u64, piece: &[u8]) -> Option<Brief>
 
 // Start, lent a row of this length: a refusal leaves the connection as it was.
 pub fn begin(len: usize) -> Result<Connection, House>
-    ensures { result ≡ begins len }
+    ensures { result ≡ started_of len }
 {
     if len == ROW {
         Ok(fresh())

@@ -2,7 +2,7 @@
 -- promise are equal. The exceptions are named too: below a record two feeds leave open numbers that say nothing (docs/DECISIONS, N9), and what may
 -- decline leaves open what it then answers. What is no part of the engine is in docs/PROOFS. Assumes nothing.
 use Rattle.std.specs.Prelude as std
-use Rattle.std.specs.Prelude.{◌≡◌, refl, ℕ, List, [], ◌∷◌, ◌++◌, map, Bool, true, false}
+use Rattle.std.specs.Prelude.{◌≡◌, refl, ℕ, List, [], ◌∷◌, ◌++◌, map, Bool, true, false, Option as Maybe, Some, None, IsSome}
 use Rattle.std.proofs.Common.{sym, ap, ap₂, ◌∙◌}
 use Rattle.std.proofs.Math.Option.{Option, none, some}
 use base.Logic.{ent, sep, fst∗, snd∗}
@@ -27,6 +27,7 @@ use Rattle.control.specs.Answers.{judged_is, judged_one, single_is, single_one}
 use Rattle.frames.specs.declared.Cells.{Cells}
 use Rattle.frames.specs.Uses.{a_place}
 use Rattle.frames.specs.End.{Ends}
+use Rattle.record.specs.Body.{said_no}
 use Rattle.record.specs.declared.Record.{Record}
 use Rattle.record.specs.declared.Stream.{Stream}
 use Rattle.record.specs.Sound.{Decides, own_place, Read, Written}
@@ -285,9 +286,11 @@ pub one_record : (s : Stream) (r q : Record) → Written s r → Written s q →
 one_record s r q e f = one_written s r q e f
 
 -- a short way that was taken
-pub one_brief : {code : ℕ} {f : Found} {allow : ℕ} {piece : List ℕ} {x y : Brief} → Briefly code f allow piece x → Briefly code f allow piece y → x.report.number ≡ 0 → y.report.number ≡ 0 → x ≡ y
-one_brief {code} b d s t = let c = with_code code fresh_connection in let e = one_turn c _ _ 0 _ _ (b.turns s c 0 refl) (d.turns t c 0 refl) in
-    ap₂ (λ r p. record { row = r; report = p }) (ap (λ z. z.row) e) (ap (λ z. z.report) e)
+pub one_brief : {code : ℕ} {f : Found} {allow : ℕ} {piece : List ℕ} {x y : Maybe Brief} → Briefly code f allow piece x → Briefly code f allow piece y → IsSome x → IsSome y → x ≡ y
+one_brief {x = None} b d s t = said_no s
+one_brief {x = Some v} {y = None} b d s t = said_no t
+one_brief {code} {x = Some v} {y = Some w} b d s t = let c = with_code code fresh_connection in let e = one_turn c _ _ 0 _ _ (b.content.turns c 0 refl) (d.content.turns c 0 refl) in
+    ap Some (ap₂ (λ r p. record { row = r; report = p }) (ap (λ z. z.row) e) (ap (λ z. z.report) e))
 
 -- ---- each function, as it is proved
 
@@ -437,7 +440,7 @@ module _ (w : World) where
 
   abbrev of_board : List Function
   of_board =
-      function board-step-is.symbol board-step.ended (board-step.clauses w.𝓛 w.𝓜.mem w.𝓡.returns) (λ κs a g r q ws vs. facts (λ x y. let e = once.one_step x y in (e.2, ap₂ (λ c l. (c, (l, (tt, (tt, (tt, (tt, tt))))))) e.0 e.1)))
+      function board-step-is.symbol board-step.ended (board-step.clauses w.𝓛 w.𝓜.mem w.𝓡.returns) (λ κs a g r q ws vs. facts (λ x y. let e = once.one_step x y in (e.2, ap₂ (λ c l. (c, (l, (tt, tt)))) e.0 e.1)))
       ∷ function board-eistulko-start-is.symbol board-eistulko-start.ended (board-eistulko-start.clauses w.𝓛 w.𝓜.mem w.𝓡.returns) (λ κs a g r q ws vs. facts (λ x y. let e = once.one_start x y in (e.2, ap₂ (λ c l. (c, (l, tt))) e.0 e.1)))
       ∷ function board-eistulko-open-is.symbol board-eistulko-open.ended (board-eistulko-open.clauses w.𝓛 w.𝓜.mem w.𝓡.returns) (λ κs a g r q ws vs. facts (λ x y. let e = once.one_step x y in (e.2, ap₂ (λ c l. (c, (l, (tt, tt)))) e.0 e.1)))
       ∷ function board-eistulko-feed-is.symbol board-eistulko-feed.ended (board-eistulko-feed.clauses w.𝓛 w.𝓜.mem w.𝓡.returns) (λ κs a g r q ws vs. facts (λ x y. let e = once.one_step x y in (e.2, ap₂ (λ c l. (c, (l, (tt, (tt, (tt, tt)))))) e.0 e.1)))
@@ -487,7 +490,7 @@ module _ (w : World) where
   pub request_taken : LeavesOneIf requests-brisk.ended (requests-brisk.clauses w.𝓛 w.𝓜.mem w.𝓡.returns) (λ κs r. r.number ≡ 0)
   request_taken κs a g r q ws vs = facts (λ x y s t. (one_answer a.0 _ r q (x s).0.answers (y t).0.answers, refl))
 
-  pub connection_taken : LeavesOneIf connection-brisk.ended (connection-brisk.clauses w.𝓛 w.𝓜.mem w.𝓡.returns) (λ κs r. r.report.number ≡ 0)
+  pub connection_taken : LeavesOneIf connection-brisk.ended (connection-brisk.clauses w.𝓛 w.𝓜.mem w.𝓡.returns) (λ κs r. IsSome r)
   connection_taken κs a g r q ws vs = facts (λ x y s t. (one_brief x y s t, refl))
 
 -- `fields::classes` leaves open the bits of an entry that no class reads; `record::in_body` may say no; two are feeds below a record, and three short ways

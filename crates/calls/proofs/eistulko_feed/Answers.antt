@@ -1,6 +1,5 @@
--- Where `brisk` has answered, what content alters is stored, and the connection is as it was. Assumes nothing.
-use Rattle.std.specs.Prelude.{refl, set}
-use Rattle.std.proofs.Common.{sym, ap, ◌∙◌}
+-- Where `brisk` has answered, the record is stored, and the connection is as it was. Assumes nothing.
+use Rattle.std.specs.Prelude.{refl}
 use Rattle.connection.specs.Turned.{turn}
 use Rattle.calls.specs.Lent.{found_at}
 use Rattle.calls.specs.Search.{finds}
@@ -11,8 +10,8 @@ returns-in-Some c = record {
   found = found_at c.args.row.now c.find-at.result;
   turn = turn c.args.conn.now c.in-Some.content.row c.in-Some.content.report;
   is_found = finds _ _ _ _ c.find-at.ensures;
-  turned = rw c.found_at.ensures at (c.in-Some.ensures.turns c.args.conn.now c.args.id refl);
+  turned = rw c.found_at-found.ensures at (c.in-Some.ensures.content.turns c.args.conn.now c.args.id refl);
   conn_left = refl;
-  rows_left = c.store_content.ensures ∙ ap (set c.args.row.now c.find-at.result) (sym (rw c.found_at.ensures at c.in-Some.ensures.alters));
+  rows_left = c.store.ensures;
   answered = refl;
 }
