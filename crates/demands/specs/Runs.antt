@@ -40,8 +40,7 @@ use Rattle.requests.specs.declared.Reply.{Reply}
 use Rattle.requests.specs.Reply as reply
 use Rattle.requests.specs.Reply.{left_by, state_in}
 use Rattle.requests.specs.Severity.{connection_leaves}
-use Rattle.connection.specs.declared.doors.Goaway.{Goaway}
-use Rattle.connection.specs.Goaway.{sending_of, write_of}
+use Rattle.connection.specs.Goaway.{Goaway, sending_of, write_of}
 use Rattle.oneway.specs.Closed.{closes}
 use Rattle.control.specs.Rules.{some_if, limits_is, control_at, control_of}
 use Rattle.oneway.specs.declared.calls.Side.{Side}
