@@ -205,26 +205,15 @@ pub fn eistulko_reset(conn: &mut Connection, row: &mut [Record], id: u64) -> Rep
 pub fn eistulko_goaway(conn: &mut Connection, id: u64, room: &mut [u8]) -> Written
     ensures { SaidGoaway conn.old id room.old conn.new room.new result }
 {
-    let g = connection::say_goaway(conn.doors, id, room);
-    conn.doors = g.doors;
-    g.written
+    connection::say_goaway(&mut conn.doors, id, room)
 }
 
 // ---- the other writes: lent the room alone, for they depend on no record
 
-fn told(w: Result<usize, House>) -> Written
-    ensures { result ≡ written_of (answer_of w) }
+fn told(answer: Result<usize, House>) -> Written
+    ensures { result ≡ written_of (answer_of answer) }
 {
-    match w {
-        Err(refusal) => Written {
-            number: refusal.number(),
-            count: 0,
-        },
-        Ok(n) => Written {
-            number: 0,
-            count: n as u64,
-        },
-    }
+    Written::from(answer.map_err(House::number))
 }
 
 pub fn eistulko_write_header(ftype: u64, len: u64, room: &mut [u8]) -> Written

@@ -14,9 +14,8 @@ use Rattle.requests.specs.declared.Reply.{Reply}
 use Rattle.requests.specs.Reply.{Open, state_in, fed_as, given_as, ended_as, reset_as, Answered}
 use Rattle.connection.specs.declared.doors.Doors.{Doors}
 use Rattle.connection.specs.declared.doors.Opening.{Opening}
-use Rattle.connection.specs.declared.doors.Goaway.{Goaway}
 use Rattle.connection.specs.Openings.{fresh_doors, opened_of}
-use Rattle.connection.specs.Goaway.{Sends}
+use Rattle.connection.specs.Goaway.{Goaway, Sends}
 use Rattle.oneway.specs.declared.calls.Side.{Side}
 use Rattle.oneway.specs.declared.calls.Heard.{Heard}
 use Rattle.oneway.specs.Mirror.{fresh_side}
@@ -28,7 +27,7 @@ use Rattle.connection.specs.declared.Report.{Report}
 use Rattle.connection.specs.declared.Found.{Found}
 use Rattle.connection.specs.declared.Near.{Near}
 use Rattle.connection.specs.declared.Turn.{Turn}
-use Rattle.connection.specs.declared.Gone.{Gone}
+use Rattle.connection.specs.declared.Written.{Written}
 use Rattle.connection.specs.Whose.{Vacant}
 use Rattle.connection.specs.Halves.{stream_id, both, side_in}
 use Rattle.connection.specs.Faults.{code_in}
@@ -188,6 +187,19 @@ unfoldable pub swept_of : (len : ℕ) → Record → Record
 swept_of len r = elim (eqb len 24) [ true ↦ vacated r | false ↦ r ]
 
 -- ---- our GOAWAY
+
+-- the answer as a host reads it: a refusal's number, or 0 and how many bytes are written
+abbrev pub written_of : Result ℕ ℕ → Written
+written_of (Err number) = record { number = number; count = 0 }
+written_of (Ok n) = record { number = 0; count = n }
+
+-- what it leaves, and what it answers
+pub record Gone : Type 0 where
+  pub doors : Doors
+  pub written : Written
+
+abbrev pub gone : Doors → Written → Gone
+gone d w = record { doors = d; written = w }
 
 abbrev pub gone_by : Goaway → Gone
 gone_by g = record { doors = g.doors; written = record { number = g.number; count = g.count } }

@@ -9,7 +9,7 @@ ghost use Rattle.connection.specs.Whose.{Wanted};
 ghost use Rattle.record.specs.Row.{record_at, no_cells};
 ghost use Rattle.rules.specs.Numbers.{leaves, named};
 ghost use Rattle.connection.specs.Faults.{keeps, code_in};
-ghost use Rattle.connection.specs.Turned.{fresh_connection, numbered, stays, first_record, taken_by, free_at, opens_at, Asks, replies, beside, Hears, overhears, Turned, started_of, swept_of, GoesAway};
+ghost use Rattle.connection.specs.Turned.{fresh_connection, numbered, stays, first_record, taken_by, free_at, opens_at, Asks, replies, beside, Hears, overhears, Turned, started_of, swept_of, gone, GoesAway};
 ghost use Rattle.connection.specs.Nearly.{Nearly};
 ghost use Rattle.connection.specs.Briefly.{Briefly};
 
@@ -142,10 +142,21 @@ pub struct Written {
     pub count: u64,
 }
 
-#[derive(Clone, Copy)]
-pub struct Gone {
-    pub doors: Doors,
-    pub written: Written,
+impl From<Result<usize, u64>> for Written {
+    ghost use Rattle.std.specs.Prelude.{◌≡◌};
+    ghost use Rattle.connection.specs.Turned.{written_of};
+
+    ghost from_gives = { λ a w. w ≡ written_of a };
+
+    fn from(answer: Result<usize, u64>) -> Written {
+        match answer {
+            Ok(count) => Written {
+                number: rules::ACCEPTED,
+                count: count as u64,
+            },
+            Err(number) => Written { number, count: 0 },
+        }
+    }
 }
 
 pub fn fresh() -> Connection
@@ -417,16 +428,8 @@ pub fn swept(len: usize, r: Record) -> Record
 // ---- our GOAWAY
 
 // We send a GOAWAY of this ID into the room.
-pub fn say_goaway(d: Doors, id: u64, room: &mut [u8]) -> Gone
-    ensures { GoesAway d id room.old result room.new }
+pub fn say_goaway(d: &mut Doors, id: u64, room: &mut [u8]) -> Written
+    ensures { GoesAway d.old id room.old (gone d.new result) room.new }
 {
-    let g = doors::send_goaway(d, StreamId(id), room);
-    let doors = g.doors;
-    Gone {
-        doors,
-        written: Written {
-            number: g.number,
-            count: g.count as u64,
-        },
-    }
+    Written::from(doors::send_goaway(d, StreamId(id), room))
 }

@@ -98,11 +98,7 @@ fn opening_in(rt: &impl Print, room: &mut [u8]) -> io::Result<()> {
 fn goaway_in(rt: &impl Print, id: u64, room: &mut [u8]) -> io::Result<()> {
     text(rt, b"goaway ")?;
     number(rt, id)?;
-    told(
-        rt,
-        wire::write_goaway(None, StreamId(id), room),
-        room,
-    )
+    told(rt, wire::write_goaway(None, StreamId(id), room), room)
 }
 
 fn goaway_after(rt: &impl Print, sent: u64, id: u64, room: &mut [u8]) -> io::Result<()> {

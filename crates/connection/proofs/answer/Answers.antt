@@ -1,5 +1,4 @@
-use Rattle.connection.specs.Turned.{Alive}
-use Rattle.connection.specs.Nearly.{near_other, near_dead, near_opens, near-past, near-request, near-aside}
+use Rattle.connection.specs.Nearly.{near_other, near_dead, near_opens, near-past, near-request}
 use Rattle.connection.proofs.answer.Goals as goal
 
 pub returns-then-f-ne-ROW : goal.returns-then-f-ne-ROW

@@ -1,4 +1,4 @@
-use Rattle.connection.specs.Ways.{started_fresh, started_other}
+use Rattle.connection.proofs.Ways.{started_fresh, started_other}
 use Rattle.connection.proofs.begin.Goals as goal
 
 pub returns-then-len-eq-ROW : goal.returns-then-len-eq-ROW

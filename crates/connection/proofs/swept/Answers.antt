@@ -1,5 +1,5 @@
 use mathlib.Core.Path.{refl}
-use Rattle.connection.specs.Ways.{swept_free, swept_other}
+use Rattle.connection.proofs.Ways.{swept_free, swept_other}
 use Rattle.connection.proofs.swept.Goals as goal
 
 pub returns-then-len-eq-ROW : goal.returns-then-len-eq-ROW

@@ -6,7 +6,7 @@ pub returns-in-Err : goal.returns-in-Err
 unfolding settings_number settings_out
 returns-in-Err c =
     let e = rw c.in-Err.is at c.judge.ensures in
-    record { value = rw (← e); out_after = rw (← e) }
+    record { value = rw (c.number.ensures, ← e); out_after = rw (← e) }
 
 pub returns-in-Ok : goal.returns-in-Ok
 unfolding settings_number settings_out
