@@ -41,30 +41,11 @@ pub fn code(reason: usize) -> u64
 fn lower(first: usize, check: usize, broken: bool) -> usize
     ensures { result ≡ lower_of first check broken }
 {
-    if broken {
-        if check < first {
-            return check;
-        }
+    if broken && check < first {
+        check
+    } else {
+        first
     }
-    first
-}
-
-fn either(a: bool, b: bool) -> bool
-    ensures { result ≡ (a || b) }
-{
-    if a {
-        return true;
-    }
-    b
-}
-
-fn both(a: bool, b: bool) -> bool
-    ensures { result ≡ (a && b) }
-{
-    if a {
-        return b;
-    }
-    false
 }
 
 // ---- what a name is to the rules
@@ -444,7 +425,7 @@ fn places_fault(f: Facts) -> usize
 {
     let n = lower(f.first, rules::reasons::TOO_LARGE, SIZE_LIMIT < f.size);
     let n = lower(n, rules::reasons::NO_METHOD, f.to[METHOD] == 0);
-    let two = both(f.to[SCHEME] != 0, f.to[PATH] != 0);
+    let two = f.to[SCHEME] != 0 && f.to[PATH] != 0;
     let n = lower(n, rules::reasons::NO_SCHEME_OR_PATH, !two);
     lower(
         n,
@@ -456,31 +437,23 @@ fn places_fault(f: Facts) -> usize
 fn is_http(scheme: &[u8]) -> bool
     ensures { result ≡ is_http scheme.now }
 {
-    either(
-        fields::same_bytes(scheme, b"http"),
-        fields::same_bytes(scheme, b"https"),
-    )
+    fields::same_bytes(scheme, b"http") || fields::same_bytes(scheme, b"https")
 }
 
 // `*` is fine with OPTIONS.
 fn is_path<'a>(path: &'a [u8], method: &'a [u8]) -> bool
     ensures { result ≡ is_path path.now method.now }
 {
-    let star = both(
-        fields::same_bytes(b"*", path),
-        fields::same_bytes(b"OPTIONS", method),
-    );
-    either(fields::begins_with(path, b'/'), star)
+    fields::begins_with(path, b'/')
+        || (fields::same_bytes(b"*", path) && fields::same_bytes(b"OPTIONS", method))
 }
 
 fn sends_content(method: &[u8]) -> bool
     ensures { result ≡ sends_content method.now }
 {
-    let two = either(
-        fields::same_bytes(method, b"PUT"),
-        fields::same_bytes(method, b"POST"),
-    );
-    either(two, fields::same_bytes(method, b"PATCH"))
+    fields::same_bytes(method, b"PUT")
+        || fields::same_bytes(method, b"POST")
+        || fields::same_bytes(method, b"PATCH")
 }
 
 // What the method, the scheme and the path say, and whether a length is stated.
@@ -503,7 +476,7 @@ fn request_fault<'a>(
     lower(
         n,
         rules::reasons::NO_LENGTH,
-        both(sends_content(method), !stated),
+        sends_content(method) && !stated,
     )
 }
 
@@ -517,13 +490,10 @@ fn authority_fault<'a>(
 ) -> usize
     ensures { result ≡ by_authority authority.now given host.now hosted n }
 {
-    let n = lower(n, rules::reasons::NO_AUTHORITY, !either(given, hosted));
-    let empty = either(
-        both(given, authority.len() == 0),
-        both(hosted, host.len() == 0),
-    );
+    let n = lower(n, rules::reasons::NO_AUTHORITY, !(given || hosted));
+    let empty = (given && authority.is_empty()) || (hosted && host.is_empty());
     let n = lower(n, rules::reasons::EMPTY_AUTHORITY, empty);
-    let differ = both(both(given, hosted), !fields::same_bytes(authority, host));
+    let differ = given && hosted && !fields::same_bytes(authority, host);
     let n = lower(n, rules::reasons::AUTHORITIES_DIFFER, differ);
     lower(
         n,
