@@ -3,7 +3,7 @@
 
 use control::settings::{Judged, SectionSize, Settings, Single};
 use fields::Record;
-use section::{HeaderAnswer, Stated, TrailerAnswer};
+use section::Fault;
 use std::io;
 use varint::{Whole, Wrote};
 use wire::Sent;
@@ -281,10 +281,10 @@ fn line(rt: &impl Print, block: &[u8], at: usize) -> io::Result<()> {
     }
 }
 
-fn length(rt: &impl Print, stated: Stated) -> io::Result<()> {
+fn length(rt: &impl Print, stated: Option<u64>) -> io::Result<()> {
     match stated {
-        Stated::Nothing => text(rt, b"no length"),
-        Stated::Length(n) => {
+        None => text(rt, b"no length"),
+        Some(n) => {
             text(rt, b"length ")?;
             number(rt, n)
         }
@@ -295,19 +295,15 @@ fn header_section(rt: &impl Print, block: &[u8]) -> io::Result<()> {
     text(rt, b"header section ")?;
     bytes(rt, block)?;
     match section::header_section(block) {
-        HeaderAnswer::Unreadable => text(rt, b": unreadable\n"),
-        HeaderAnswer::Refused(_) => text(rt, b": refused\n"),
-        HeaderAnswer::Sound {
-            method,
-            end,
-            stated,
-        } => {
+        Err(Fault::Unreadable) => text(rt, b": unreadable\n"),
+        Err(Fault::Refused(_)) => text(rt, b": refused\n"),
+        Ok(sound) => {
             text(rt, b": sound, method ")?;
-            number(rt, method as u64)?;
+            number(rt, sound.method as u64)?;
             text(rt, b" to ")?;
-            number(rt, end as u64)?;
+            number(rt, sound.end as u64)?;
             text(rt, b", ")?;
-            length(rt, stated)?;
+            length(rt, sound.stated)?;
             text(rt, b"\n")
         }
     }
@@ -317,9 +313,9 @@ fn trailers(rt: &impl Print, block: &[u8]) -> io::Result<()> {
     text(rt, b"trailers ")?;
     bytes(rt, block)?;
     match section::trailers(block) {
-        TrailerAnswer::Unreadable => text(rt, b": unreadable\n"),
-        TrailerAnswer::Refused(_) => text(rt, b": refused\n"),
-        TrailerAnswer::Sound => text(rt, b": sound\n"),
+        Err(Fault::Unreadable) => text(rt, b": unreadable\n"),
+        Err(Fault::Refused(_)) => text(rt, b": refused\n"),
+        Ok(()) => text(rt, b": sound\n"),
     }
 }
 

@@ -5,13 +5,13 @@ ghost use Rattle.rules.specs.Control.{settings_of};
 ghost use Rattle.rules.specs.Writer.{write_integer, write_header, write_integer_frame, write_opening, write_goaway};
 ghost use Rattle.control.specs.Answers.{size_is};
 ghost use Rattle.rules.specs.Block.{lines};
-ghost use Rattle.section.specs.Answer.{read_stated, header_answer, header_number, trailer_answer, trailer_number};
+ghost use Rattle.section.specs.Answer.{header_answer, header_number, trailer_answer, trailer_number};
 ghost use Rattle.wire.specs.Goaway.{sent_of};
 ghost use Rattle.meaning.specs.NumberLaws.{numbered};
 ghost use Rattle.tried_c.specs.LeafNumbers.{stated, value_or0, settings_number, settings_out, read_number, read_out, header_out, wrote_number, wrote_out, given, Written};
 
 use control::settings::{Judged, SectionSize};
-use section::{HeaderAnswer, Stated, TrailerAnswer};
+use section::Fault;
 use varint::{Whole, Wrote};
 use wire::Sent;
 use wire::ids::StreamId;
@@ -77,26 +77,6 @@ pub extern "C" fn eist_read(bytes: &[u8], at: usize, out: &mut [u64; 2]) -> u64
 
 // ---- sections
 
-// Whether a Content-Length is stated: 1 or 0.
-fn is_stated(length: Stated) -> u64
-    ensures { result ≡ stated (read_stated length) }
-{
-    match length {
-        Stated::Nothing => 0,
-        Stated::Length(_) => 1,
-    }
-}
-
-// The Content-Length; 0 where none is stated.
-fn length_of(length: Stated) -> u64
-    ensures { result ≡ value_or0 (read_stated length) }
-{
-    match length {
-        Stated::Nothing => 0,
-        Stated::Length(n) => n,
-    }
-}
-
 // 0, 6, or the code of a header section. out, where it is 0: whether a Content-Length is stated, which, and where the method begins and ends.
 #[unsafe(no_mangle)]
 pub extern "C" fn eist_header_section(block: &[u8], out: &mut [u64; 4]) -> u64
@@ -104,17 +84,13 @@ pub extern "C" fn eist_header_section(block: &[u8], out: &mut [u64; 4]) -> u64
     ensures out_after { out.new ≡ header_out (header_answer (lines block.now)) out.old }
 {
     match section::header_section(block) {
-        HeaderAnswer::Unreadable => 6,
-        HeaderAnswer::Refused(reason) => section::code(reason),
-        HeaderAnswer::Sound {
-            method,
-            end,
-            stated: length,
-        } => {
-            out[0] = is_stated(length);
-            out[1] = length_of(length);
-            out[2] = method as u64;
-            out[3] = end as u64;
+        Err(Fault::Unreadable) => 6,
+        Err(Fault::Refused(reason)) => section::code(reason).number(),
+        Ok(sound) => {
+            out[0] = u64::from(sound.stated.is_some());
+            out[1] = sound.stated.unwrap_or(0);
+            out[2] = sound.method as u64;
+            out[3] = sound.end as u64;
             0
         }
     }
@@ -126,9 +102,9 @@ pub extern "C" fn eist_trailers(block: &[u8]) -> u64
     ensures { result ≡ trailer_number (trailer_answer (lines block.now)) }
 {
     match section::trailers(block) {
-        TrailerAnswer::Unreadable => 6,
-        TrailerAnswer::Refused(reason) => section::code(reason),
-        TrailerAnswer::Sound => 0,
+        Err(Fault::Unreadable) => 6,
+        Err(Fault::Refused(reason)) => section::code(reason).number(),
+        Ok(()) => 0,
     }
 }
 
