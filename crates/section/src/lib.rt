@@ -2,22 +2,22 @@
 // checks that are broken the lowest in document 01's order is the reason.
 #![tactic(auto)]
 
-ghost use Rattle.std.specs.Prelude.{◌≡◌, not, ◌||◌, ◌&&◌, [], ◌+◌, ◌<◌, ◌^◌, T, length};
+ghost use Rattle.std.specs.Prelude.{◌≡◌, not, ◌||◌, ◌&&◌, [], ◌+◌, ◌<◌, ◌^◌, length};
 ghost use Rattle.rules.specs.Text.{all};
 ghost use Rattle.rules.specs.Block.{lines};
 ghost use Rattle.rules.specs.Named.{code_named, reason_of};
 ghost use Rattle.rules.specs.Section.{is_empty, code_of};
 ghost use Rattle.fields.specs.Bytes.{is_in};
-ghost use Rattle.fields.specs.Table.{all_right};
 ghost use Rattle.fields.specs.Walk.{held};
 ghost use Rattle.fields.specs.Decimal.{capped};
 ghost use Rattle.section.specs.Checks.{lower_of, lowest, found};
 ghost use Rattle.section.specs.Names.{method, host, content_length, te, unknown, other_name, one_name, of_seven, of_ten, long_name, name_of};
 ghost use Rattle.section.specs.Facts.{no_facts, kept_of, keep_at, known_by, plain_by, note_by, line_step, facts_of, value_at, walked};
 ghost use Rattle.section.specs.Judging.{header_row, by_places, is_http, is_path, sends_content, by_request, by_authority, by_trailers, stated_by};
+ghost use Rattle.section.specs.declared.Fault.TheVariants as faults;
 ghost use Rattle.section.specs.Answer.{stated_of, header_answer, trailer_answer};
 
-use fields::{Class, Record};
+use fields::{Class, Table, Unreadable};
 use rules::codes::Code;
 use rules::reasons::Reason;
 
@@ -214,18 +214,16 @@ fn known_line(f: Facts, k: usize, from: usize, to: usize) -> Facts
 }
 
 // Empty, or with a byte outside a class.
-fn not_all<'a>(table: &'a [u8; 256], v: &'a [u8], class: Class) -> bool
-    requires { T (all_right table.now) }
+fn not_all<'a>(table: &'a Table, v: &'a [u8], class: Class) -> bool
     ensures { result ≡ (is_empty v.now || not (all (is_in class) v.now)) }
 {
     if v.len() == 0 {
         return true;
     }
-    fields::any_outside(table, v, class)
+    table.any_outside(v, class)
 }
 
-fn method_line<'a>(f: Facts, table: &'a [u8; 256], value: &'a [u8], from: usize, to: usize) -> Facts
-    requires { T (all_right table.now) }
+fn method_line<'a>(f: Facts, table: &'a Table, value: &'a [u8], from: usize, to: usize) -> Facts
     ensures { result ≡ note_by method f value.now from to }
 {
     let mut g = known_line(f, METHOD, from, to);
@@ -267,8 +265,7 @@ fn kept_number(there: usize, old: u64, new: u64) -> u64
     old
 }
 
-fn length_line<'a>(f: Facts, table: &'a [u8; 256], value: &'a [u8], from: usize, to: usize) -> Facts
-    requires { T (all_right table.now) }
+fn length_line<'a>(f: Facts, table: &'a Table, value: &'a [u8], from: usize, to: usize) -> Facts
     ensures { result ≡ note_by content_length f value.now from to }
 {
     let there = f.to[LENGTH];
@@ -306,15 +303,8 @@ fn unknown_line(f: Facts) -> Facts
     g
 }
 
-fn noted<'a>(
-    f: Facts,
-    table: &'a [u8; 256],
-    k: usize,
-    value: &'a [u8],
-    from: usize,
-    to: usize,
-) -> Facts
-    requires { (k < 10) × T (all_right table.now) }
+fn noted<'a>(f: Facts, table: &'a Table, k: usize, value: &'a [u8], from: usize, to: usize) -> Facts
+    requires { k < 10 }
     ensures { result ≡ note_by k f value.now from to }
 {
     match k {
@@ -344,17 +334,17 @@ fn held_below(size: usize) -> usize
 // A line more.
 fn with_line<'a>(
     f: Facts,
-    table: &'a [u8; 256],
+    table: &'a Table,
     name: &'a [u8],
     value: &'a [u8],
     from: usize,
     to: usize,
 ) -> Facts
-    requires { (f.size + (length name.now + length value.now + 32) < 2 ^ 64) × T (all_right table.now) }
+    requires { f.size + (length name.now + length value.now + 32) < 2 ^ 64 }
     ensures { result ≡ line_step f name.now value.now from to }
 {
     let size = held_below(f.size + (name.len() + value.len() + 32));
-    let bad = fields::bad_line(table, name, value);
+    let bad = table.bad_line(name, value);
     let mut g = noted(f, table, name_of(name), value, from, to);
     let first = lower(g.first, Reason::BadBytes, bad);
     g.size = size;
@@ -369,30 +359,28 @@ pub enum Fault {
     Refused(Reason),
 }
 
+impl From<Unreadable> for Fault {
+    ghost from_gives = { λ _ fault. fault ≡ faults.Unreadable };
+
+    fn from(_unreadable: Unreadable) -> Fault {
+        Fault::Unreadable
+    }
+}
+
 // The one walk of the lines.
 fn walk_lines(block: &[u8]) -> Result<Facts, Fault>
     ensures { result ≡ walked (lines block.now) }
 {
     let table = fields::classes();
     let mut at = 0;
-    let mut f = nothing();
-    loop {
-        match fields::line_at(block, at) {
-            Record::End => return Ok(f),
-            Record::Unreadable => return Err(Fault::Unreadable),
-            Record::Line { name, value, next } => {
-                f = with_line(
-                    f,
-                    &table,
-                    &block[name..value],
-                    &block[value..next],
-                    value,
-                    next,
-                );
-                at = next;
-            }
-        }
+    let mut facts = nothing();
+    while let Some(line) = fields::line_at(block, at)? {
+        let name = &block[line.name..line.value];
+        let value = &block[line.value..line.next];
+        facts = with_line(facts, &table, name, value, line.value, line.next);
+        at = line.next;
     }
+    Ok(facts)
 }
 
 // ---- a header section
