@@ -58,9 +58,9 @@ const CONTROL_TYPE: u64 = 0x00;
 
 const PUSH_TYPE: u64 = 0x01;
 
-pub const ENCODER_TYPE: u64 = 0x02;
+const ENCODER_TYPE: u64 = 0x02;
 
-pub const DECODER_TYPE: u64 = 0x03;
+const DECODER_TYPE: u64 = 0x03;
 
 // A stream that a connection has once.
 #[tactic(auto, unfolding(crate::specs::Types::once_of))]
