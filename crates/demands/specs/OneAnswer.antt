@@ -12,6 +12,7 @@ use contract.Lifetimes.{Lfts}
 use denote.Triple.Entry.{Args, Res}
 use denote.Triple.Clauses.{Clauses, Lasts, at_exit}
 use denote.Triple.Clauses as kit
+use Rattle.rules.specs.declared.codes.Code.{Code}
 use Rattle.rules.specs.Control.{unset}
 use Rattle.varint.specs.declared.Part.{Part}
 use Rattle.varint.specs.declared.Whole.{Whole}
@@ -30,6 +31,7 @@ use Rattle.frames.specs.End.{Ends}
 use Rattle.record.specs.Body.{said_no}
 use Rattle.record.specs.declared.Record.{Record}
 use Rattle.record.specs.declared.Stream.{Stream}
+use Rattle.record.specs.declared.Reading.{Reading}
 use Rattle.record.specs.Sound.{Decides, own_place, Read, Written}
 use Rattle.record.specs.Same.{one_read, one_written}
 use Rattle.oneway.specs.declared.OneWay.{OneWay}
@@ -119,6 +121,10 @@ use Rattle.record.specs.contracts.free as record-free
 use Rattle.record.proofs.free.Symbol as record-free-is
 use Rattle.record.specs.contracts.is_free as record-is-free
 use Rattle.record.proofs.is_free.Symbol as record-is-free-is
+use Rattle.record.specs.contracts.is_part as record-is-part
+use Rattle.record.proofs.is_part.Symbol as record-is-part-is
+use Rattle.record.specs.contracts.is_sane as record-is-sane
+use Rattle.record.proofs.is_sane.Symbol as record-is-sane-is
 use Rattle.record.specs.contracts.read as record-read
 use Rattle.record.proofs.read.Symbol as record-read-is
 use Rattle.record.specs.contracts.row as record-row
@@ -274,10 +280,10 @@ one_write m n = meets_one m n
 pub one_ended : (c : Cells) {x y : ℕ} → Ends c x → Ends c y → x ≡ y
 one_ended c e f = one (e (own_place c) [] a_place) (f (own_place c) [] a_place)
 
-pub one_closed : (w : OneWay) {x y : ℕ} → Closes w x → Closes w y → x ≡ y
+pub one_closed : (w : OneWay) {x y : Result Unit Code} → Closes w x → Closes w y → x ≡ y
 one_closed w e f = one (e unset []) (f unset [])
 
-pub one_stream : (r : Record) (s t : Stream) → Read r s → Read r t → s ≡ t
+pub one_stream : (r : Record) (s t : Reading) → Read r s → Read r t → s ≡ t
 one_stream r s t e f = one_read r s t e f
 
 pub one_record : (s : Stream) (r q : Record) → Written s r → Written s q → r ≡ q
@@ -380,6 +386,8 @@ module _ (w : World) where
       function record-cells-in-is.symbol record-cells-in.ended (record-cells-in.clauses w.𝓛 w.𝓜.mem w.𝓡.returns) (λ κs a g r q ws vs. equal)
       ∷ function record-free-is.symbol record-free.ended (record-free.clauses w.𝓛 w.𝓜.mem w.𝓡.returns) (λ κs a g r q ws vs. equal)
       ∷ function record-is-free-is.symbol record-is-free.ended (record-is-free.clauses w.𝓛 w.𝓜.mem w.𝓡.returns) (λ κs a g r q ws vs. facts (λ x y. (one_decided r q x y, refl)))
+      ∷ function record-is-part-is.symbol record-is-part.ended (record-is-part.clauses w.𝓛 w.𝓜.mem w.𝓡.returns) (λ κs a g r q ws vs. facts (λ x y. (one_decided r q x y, refl)))
+      ∷ function record-is-sane-is.symbol record-is-sane.ended (record-is-sane.clauses w.𝓛 w.𝓜.mem w.𝓡.returns) (λ κs a g r q ws vs. facts (λ x y. (one_decided r q x y, refl)))
       ∷ function record-read-is.symbol record-read.ended (record-read.clauses w.𝓛 w.𝓜.mem w.𝓡.returns) (λ κs a g r q ws vs. facts (λ x y. (one_stream a.0 r q x y, refl)))
       ∷ function record-row-is.symbol record-row.ended (record-row.clauses w.𝓛 w.𝓜.mem w.𝓡.returns) (λ κs a g r q ws vs. facts (λ x y. (one_record a.0 r q x y, refl)))
       ∷ function record-write-is.symbol record-write.ended (record-write.clauses w.𝓛 w.𝓜.mem w.𝓡.returns) (λ κs a g r q ws vs. facts (λ x y. (one_record a.0 r q x y, refl)))
@@ -466,7 +474,7 @@ module _ (w : World) where
       "fields::has_byte" ∷ "fields::begins_with" ∷ "fields::same_bytes" ∷ "fields::Table::any_outside" ∷ "fields::Table::bad_line" ∷ "fields::decimal_of" ∷ "fields::Table::line_spot" ∷ "fields::line_at" ∷
       "section::code" ∷ "section::header_section" ∷ "section::trailers" ∷
       "frames::ruled" ∷ "frames::end" ∷
-      "record::cells_in" ∷ "record::free" ∷ "record::is_free" ∷ "record::read" ∷ "record::row" ∷ "record::write" ∷ "record::in_content" ∷
+      "record::cells_in" ∷ "record::free" ∷ "record::is_free" ∷ "record::is_part" ∷ "record::is_sane" ∷ "record::read" ∷ "record::row" ∷ "record::write" ∷ "record::in_content" ∷
       "requests::given::give" ∷
       "oneway::close" ∷
       "control::judge" ∷
