@@ -1,5 +1,5 @@
 -- One feed, from its parts: a law for each way it goes. Assumes nothing.
-use Rattle.std.specs.Prelude.{◌≡◌, refl, ℕ, zero, suc, ◌+◌, ◌-◌, ◌≤◌, ◌<◌, ◌^◌, List, length}
+use Rattle.std.specs.Prelude.{◌≡◌, refl, ℕ, zero, suc, ◌+◌, ◌-◌, ◌≤◌, ◌<◌, ◌^◌, List, length, Option, Some, Ok}
 use Rattle.std.proofs.Common.{sym, ap, ◌∙◌, subst, zero-le, arith, ne_eqb, le-leb}
 use Rattle.std.proofs.Math.Nat.{sub-zero}
 use Rattle.std.proofs.Math.Logic.{inl}
@@ -12,13 +12,15 @@ use Rattle.frames.specs.Modes.{IN-TYPE, IN-SKIPPED, IN-CONTENT, HEADER-SECTION-D
 use Rattle.frames.specs.declared.Cells.{Cells}
 use Rattle.frames.specs.declared.Answer.{Answer}
 use Rattle.frames.specs.declared.Start.{Start}
+use Rattle.frames.specs.declared.Use.TheVariants.{Skipped}
 use Rattle.varint.specs.Whole.{Ended, Valued}
 use Rattle.frames.specs.Both.{Place, rule, both}
 use Rattle.frames.specs.Uses.{place_of, number_of, not_none, passes_skip, passes_data, data_lawful}
-use Rattle.frames.specs.Stops.{stop_of, Stop, stop_here, header_stop, pass_stop, found, ruling_lawful}
+use Rattle.frames.specs.Wants.{wanted_in, stated_in, has_in, length_in, stands_back}
+use Rattle.frames.specs.Stops.{Coming, stop_of, Stop, stop_here, header_stop, pass_stop, found, ruling_lawful}
 use Rattle.frames.specs.Answers.{mode_state, state_at, state_of, answer_at, Sane, Held, Answers, from_payload, some_coming, place_same, Content, goes_on, is_over, Hands, answer}
 use Rattle.frames.specs.Stopped.{more_sum, from_stop, stop_content}
-use Rattle.frames.specs.Begun.{Started, begin_fresh}
+use Rattle.frames.specs.Begun.{start, Started, begin_fresh}
 
 -- THE DEFINITION'S FEED of these cells
 abbrev pub fed_by : (c : Cells) (s : List ℕ) (allow : ℕ) → (n : ℕ) → Place → (sofar : List ℕ) → Feeding Place
@@ -74,7 +76,7 @@ module _ (c : Cells) (s : List ℕ) (allow : ℕ) where
   }
 
   -- nowhere
-  pub fed_stays : (r : Start) → Started c s allow r → r.number ≡ NO-USE → Fed c s allow (answer NOTHING r.at 0 r.at 0 r.cells)
+  pub fed_stays : (r : Start) → Started c s allow r → wanted_in r.wanted ≡ NO-USE → Fed c s allow (answer NOTHING r.at 0 r.at 0 r.cells)
   unfolding answer_at
   fed_stays r q e = record {
     is = λ n p k hk st. (let x = q.place p ∙ place_same c p st in q.stays e p k st ∙ rw x refl);
@@ -94,8 +96,8 @@ module _ (c : Cells) (s : List ℕ) (allow : ℕ) where
   fresh_held (suc (suc (suc m))) k h e = absurd (omega arith)
 
   -- by the readers
-  pub fed_read : (b : Start) {to len rest number : ℕ} {r : Answer} → c.mode < IN-CONTENT → Started c s allow b → (b.number ≡ NO-USE → ⊥)
-      → Stop s c.phase c.has c.stated c.sum b.at (allow - b.heads) (stop_of s b.number b.left (allow - b.heads) b.at) to len rest number
+  pub fed_read : (b : Start) {to len rest number : ℕ} {r : Answer} → c.mode < IN-CONTENT → Started c s allow b → (wanted_in b.wanted ≡ NO-USE → ⊥)
+      → Stop s c.phase c.has c.stated c.sum b.at (allow - b.heads) (stop_of s (wanted_in b.wanted) b.left (allow - b.heads) b.at) to len rest number
       → Answers c s 1 (from_stop s to (allow - rest) number len rest) r → Fed c s allow r
   fed_read b {to} {len} {rest} {number} m q n9 st a = record {
     is = λ n p k hk sd.
@@ -112,6 +114,13 @@ module _ (c : Cells) (s : List ℕ) (allow : ℕ) where
     held = a.held;
     listed = a.listed;
   }
+
+  -- a stop by the place of these cells is one by their numbers
+  pub stop_placed : {ph m : ℕ} {st : Option ℕ} {at left : ℕ} {want : Coming} {to len rest number : ℕ} → ph ≡ c.phase → st ≡ stated_in c.has c.stated → m ≡ c.sum
+      → Stop s ph (has_in st) (length_in st) m at left want to len rest number → Stop s c.phase c.has c.stated c.sum at left want to len rest number
+  stop_placed e f g q =
+      let q' : Stop s c.phase (has_in (stated_in c.has c.stated)) (length_in (stated_in c.has c.stated)) c.sum _ _ _ _ _ _ _ = rw (e, f, g) at q in
+      record { is = λ p st. q'.is p (stands_back c.has c.stated c.sum st); from = q'.from; within = q'.within; fewer = q'.fewer; small = q'.small; stuck = q'.stuck }
 
   -- content that goes on
   pub fed_content : {r : Answer} → Sane c → c.mode ≡ IN-CONTENT → Hands c s 0 0 IN-CONTENT c.acc r → Fed c s allow r × Content c r.cells
@@ -145,4 +154,4 @@ module _ (c : Cells) (s : List ℕ) (allow : ℕ) where
           let st : Stop s c.phase c.has c.stated c.sum 0 (allow - 0) (stop_of s USE-SKIPPED 0 (allow - 0) 0) m l (allow - 1) k = rw z data-stop in
           let x = stop_content c s m 1 l (allow - 1) g.within (sane.sums, sane.stateds) sane k d one (omega arith) data_law.0 q a.0 in
           let h : Content (more_sum c l) r.cells = rw q at (a.1 refl) in
-          (fed_read (record { at = 0; left = 0; number = USE-SKIPPED; heads = 0; cells = c }) (omega arith) (begin_fresh c s allow sane m0 d0) (λ y. omega arith) st (subst (λ y. Answers c s 1 (from_stop s m y k l (allow - 1)) r) e x), content_more c l h)
+          (fed_read (start 0 0 (Some (Ok Skipped)) 0 c) (omega arith) (begin_fresh c s allow sane m0 d0) (λ y. omega arith) st (subst (λ y. Answers c s 1 (from_stop s m y k l (allow - 1)) r) e x), content_more c l h)

@@ -1,16 +1,17 @@
 use native.Mathlib.Omega.{arith}
-use Prim.Native.Nat.{zero-le}
+use Prim.Native.Nat.{◌≤◌}
+use mathlib.Core.Path.{◌≡◌}
+use Rattle.frames.specs.Modes.{IN-SKIPPED, HEADER-SECTION-DUE, TRAILERS-DUE}
 use Rattle.frames.specs.Fed.{fed_payload, fed_due}
 use Rattle.frames.proofs.feed.Goals as goal
+use Rattle.frames.proofs.feed.Goals.{in_default-via-then-c-lt6, in_default-via-else-c-lt6+else-c-lt8}
 
-pub handed-requires : goal.handed-requires
-handed-requires c = let a = c in (zero-le, a.requires.small, (a.requires.sums, a.requires.stateds), (omega (arith, c.if-c-lt-IN_CONTENT.false), omega (arith, c.if-c-lt-HEADER_SECTION_DUE.true), λ e. omega (arith, e, c.if-c-lt-HEADER_SECTION_DUE.true), λ e. omega (arith, e, c.if-c-lt-HEADER_SECTION_DUE.true)), λ e. a.requires.some (omega (arith, e)) (λ x. omega (arith, e, x)) (λ x. omega (arith, e, x)))
+pub returns-in-6 : goal.returns-in-6
+returns-in-6 c = let a = c in rw c.quiet.ensures (fed_due a.args.c a.args.s.now a.args.allow a.requires (omega arith) (omega arith))
 
-pub returns-then-c-lt-HEADER_SECTION_DUE : goal.returns-then-c-lt-HEADER_SECTION_DUE
-returns-then-c-lt-HEADER_SECTION_DUE c = let a = c in fed_payload a.args.c a.args.s.now a.args.allow a.requires (omega (arith, c.if-c-lt-IN_CONTENT.false)) (λ e. omega (arith, e, c.if-c-lt-HEADER_SECTION_DUE.true)) (λ e. omega (arith, e, c.if-c-lt-HEADER_SECTION_DUE.true)) c.handed.ensures.0
-
-pub returns-then-c-lt-IN_SETTINGS : goal.returns-then-c-lt-IN_SETTINGS
-returns-then-c-lt-IN_SETTINGS c = let a = c in rw c.quiet.ensures (fed_due a.args.c a.args.s.now a.args.allow a.requires c.if-c-lt-HEADER_SECTION_DUE.false c.if-c-lt-IN_SETTINGS.true)
-
-pub returns-else-c-lt-IN_SETTINGS : goal.returns-else-c-lt-IN_SETTINGS
-returns-else-c-lt-IN_SETTINGS c = let a = c in fed_payload a.args.c a.args.s.now a.args.allow a.requires (omega (arith, c.if-c-lt-IN_SETTINGS.false)) (λ e. omega (arith, e, c.if-c-lt-IN_SETTINGS.false)) (λ e. omega (arith, e, c.if-c-lt-IN_SETTINGS.false)) c.handed-else-c-lt-IN_SETTINGS.ensures.0
+pub returns-in_default : goal.returns-in_default
+returns-in_default c =
+    let a = c in
+    let paying : (IN-SKIPPED ≤ c.args.c.mode) × (c.args.c.mode ≡ HEADER-SECTION-DUE → ⊥) × (c.args.c.mode ≡ TRAILERS-DUE → ⊥) =
+    elim c.in_default.branch [ in_default-via-then-c-lt6 w ↦ (omega arith, (λ e. omega arith), λ e. omega arith) | in_default-via-else-c-lt6+else-c-lt8 w ↦ (omega arith, (λ e. omega arith), λ e. omega arith) ] in
+    fed_payload a.args.c a.args.s.now a.args.allow a.requires paying.0 paying.1 paying.2 c.handed.ensures.0
