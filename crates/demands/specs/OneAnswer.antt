@@ -103,8 +103,9 @@ use Rattle.section.specs.contracts.header_section as section-header-section
 use Rattle.section.proofs.header_section.Symbol as section-header-section-is
 use Rattle.section.specs.contracts.trailers as section-trailers
 use Rattle.section.proofs.trailers.Symbol as section-trailers-is
-use Rattle.frames.specs.contracts.ruled as streams-ruled
-use Rattle.frames.proofs.ruled.Symbol as streams-ruled-is
+use Rattle.frames.specs.Wants.{ruled_in, ruled_one}
+use Rattle.frames.specs.contracts.Place.rule as streams-rule
+use Rattle.frames.proofs.Place.rule.Symbol as streams-rule-is
 use Rattle.frames.specs.contracts.end as streams-end
 use Rattle.frames.proofs.end.Symbol as streams-end-is
 use Rattle.frames.proofs.feed.Symbol as streams-feed-is
@@ -270,6 +271,9 @@ one_write m n = meets_one m n
 pub one_ended : (c : Cells) {x y : ℕ} → Ends c x → Ends c y → x ≡ y
 one_ended c e f = one (e (own_place c) [] a_place) (f (own_place c) [] a_place)
 
+pub one_ruling : {number : ℕ} {x y : std.Result Use Code} → ruled_in x ≡ number → ruled_in y ≡ number → x ≡ y
+one_ruling {x} {y} e f = ruled_one x y (one e f)
+
 pub one_closed : (w : OneWay) {x y : ℕ} → Closes w x → Closes w y → x ≡ y
 one_closed w e f = one (e unset []) (f unset [])
 
@@ -360,7 +364,7 @@ module _ (w : World) where
 
   abbrev of_streams : List Function
   of_streams =
-      function streams-ruled-is.symbol streams-ruled.ended (streams-ruled.clauses w.𝓛 w.𝓜.mem w.𝓡.returns) (λ κs a g r q ws vs. equal)
+      function streams-rule-is.symbol streams-rule.ended (streams-rule.clauses w.𝓛 w.𝓜.mem w.𝓡.returns) (λ κs a g r q ws vs. facts (λ x y. (one_ruling x y, refl)))
       ∷ function streams-end-is.symbol streams-end.ended (streams-end.clauses w.𝓛 w.𝓜.mem w.𝓡.returns) (λ κs a g r q ws vs. facts (λ x y. (one_ended a.0 x y, refl)))
       ∷ []
 
@@ -448,7 +452,7 @@ module _ (w : World) where
   functions = of_varint ++ (of_ids ++ (of_wire ++ (of_settings ++ (of_fields ++ (of_section ++ (of_streams ++ (of_record ++ (of_given_lem ++ (of_oneway ++ (of_control ++ (of_requests ++ (of_doors ++ (of_oneways ++ (of_connection ++ (of_board)))))))))))))))
 
   pub listed : ◌≡◌ {A = List Symbol} (map (λ (f : Function). f.name) functions)
-      ("varint::fresh" ∷ "varint::read_step" ∷ "varint::ends" ∷ "varint::value" ∷ "varint::near_value" ∷ "varint::read" ∷ "varint::size" ∷ "varint::put" ∷ "varint::write" ∷ "wire::ids::is_request" ∷ "wire::write_header" ∷ "wire::write_integer_frame" ∷ "wire::write_opening" ∷ "wire::write_goaway" ∷ "control::settings::judge" ∷ "control::settings::only" ∷ "fields::has_byte" ∷ "fields::begins_with" ∷ "fields::same_bytes" ∷ "fields::any_outside" ∷ "fields::bad_line" ∷ "fields::decimal_of" ∷ "fields::line_spot" ∷ "fields::line_at" ∷ "section::code" ∷ "section::header_section" ∷ "section::trailers" ∷ "frames::ruled" ∷ "frames::end" ∷ "record::cells_in" ∷ "record::free" ∷ "record::is_free" ∷ "record::read" ∷ "record::row" ∷ "record::write" ∷ "record::in_content" ∷ "requests::given::give" ∷ "oneway::close" ∷ "control::judge" ∷ "requests::reset" ∷ "requests::end" ∷ "requests::feed" ∷ "requests::give" ∷ "connection::doors::fresh" ∷ "connection::doors::open" ∷ "connection::doors::send_goaway" ∷ "oneway::calls::fresh" ∷ "oneway::calls::feed" ∷ "oneway::calls::give" ∷ "oneway::calls::close" ∷ "connection::fresh" ∷ "connection::wanted" ∷ "connection::answer" ∷ "connection::decide" ∷ "connection::begin" ∷ "connection::swept" ∷ "connection::say_goaway" ∷ "calls::step" ∷ "calls::eistulko_start" ∷ "calls::eistulko_open" ∷ "calls::eistulko_feed" ∷ "calls::eistulko_give" ∷ "calls::eistulko_end" ∷ "calls::eistulko_reset" ∷ "calls::eistulko_goaway" ∷ "calls::eistulko_write_header" ∷ "calls::eistulko_write_integer_frame" ∷ "calls::eistulko_write_opening" ∷ "calls::eistulko_connection_size" ∷ "calls::eistulko_record_size" ∷ "calls::eistulko_report_size" ∷ "calls::eistulko_written_size" ∷ [])
+      ("varint::fresh" ∷ "varint::read_step" ∷ "varint::ends" ∷ "varint::value" ∷ "varint::near_value" ∷ "varint::read" ∷ "varint::size" ∷ "varint::put" ∷ "varint::write" ∷ "wire::ids::is_request" ∷ "wire::write_header" ∷ "wire::write_integer_frame" ∷ "wire::write_opening" ∷ "wire::write_goaway" ∷ "control::settings::judge" ∷ "control::settings::only" ∷ "fields::has_byte" ∷ "fields::begins_with" ∷ "fields::same_bytes" ∷ "fields::any_outside" ∷ "fields::bad_line" ∷ "fields::decimal_of" ∷ "fields::line_spot" ∷ "fields::line_at" ∷ "section::code" ∷ "section::header_section" ∷ "section::trailers" ∷ "frames::Place::rule" ∷ "frames::end" ∷ "record::cells_in" ∷ "record::free" ∷ "record::is_free" ∷ "record::read" ∷ "record::row" ∷ "record::write" ∷ "record::in_content" ∷ "requests::given::give" ∷ "oneway::close" ∷ "control::judge" ∷ "requests::reset" ∷ "requests::end" ∷ "requests::feed" ∷ "requests::give" ∷ "connection::doors::fresh" ∷ "connection::doors::open" ∷ "connection::doors::send_goaway" ∷ "oneway::calls::fresh" ∷ "oneway::calls::feed" ∷ "oneway::calls::give" ∷ "oneway::calls::close" ∷ "connection::fresh" ∷ "connection::wanted" ∷ "connection::answer" ∷ "connection::decide" ∷ "connection::begin" ∷ "connection::swept" ∷ "connection::say_goaway" ∷ "calls::step" ∷ "calls::eistulko_start" ∷ "calls::eistulko_open" ∷ "calls::eistulko_feed" ∷ "calls::eistulko_give" ∷ "calls::eistulko_end" ∷ "calls::eistulko_reset" ∷ "calls::eistulko_goaway" ∷ "calls::eistulko_write_header" ∷ "calls::eistulko_write_integer_frame" ∷ "calls::eistulko_write_opening" ∷ "calls::eistulko_connection_size" ∷ "calls::eistulko_record_size" ∷ "calls::eistulko_report_size" ∷ "calls::eistulko_written_size" ∷ [])
   listed = refl
 
   -- ---- and those that do not

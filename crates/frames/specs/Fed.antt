@@ -1,5 +1,5 @@
 -- One feed, from its parts: a law for each way it goes. Assumes nothing.
-use Rattle.std.specs.Prelude.{◌≡◌, refl, ℕ, zero, suc, ◌+◌, ◌-◌, ◌≤◌, ◌<◌, ◌^◌, List, length, Option, Some, Ok}
+use Rattle.std.specs.Prelude.{◌≡◌, refl, ℕ, zero, suc, ◌+◌, ◌-◌, ◌≤◌, ◌<◌, ◌^◌, List, length, Some, Ok}
 use Rattle.std.proofs.Common.{sym, ap, ◌∙◌, subst, zero-le, arith, ne_eqb, le-leb}
 use Rattle.std.proofs.Math.Nat.{sub-zero}
 use Rattle.std.proofs.Math.Logic.{inl}
@@ -17,7 +17,7 @@ use Rattle.varint.specs.Whole.{Ended, Valued}
 use Rattle.frames.specs.Both.{Place, rule, both}
 use Rattle.frames.specs.Uses.{place_of, number_of, not_none, passes_skip, passes_data, data_lawful}
 use Rattle.frames.specs.Wants.{wanted_in, stated_in, has_in, length_in, stands_back}
-use Rattle.frames.specs.Stops.{Coming, stop_of, Stop, stop_here, header_stop, pass_stop, found, ruling_lawful}
+use Rattle.frames.specs.Stops.{stop_of, Stop, stop_here, header_stop, pass_stop, found, ruling_lawful}
 use Rattle.frames.specs.Answers.{mode_state, state_at, state_of, answer_at, Sane, Held, Answers, from_payload, some_coming, place_same, Content, goes_on, is_over, Hands, answer}
 use Rattle.frames.specs.Stopped.{more_sum, from_stop, stop_content}
 use Rattle.frames.specs.Begun.{start, Started, begin_fresh}
@@ -114,13 +114,6 @@ module _ (c : Cells) (s : List ℕ) (allow : ℕ) where
     held = a.held;
     listed = a.listed;
   }
-
-  -- a stop by the place of these cells is one by their numbers
-  pub stop_placed : {ph m : ℕ} {st : Option ℕ} {at left : ℕ} {want : Coming} {to len rest number : ℕ} → ph ≡ c.phase → st ≡ stated_in c.has c.stated → m ≡ c.sum
-      → Stop s ph (has_in st) (length_in st) m at left want to len rest number → Stop s c.phase c.has c.stated c.sum at left want to len rest number
-  stop_placed e f g q =
-      let q' : Stop s c.phase (has_in (stated_in c.has c.stated)) (length_in (stated_in c.has c.stated)) c.sum _ _ _ _ _ _ _ = rw (e, f, g) at q in
-      record { is = λ p st. q'.is p (stands_back c.has c.stated c.sum st); from = q'.from; within = q'.within; fewer = q'.fewer; small = q'.small; stuck = q'.stuck }
 
   -- content that goes on
   pub fed_content : {r : Answer} → Sane c → c.mode ≡ IN-CONTENT → Hands c s 0 0 IN-CONTENT c.acc r → Fed c s allow r × Content c r.cells

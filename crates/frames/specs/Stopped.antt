@@ -1,5 +1,5 @@
 -- What the code answers of a stop of the two readers: a law for each kind of stop. Assumes nothing.
-use Rattle.std.specs.Prelude.{◌≡◌, refl, drop}
+use Rattle.std.specs.Prelude.{◌≡◌, refl, drop, Option}
 use Rattle.std.proofs.Common.{sym, ◌∙◌}
 use Rattle.std.proofs.Math.Path.{ap}
 use Prim.Native.Nat.{ℕ, zero, suc, ◌+◌, ◌-◌, ◌≤◌, ◌<◌, ◌^◌}
@@ -23,10 +23,10 @@ use Rattle.frames.specs.declared.Use.{Use}
 use Rattle.frames.specs.declared.Use.TheVariants.{Skipped, Content, HeaderSection, Trailers, Settings, Goaway, MaxPushId, CancelPush}
 use Rattle.frames.specs.Both.{Place, both}
 use Rattle.frames.specs.Uses.{place_of, Stands, a_place, any_set, with_data, ruling_at, high_back}
-use Rattle.frames.specs.Wants.{mode_in, use_in}
+use Rattle.frames.specs.Wants.{mode_in, use_in, stated_in, has_in, length_in, stands_back}
 use Rattle.frames.specs.Heads.{head_state}
 use Rattle.frames.specs.Parts.{Stopping, section_stops, kept_stops, over_stops}
-use Rattle.frames.specs.Stops.{header_of, payload_of, stop_of, not_header, Lawful}
+use Rattle.frames.specs.Stops.{Coming, Stop, header_of, payload_of, stop_of, not_header, Lawful}
 use Rattle.frames.specs.Answers.{mode_state, state_at, place_at, place_in, answer_at, Sane, Numbers, emptied, coming, Answers, from_payload, some_coming, place_same, in_mode, answer}
 use Rattle.frames.specs.Handed.{sane_in, behind}
 
@@ -37,6 +37,13 @@ from_stop s to heads number len rest n p k = past to heads (stop_of s number len
 -- the cells behind an accepted DATA
 abbrev pub more_sum : Cells → (len : ℕ) → Cells
 more_sum c len = record { mode = c.mode; acc = c.acc; due = c.due; ftype = c.ftype; phase = c.phase; has = c.has; stated = c.stated; sum = c.sum + len }
+
+-- a stop by the place of cells is one by their numbers
+pub stop_placed : (s : List ℕ) (c : Cells) {ph m : ℕ} {st : Option ℕ} {at allow : ℕ} {want : Coming} {to len rest number : ℕ} → ph ≡ c.phase → st ≡ stated_in c.has c.stated → m ≡ c.sum
+    → Stop s ph (has_in st) (length_in st) m at allow want to len rest number → Stop s c.phase c.has c.stated c.sum at allow want to len rest number
+stop_placed s c e f g q =
+    let r = rw (e, f, g) at q in
+    record { is = λ p st. r.is p (stands_back c.has c.stated c.sum st); from = r.from; within = r.within; fewer = r.fewer; small = r.small; stuck = r.stuck }
 
 data_place : (h n m len : ℕ) {ph : ℕ} {p : Place} (q : Place) → Stands h n m ph p → ph ≡ BODY → with_data len p ≡ place_at ph h n (m + len) q
 unfolding with_data place_at place_of

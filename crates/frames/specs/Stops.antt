@@ -15,7 +15,7 @@ use Rattle.meaning.proofs.FeedLaws.{header_whole, skip_whole}
 use Rattle.meaning.specs.IntegerLaws.{integer_length, integer_rest}
 use Rattle.varint.specs.Whole.{whole_at, end_of, whole_is, Ended, Valued, read_value}
 use Rattle.frames.specs.Modes.{USE-SKIPPED, USE-CONTENT, USE-CANCEL-PUSH, NO-USE, BODY}
-use Rattle.frames.specs.declared.Header.{Header}
+use Rattle.frames.specs.declared.FrameHeader.{FrameHeader}
 use Rattle.frames.specs.Both.{Place, of_request, of_control, rule, both}
 use Rattle.frames.specs.Uses.{place_of, Stands, with_data, number_of, ruling_at, ruling_back, number_stands, passes_of, use_small, data_lawful}
 use Rattle.rules.specs.Numbers.{code_number, coded}
@@ -42,7 +42,7 @@ unfoldable pub Unready : (s : List ℕ) (at : ℕ) → Type 0
 Unready s at = (t here len from : ℕ) (rest pay : List ℕ) → integer at (drop at s) ≡ got t here rest → integer here rest ≡ got len from pay → ⊥
 
 -- a header that is whole
-pub record WholeAt (s : List ℕ) (at : ℕ) (h : Header) : Type 0 where
+pub record WholeAt (s : List ℕ) (at : ℕ) (h : FrameHeader) : Type 0 where
   pub middle : ℕ
   pub typed : integer at (drop at s) ≡ got h.ftype middle (drop middle s)
   pub sized : integer middle (drop middle s) ≡ got h.len h.next (drop h.next s)
@@ -50,11 +50,11 @@ pub record WholeAt (s : List ℕ) (at : ℕ) (h : Header) : Type 0 where
   pub within : h.next ≤ length s
   pub small : h.len < 2 ^ 62
 
-abbrev pub HeaderAt : (s : List ℕ) (at : ℕ) → Option Header → Type 0
+abbrev pub HeaderAt : (s : List ℕ) (at : ℕ) → Option FrameHeader → Type 0
 HeaderAt s at None = Unready s at
 HeaderAt s at (Some h) = WholeAt s at h
 
-pub unready_none : (s : List ℕ) (at : ℕ) {h : Option Header} → h ≡ None → HeaderAt s at h → Unready s at
+pub unready_none : (s : List ℕ) (at : ℕ) {h : Option FrameHeader} → h ≡ None → HeaderAt s at h → Unready s at
 unready_none s at e u = rw e at u
 
 -- DATA is accepted only behind the header section, and keeps the sum small; a refusal's number is a code's
@@ -90,10 +90,6 @@ pub record Stop (s : List ℕ) (phase has stated sum at allow : ℕ) (want : Com
   pub fewer : rest ≤ allow
   pub small : len < 2 ^ 62
   pub stuck : Stuck s phase sum to len rest number
-
--- a stop from here is one from the start
-pub record Joins (s : List ℕ) (phase has stated sum start₀ allow₀ : ℕ) (want : Coming) (number left allow at : ℕ) : Type 0 where
-  pub join : (to len rest k : ℕ) → Stop s phase has stated sum at allow (stop_of s number left allow at) to len rest k → Stop s phase has stated sum start₀ allow₀ want to len rest k
 
 -- ---- laws
 
@@ -159,8 +155,6 @@ module _ (s : List ℕ) (phase has stated sum at allow t n l m k : ℕ) {rest : 
     stuck = q.stuck;
   }
 
--- ---- from one payload to the next
-
 -- a payload that is passed
 empty_data : (p : Place) → with_data 0 p ≡ p
 unfolding with_data
@@ -212,22 +206,6 @@ pass_stop s phase has stated sum at left number allow {to} {len} {rst} {r} e q =
   small = q.small;
   stuck = q.stuck;
 }
-
-module _ (s : List ℕ) (phase has stated sum start₀ allow₀ : ℕ) (want : Coming) where
-  -- a payload that is passed, and no header behind it
-  pub pass_ends : (number left allow at : ℕ) → Joins s phase has stated sum start₀ allow₀ want number left allow at → at ≤ length s → passes_of left number (length s - at) ≡ true → (0 < allow → Unready s (at + left))
-      → Stop s phase has stated sum start₀ allow₀ want (at + left) 0 allow NO-USE
-  pass_ends number left allow at j w e u =
-      let f = passed_fits left number (length s - at) e in
-      j.join _ _ _ _ (pass_stop s phase has stated sum at left number allow e (stop_header s phase has stated sum (at + left) allow (omega arith) u))
-
-  -- and one behind it
-  pub pass_joins : (number left allow at k : ℕ) (h : Header) → Joins s phase has stated sum start₀ allow₀ want number left allow at → passes_of left number (length s - at) ≡ true → (allow ≡ 0 → ⊥) → WholeAt s (at + left) h
-      → k ≡ number_of (rule (place_of phase has stated sum) h.ftype h.len) → (k ≡ NO-USE → ⊥) → Joins s phase has stated sum start₀ allow₀ want k h.len (allow - 1) h.next
-  pass_joins number left allow at k h j e some w known n9 = record {
-    join = λ to len rest r q. j.join to len rest r (pass_stop s phase has stated sum at left number allow e
-        (header_stop s phase has stated sum (at + left) allow h.ftype w.middle h.len h.next k w.typed w.sized some known n9 w.past q));
-  }
 
 -- ---- integers that the readers find
 

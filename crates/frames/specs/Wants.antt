@@ -1,5 +1,5 @@
 -- What the code says of a header: what its payload is for, or the code that refuses it; and the number of that, in Uses. Assumes nothing.
-use Rattle.std.specs.Prelude.{◌≡◌, refl, ℕ, zero, suc, ◌≤◌, Option, Some, None, Result, Ok, Err}
+use Rattle.std.specs.Prelude.{false, ◌≡◌, refl, ◌<◌, ℕ, zero, suc, ◌≤◌, Option, Some, None, Result, Ok, Err}
 use Rattle.std.proofs.Common.{sym, ap, ◌∙◌, arith, lit≤}
 use Rattle.rules.specs.Numbers.{code_number, coded}
 use Rattle.rules.specs.Numbers as rules
@@ -10,8 +10,9 @@ use Rattle.rules.specs.declared.codes.Code.TheVariants as code
 use Rattle.meaning.specs.NumberLaws.{code_high, coded_back}
 use Rattle.frames.specs.Modes.{USE-SKIPPED, USE-CONTENT, USE-HEADER-SECTION, USE-TRAILERS, USE-SETTINGS, USE-GOAWAY, USE-MAX-PUSH-ID, USE-CANCEL-PUSH, NO-USE, paying, mode_number}
 use Rattle.frames.specs.Both.{rule}
-use Rattle.frames.specs.Uses.{stated_of, place_of, number_of, Stands, a_place, any_set}
+use Rattle.frames.specs.Uses.{passes_of, stated_of, place_of, number_of, Stands, a_place, any_set}
 use Rattle.frames.specs.declared.Use.{Use}
+use Rattle.frames.specs.declared.Halt.{Halt}
 use Rattle.frames.specs.declared.Use.TheVariants.{Skipped, Content, HeaderSection, Trailers, Settings, Goaway, MaxPushId, CancelPush}
 
 -- ---- a use
@@ -52,6 +53,9 @@ abbrev pub wanted_in : Option (Result Use Code) → ℕ
 wanted_in None = NO-USE
 wanted_in (Some r) = ruled_in r
 
+abbrev pub halt_at : (at left : ℕ) → Option (Result Use Code) → (rest : ℕ) → Halt
+halt_at at left wanted rest = record { at = at; left = left; wanted = wanted; rest = rest }
+
 -- ---- laws
 
 use_in_small : (u : Use) → use_in u ≤ USE-CANCEL-PUSH
@@ -67,6 +71,22 @@ use_in_small CancelPush = lit≤ tt
 pub ruled_not_none : (r : Result Use Code) → ruled_in r ≡ NO-USE → ⊥
 ruled_not_none (Ok u) e = let h = use_in_small u in omega arith
 ruled_not_none (Err c) e = let h = code_high (code_of c) in omega arith
+
+pub use_none : (u : Use) → use_in u ≡ NO-USE → ⊥
+use_none u = ruled_not_none (Ok u)
+
+pub refusal_none : (c : Code) → code_number (code_of c) ≡ NO-USE → ⊥
+refusal_none c = ruled_not_none (Err c)
+
+-- a refusal is not passed
+passes_high : (left number room : ℕ) → USE-CANCEL-PUSH < number → passes_of left number room ≡ false
+unfolding passes_of
+passes_high left zero room h = absurd (omega arith)
+passes_high left (suc zero) room h = absurd (omega arith)
+passes_high left (suc (suc k)) room h = refl
+
+pub refusal_passes : (left : ℕ) (c : Code) (room : ℕ) → passes_of left (code_number (code_of c)) room ≡ false
+refusal_passes left c room = passes_high left (code_number (code_of c)) room (let h = code_high (code_of c) in omega arith)
 
 -- a number is of one answer
 use_back : ℕ → Use

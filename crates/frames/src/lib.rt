@@ -6,7 +6,7 @@ ghost use Rattle.rules.specs.Events.{NOTHING, CONTENT};
 ghost use Rattle.frames.specs.Both.{rule};
 ghost use Rattle.frames.specs.Modes.{BODY, UNSET, IN-SKIPPED, IN-CONTENT, HEAD-WHOLE};
 ghost use Rattle.frames.specs.Uses.{place_of, number_of, passes_of};
-ghost use Rattle.frames.specs.Wants.{mode_in, use_in, ruled_in, wanted_in, stated_in, has_in, length_in};
+ghost use Rattle.frames.specs.Wants.{mode_in, use_in, ruled_in, wanted_in, halt_at, stated_in, has_in, length_in};
 ghost use Rattle.frames.specs.declared.Use.TheVariants.{Skipped};
 ghost use Rattle.frames.specs.Ruled.{one_of};
 ghost use Rattle.frames.specs.Heads.{GoodHead, HeadStepped, HeadRead};
@@ -15,7 +15,7 @@ ghost use Rattle.frames.specs.Stopped.{more_sum, from_stop};
 ghost use Rattle.frames.specs.Begun.{head_cells, from_cut, start, Started};
 ghost use Rattle.frames.specs.Fed.{Fed};
 ghost use Rattle.frames.specs.End.{tally_of, cut_of, Ends};
-ghost use Rattle.frames.specs.Stops.{Lawful, Unready, Stuck, Stop, stop_of, HeaderAt};
+ghost use Rattle.frames.specs.Stops.{Lawful, Unready, Stuck, Stop, header_of, stop_of, HeaderAt};
 
 use rules::codes::Code;
 use varint::{Part, Step};
@@ -227,28 +227,28 @@ fn one_integer(len: u64, wanted: Use) -> Result<Use, Code>
     }
 }
 
-// ---- from one payload to the next
+// ---- the two readers
 
 // Whether a payload is passed with nothing for the caller.
-fn passes(left: u64, wanted: Result<Use, Code>, room: u64) -> bool
-    ensures { result ≡ passes_of left (ruled_in wanted) room }
+fn passes(left: u64, wanted: Use, room: u64) -> bool
+    ensures { result ≡ passes_of left (use_in wanted) room }
 {
     match wanted {
-        Ok(Use::Skipped) => left <= room,
-        Ok(Use::Content) => left == 0,
+        Use::Skipped => left <= room,
+        Use::Content => left == 0,
         _ => false,
     }
 }
 
 // A header that is whole; next: where its payload begins.
 #[derive(Clone, Copy)]
-struct Header {
+struct FrameHeader {
     ftype: u64,
     len: u64,
     next: usize,
 }
 
-fn whole_header(s: &[u8], at: usize) -> Option<Header>
+fn whole_header(s: &[u8], at: usize) -> Option<FrameHeader>
     ensures { HeaderAt s.now at result }
 {
     let middle = varint::ends(s, at);
@@ -259,15 +259,15 @@ fn whole_header(s: &[u8], at: usize) -> Option<Header>
     if next == 0 {
         return None;
     }
-    Some(Header {
+    Some(FrameHeader {
         ftype: varint::value(s, at),
         len: varint::value(s, middle),
         next,
     })
 }
 
-// Where the reading of payloads stops: at one with bytes to come, or, with nothing wanted, at a header that is not whole or not allowed.
-// rest: the allowance left.
+// Where the readers stop: at a payload with bytes to come, behind a header that is refused, or, with nothing wanted, at one that is not whole or not
+// allowed. rest: the allowance left.
 #[derive(Clone, Copy)]
 struct Halt {
     at: usize,
@@ -276,41 +276,49 @@ struct Halt {
     rest: u64,
 }
 
-// A payload, and what follows it, up to a stop.
-fn payload(
-    s: &[u8],
-    mut at: usize,
-    mut left: u64,
-    mut wanted: Result<Use, Code>,
-    place: &Place,
-    mut allow: u64,
-) -> Halt
-    requires { (at ≤ length s.now) × (length_in place.now.stated ≤ 2 ^ 62) × (left < 2 ^ 62) × Lawful (ruled_in wanted) place.now.phase place.now.sum left }
-    ensures { Stop s.now place.now.phase (has_in place.now.stated) (length_in place.now.stated) place.now.sum at allow (stop_of s.now (ruled_in wanted) left allow at) result.at result.left result.rest (wanted_in result.wanted) }
-{
-    while passes(left, wanted, (s.len() - at) as u64) {
-        at += left as usize;
-        if allow != 0
-            && let Some(h) = whole_header(s, at)
-        {
-            at = h.next;
-            left = h.len;
-            wanted = place.rule(h.ftype, h.len);
-            allow -= 1;
-        } else {
-            return Halt {
-                at,
-                left: 0,
-                wanted: None,
-                rest: allow,
-            };
-        }
+impl Halt {
+    // Field by field: a literal would be copied, and the readers would be no loop.
+    #[inline]
+    fn stop(&mut self, at: usize, left: u64, wanted: Option<Result<Use, Code>>, rest: u64)
+        ensures { self.new ≡ halt_at at left wanted rest }
+    {
+        self.at = at;
+        self.left = left;
+        self.wanted = wanted;
+        self.rest = rest;
     }
-    Halt {
-        at,
-        left,
-        wanted: Some(wanted),
-        rest: allow,
+}
+
+// A header, and what follows it, up to a stop. The stop is lent: a struct handed back through each call would keep the pair from being compiled to a loop.
+#[cycle(header_payload)]
+fn header(s: &[u8], at: usize, place: &Place, allow: u64, halt: &mut Halt)
+    requires { (at ≤ length s.now) × (length_in place.now.stated ≤ 2 ^ 62) }
+    ensures { Stop s.now place.now.phase (has_in place.now.stated) (length_in place.now.stated) place.now.sum at allow (header_of s.now allow at) halt.new.at halt.new.left halt.new.rest (wanted_in halt.new.wanted) }
+{
+    if allow != 0
+        && let Some(h) = whole_header(s, at)
+    {
+        match place.rule(h.ftype, h.len) {
+            Ok(wanted) => payload(s, h.next, h.len, wanted, place, allow - 1, halt),
+            Err(code) => {
+                halt.stop(h.next, h.len, Some(Err(code)), allow - 1);
+            }
+        }
+    } else {
+        halt.stop(at, 0, None, allow);
+    }
+}
+
+// A payload, and what follows it, up to a stop.
+#[cycle(header_payload)]
+fn payload(s: &[u8], at: usize, left: u64, wanted: Use, place: &Place, allow: u64, halt: &mut Halt)
+    requires { (at ≤ length s.now) × (length_in place.now.stated ≤ 2 ^ 62) × (left < 2 ^ 62) × Lawful (use_in wanted) place.now.phase place.now.sum left }
+    ensures { Stop s.now place.now.phase (has_in place.now.stated) (length_in place.now.stated) place.now.sum at allow (stop_of s.now (use_in wanted) left allow at) halt.new.at halt.new.left halt.new.rest (wanted_in halt.new.wanted) }
+{
+    if passes(left, wanted, (s.len() - at) as u64) {
+        header(s, at + left as usize, place, allow, halt);
+    } else {
+        halt.stop(at, left, Some(Ok(wanted)), allow);
     }
 }
 
@@ -673,6 +681,33 @@ fn begun(s: &[u8], c: Cells, allow: u64) -> Start
     }
 }
 
+// Up to a stop, from a payload, or from behind a header that is refused.
+fn up_to_stop(
+    s: &[u8],
+    at: usize,
+    left: u64,
+    wanted: Result<Use, Code>,
+    c: Cells,
+    allow: u64,
+) -> Halt
+    requires { (at ≤ length s.now) × Numbers c × (left < 2 ^ 62) × Lawful (ruled_in wanted) c.phase c.sum left }
+    ensures { Stop s.now c.phase c.has c.stated c.sum at allow (stop_of s.now (ruled_in wanted) left allow at) result.at result.left result.rest (wanted_in result.wanted) }
+{
+    let mut halt = Halt {
+        at,
+        left,
+        wanted: Some(wanted),
+        rest: allow,
+    };
+    match wanted {
+        Ok(wanted) => {
+            payload(s, at, left, wanted, &c.place(), allow, &mut halt);
+            halt
+        }
+        Err(_) => halt,
+    }
+}
+
 // By the readers, from where the feed begins.
 fn read(s: &[u8], c: Cells, allow: u64) -> Answer
     requires { Sane c × (c.mode < IN-CONTENT) }
@@ -682,9 +717,8 @@ fn read(s: &[u8], c: Cells, allow: u64) -> Answer
     match b.wanted {
         None => quiet(b.at, 0, b.cells),
         Some(wanted) => {
-            let place = c.place();
-            let h = payload(s, b.at, b.left, wanted, &place, allow - b.heads);
-            stopped(s, h, c, allow - h.rest)
+            let halt = up_to_stop(s, b.at, b.left, wanted, c, allow - b.heads);
+            stopped(s, halt, c, allow - halt.rest)
         }
     }
 }

@@ -1,6 +1,6 @@
 use mathlib.Core.Path.{ap, sym, ◌∙◌}
 use Rattle.frames.specs.Wants.{wanted_in, ruled_not_none}
-use Rattle.frames.specs.Fed.{fed_stays, fed_read, stop_placed}
+use Rattle.frames.specs.Fed.{fed_stays, fed_read}
 use Rattle.frames.proofs.read.Goals as goal
 
 pub returns-in-None : goal.returns-in-None
@@ -9,6 +9,5 @@ returns-in-None c = let a = c in rw c.quiet.ensures (fed_stays a.args.c a.args.s
 pub returns-in-Some : goal.returns-in-Some
 returns-in-Some c =
     let a = c in
-    let p = c.place-place.ensures in
     let e = ap wanted_in c.in-Some.is in
-    fed_read a.args.c a.args.s.now a.args.allow _ a.requires.1 c.begin-b.ensures (λ z. ruled_not_none _ (sym e ∙ z)) (rw e (stop_placed a.args.c a.args.s.now a.args.allow p.phase p.stated p.sum c.payload-h.ensures)) c.stopped.ensures
+    fed_read a.args.c a.args.s.now a.args.allow _ a.requires.1 c.begin-b.ensures (λ z. ruled_not_none _ (sym e ∙ z)) (rw e c.up_to_stop-halt.ensures) c.stopped.ensures
