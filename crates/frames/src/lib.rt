@@ -729,8 +729,10 @@ pub fn feed(s: &[u8], c: Cells, allow: u64) -> Answer
     ensures { Fed c s.now allow result }
 {
     match c.mode {
-        HEADER_SECTION_DUE | TRAILERS_DUE => quiet(0, 0, c),
         IN_TYPE..=IN_SKIPPED => read(s, c, allow),
+        // apart from the kept payloads below: one arm for both costs instructions
+        IN_CONTENT..=IN_TRAILERS => handed(s, 0, c.acc, c.mode, c, 0),
+        HEADER_SECTION_DUE | TRAILERS_DUE => quiet(0, 0, c),
         _ => handed(s, 0, c.acc, c.mode, c, 0),
     }
 }
@@ -796,8 +798,8 @@ pub fn end(c: Cells) -> u64
     ensures { Ends c result }
 {
     match c.mode {
-        HEADER_SECTION_DUE | TRAILERS_DUE => rules::SECTION_DUE,
         IN_TYPE if c.due == 0 => tallied(c),
+        HEADER_SECTION_DUE | TRAILERS_DUE => rules::SECTION_DUE,
         _ => cut_off(c.phase),
     }
 }

@@ -31,8 +31,10 @@ header-returns-in-Err t c =
 pub header-returns-else-allow-ne0 : goal.header-returns-else-allow-ne0
 header-returns-else-allow-ne0 t c =
     rw c.stop-else-allow-ne0.ensures (stop_header _ _ _ _ _ _ _ c.requires.0
-    (λ lo. elim c.else-allow-ne0.branch [ header-else-allow-ne0-via-else-allow-ne0 w ↦ absurd (omega arith)
-        | header-else-allow-ne0-via-then-allow-ne0+in-None-1 w ↦ unready_none _ _ (grind (arith, common_steps)) w.whole_header.ensures ]))
+    (λ lo. elim c.else-allow-ne0.branch [
+      | header-else-allow-ne0-via-else-allow-ne0 w ↦ absurd (omega arith)
+      | header-else-allow-ne0-via-then-allow-ne0+in-None-1 w ↦ unready_none _ _ (grind (arith, common_steps)) w.whole_header.ensures
+    ]))
 
 pub payload-overflow_add-at : goal.payload-overflow_add-at
 payload-overflow_add-at t c = omega (arith, passed_fits _ _ _ (sym c.passes.ensures ∙ c.if-passes.true))
