@@ -2,9 +2,8 @@
 -- and rows' are what is left of them; a call that writes is lent a room. No call asks anything of its host. Assumes nothing.
 use Rattle.std.specs.Prelude.{◌≡◌, ℕ, List, [], map, length, set}
 use Rattle.rules.specs.Writer.{Write, write_header, write_integer_frame, write_opening}
-use Rattle.varint.specs.Write.{wrote_of, left_in}
-use Rattle.varint.specs.declared.Wrote.{Wrote}
-use Rattle.varint.specs.declared.Wrote.TheVariants.{Refused, Count}
+use Rattle.std.specs.Prelude.{Ok, Err}
+use Rattle.varint.specs.Write.{Wrote, wrote_of, left_in}
 use Rattle.record.specs.declared.Record.{Record}
 use Rattle.connection.specs.declared.Call.{Call}
 use Rattle.connection.specs.declared.Own.{Own}
@@ -70,8 +69,8 @@ pub record SaidGoaway (c : Connection) (id : ℕ) (room : List ℕ) (c' : Connec
 
 -- the answer as a host reads it: a refusal's number, or 0 and how many bytes are written
 abbrev pub written_of : Wrote → Written
-written_of (Refused number) = record { number = number; count = 0 }
-written_of (Count n) = record { number = 0; count = n }
+written_of (Err number) = record { number = number; count = 0 }
+written_of (Ok n) = record { number = 0; count = n }
 
 pub record WroteInto (w : Write) (room : List ℕ) (r : Written) (room' : List ℕ) : Type 0 where
   pub answered : r ≡ written_of (wrote_of w)

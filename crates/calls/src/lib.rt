@@ -9,11 +9,12 @@ ghost use Rattle.record.specs.Body.{content_in};
 ghost use Rattle.connection.specs.Turned.{turn, Turned, swept_of};
 ghost use Rattle.calls.specs.Layout.{connection_size, record_size, report_size, written_size};
 ghost use Rattle.calls.specs.Lent.{FirstIn, found_at};
+ghost use Rattle.varint.specs.Write.{answer_of};
 ghost use Rattle.calls.specs.Promises.{Started, Stepped, Opened, Fed, Given, Ended, Reset, SaidGoaway, written_of, WroteHeader, WroteIntegerFrame, WroteOpening};
 
 use connection::{Brief, Call, Connection, Found, Own, Report, Written};
 use record::Record;
-use varint::Wrote;
+use rules::codes::House;
 
 // ---- the row
 
@@ -201,12 +202,15 @@ pub fn eistulko_goaway(conn: &mut Connection, id: u64, room: &mut [u8]) -> Writt
 
 // ---- the other writes: lent the room alone, for they depend on no record
 
-fn told(w: Wrote) -> Written
-    ensures { result ≡ written_of w }
+fn told(w: Result<usize, House>) -> Written
+    ensures { result ≡ written_of (answer_of w) }
 {
     match w {
-        Wrote::Refused(number) => Written { number, count: 0 },
-        Wrote::Count(n) => Written {
+        Err(refusal) => Written {
+            number: refusal.number(),
+            count: 0,
+        },
+        Ok(n) => Written {
             number: 0,
             count: n as u64,
         },

@@ -1,16 +1,15 @@
 -- Our GOAWAY sent (document 01, "Calls and the host's memory"): the answer, the room, and what it bars. Assumes nothing.
-use Rattle.std.specs.Prelude.{◌≡◌, List, length}
+use Rattle.std.specs.Prelude.{◌≡◌, List, length, Some, None, Result, Ok, Err, Option as Maybe}
 use Rattle.std.proofs.Math.Path.{refl, ap}
 use Rattle.std.proofs.Common.{sym, ◌∙◌, arith}
 use Prim.Native.Nat.{ℕ, zero, suc}
 use Rattle.std.proofs.Math.Option.{Option, none, some}
 use Rattle.rules.specs.Writer.{Write, refused, wrote, write_goaway}
+use Rattle.rules.specs.Numbers.{house_number}
+use Rattle.rules.specs.Named.{house_of}
+use Rattle.rules.specs.declared.codes.House.{House}
 use Rattle.varint.specs.Write.{wrote_of, left_in, Meets}
-use Rattle.varint.specs.declared.Wrote.{Wrote}
-use Rattle.varint.specs.declared.Wrote.TheVariants.{Refused, Count}
 use Rattle.wire.specs.declared.ids.StreamId.{StreamId}
-use Rattle.wire.specs.declared.Sent.{Sent}
-use Rattle.wire.specs.declared.Sent.TheVariants.{Nothing, Up}
 use Rattle.wire.specs.Goaway.{sent_of}
 use Rattle.connection.specs.declared.doors.Doors.{Doors}
 use Rattle.connection.specs.declared.doors.Goaway.{Goaway}
@@ -50,11 +49,11 @@ sends_one m n = (m.answers ∙ sym n.answers, m.leaves ∙ sym n.leaves)
 
 -- ---- laws: a law for each way out
 
-pub sent_none : (d : Doors) → d.goaways ≡ 0 → sent_of Nothing ≡ sent_in d
+pub sent_none : (d : Doors) → d.goaways ≡ 0 → sent_of None ≡ sent_in d
 unfolding sent_of sent_as
 sent_none d e = rw e refl
 
-pub sent_up : (d : Doors) → (d.goaways ≡ 0 → ⊥) → sent_of (Up d.goaway) ≡ sent_in d
+pub sent_up : (d : Doors) → (d.goaways ≡ 0 → ⊥) → sent_of (Some d.goaway) ≡ sent_in d
 unfolding sent_of
 sent_up d n = by d.goaways n
   where
@@ -62,19 +61,19 @@ sent_up d n = by d.goaways n
     by zero z = absurd (z refl)
     by (suc k) z = unfold sent_as in refl
 
-refused_as : (d : Doors) (id : StreamId) (w : Write) {r : Wrote} {n : ℕ} → r ≡ wrote_of w → r ≡ Refused n → sending n 0 d ≡ sending_of d id w
+refused_as : (d : Doors) (id : StreamId) (w : Write) {n : ℕ} → Err n ≡ wrote_of w → sending n 0 d ≡ sending_of d id w
 unfolding wrote_of sending_of
-refused_as d id (refused m) {r} {n} e f = let q : n ≡ m = cc in ap (λ x. sending x 0 d) q
-refused_as d id (wrote bytes) e f = let z : ◌≡◌ {A = ℕ} 0 1 = cc in absurd (omega arith)
+refused_as d id (refused m) {n} e = let q : n ≡ m = cc in ap (λ x. sending x 0 d) q
+refused_as d id (wrote bytes) e = let z : ◌≡◌ {A = ℕ} 0 1 = cc in absurd (omega arith)
 
-counted_as : (d : Doors) (id : StreamId) (w : Write) {r : Wrote} {n : ℕ} {next : Doors} → r ≡ wrote_of w → r ≡ Count n → next ≡ gone_away d id → sending 0 n next ≡ sending_of d id w
+counted_as : (d : Doors) (id : StreamId) (w : Write) {n : ℕ} {next : Doors} → Ok n ≡ wrote_of w → next ≡ gone_away d id → sending 0 n next ≡ sending_of d id w
 unfolding wrote_of sending_of
-counted_as d id (refused m) e f g = let z : ◌≡◌ {A = ℕ} 0 1 = cc in absurd (omega arith)
-counted_as d id (wrote bytes) {r} {n} e f g = let q : n ≡ length bytes = cc in ap (sending 0 n) g ∙ ap (λ x. sending 0 x (gone_away d id)) q
+counted_as d id (refused m) e g = let z : ◌≡◌ {A = ℕ} 0 1 = cc in absurd (omega arith)
+counted_as d id (wrote bytes) {n} e g = let q : n ≡ length bytes = cc in ap (sending 0 n) g ∙ ap (λ x. sending 0 x (gone_away d id)) q
 
 module _ (d : Doors) (id : StreamId) (l : List ℕ) where
   -- on a live connection it is the writer's
-  module _ (alive : d.code ≡ 0) (s : Sent) (was : sent_of s ≡ sent_in d) {r : Wrote} {after : List ℕ} (m : Meets (write_goaway (sent_of s) (length l) id.0) l r after) where
+  module _ (alive : d.code ≡ 0) (s : Maybe StreamId) (was : sent_of s ≡ sent_in d) {r : Result ℕ House} {after : List ℕ} (m : Meets (write_goaway (sent_of s) (length l) id.0) l r after) where
     live : write_goaway (sent_of s) (length l) id.0 ≡ write_of d.code d id.0 (length l)
     unfolding write_of
     live = ap (λ x. write_goaway x (length l) id.0) was ∙ ap (λ c. write_of c d id.0 (length l)) (sym alive)
@@ -82,11 +81,11 @@ module _ (d : Doors) (id : StreamId) (l : List ℕ) where
     room : after ≡ left_in (write_of d.code d id.0 (length l)) l
     room = m.leaves ∙ ap (λ w. left_in w l) live
 
-    pub send_refused : {n : ℕ} → r ≡ Refused n → Sends d id l (sending n 0 d) after
-    send_refused e = record { answers = refused_as d id _ m.answers e ∙ ap (sending_of d id) live; leaves = room }
+    pub send_refused : {h : House} → r ≡ Err h → Sends d id l (sending (house_number (house_of h)) 0 d) after
+    send_refused e = record { answers = refused_as d id _ (rw e at m.answers) ∙ ap (sending_of d id) live; leaves = room }
 
-    pub send_written : {n : ℕ} {next : Doors} → r ≡ Count n → next ≡ gone_away d id → Sends d id l (sending 0 n next) after
-    send_written e g = record { answers = counted_as d id _ m.answers e g ∙ ap (sending_of d id) live; leaves = room }
+    pub send_written : {n : ℕ} {next : Doors} → r ≡ Ok n → next ≡ gone_away d id → Sends d id l (sending 0 n next) after
+    send_written e g = record { answers = counted_as d id _ (rw e at m.answers) g ∙ ap (sending_of d id) live; leaves = room }
 
   pub send_dead : (d.code ≡ 0 → ⊥) → Sends d id l (sending d.code 0 d) l
   unfolding sending_of left_in

@@ -4,8 +4,6 @@ ghost use Rattle.wire.specs.Goaway.{sent_of};
 ghost use Rattle.connection.specs.Goaway.{sent_in, gone_away, Sends};
 ghost use Rattle.connection.specs.Openings.{fresh_doors, refusal, barred_at, next_request, next_one_way, admitted_as, request_of, one_way_of, opened_of};
 
-use varint::Wrote;
-use wire::Sent;
 use wire::ids::StreamId;
 
 // code: of the connection fault, 0 while there was none. requests and oneways: the lowest ID of each kind that was not opened yet.
@@ -146,15 +144,10 @@ pub struct Goaway {
     pub doors: Doors,
 }
 
-fn sent(d: Doors) -> Sent
+fn sent(d: Doors) -> Option<StreamId>
     ensures { sent_of result ≡ sent_in d }
 {
-    let goaway = d.goaway;
-    if d.goaways == 0 {
-        Sent::Nothing
-    } else {
-        Sent::Up(goaway)
-    }
+    if d.goaways == 0 { None } else { Some(d.goaway) }
 }
 
 fn gone_away(d: Doors, id: StreamId) -> Doors
@@ -178,12 +171,12 @@ pub fn send_goaway(d: Doors, id: StreamId, room: &mut [u8]) -> Goaway
         };
     }
     match wire::write_goaway(sent(d), id, room) {
-        Wrote::Refused(number) => Goaway {
-            number,
+        Err(refusal) => Goaway {
+            number: refusal.number(),
             count: 0,
             doors: d,
         },
-        Wrote::Count(count) => Goaway {
+        Ok(count) => Goaway {
             number: 0,
             count,
             doors: gone_away(d, id),

@@ -13,15 +13,15 @@ use denote.Triple.Clauses.{Clauses, Lasts, at_exit}
 use denote.Triple.Clauses as kit
 use Rattle.rules.specs.Control.{unset}
 use Rattle.varint.specs.declared.Part.{Part}
-use Rattle.varint.specs.declared.Step.{Step}
 use Rattle.varint.specs.declared.Whole.{Whole}
-use Rattle.varint.specs.declared.Wrote.{Wrote}
-use Rattle.varint.specs.ByByte.{Stepped}
+use Rattle.std.specs.Prelude.{Option as Maybe, Result}
+use Rattle.rules.specs.declared.codes.House.{House}
+use Rattle.rules.specs.declared.codes.Code as declared-code
+use Rattle.varint.specs.ByByte.{Step, Stepped}
 use Rattle.varint.specs.Whole.{Ended, Valued, whole_is, whole_one}
 use Rattle.varint.specs.Write.{Meets, meets_one}
 use Rattle.rules.specs.Writer.{Write}
-use Rattle.control.specs.declared.settings.Judged.{Judged}
-use Rattle.control.specs.declared.settings.Single.{Single}
+use Rattle.control.specs.declared.settings.Settings as declared-settings
 use Rattle.control.specs.Answers.{judged_is, judged_one, single_is, single_one}
 use Rattle.frames.specs.declared.Cells.{Cells}
 use Rattle.frames.specs.Uses.{a_place}
@@ -51,8 +51,6 @@ use Rattle.varint.specs.contracts.ends as varint-ends
 use Rattle.varint.proofs.ends.Symbol as varint-ends-is
 use Rattle.varint.specs.contracts.value as varint-value
 use Rattle.varint.proofs.value.Symbol as varint-value-is
-use Rattle.varint.specs.contracts.near_value as varint-near-value
-use Rattle.varint.proofs.near_value.Symbol as varint-near-value-is
 use Rattle.varint.specs.contracts.read as varint-read
 use Rattle.varint.proofs.read.Symbol as varint-read-is
 use Rattle.varint.specs.contracts.size as varint-size
@@ -214,13 +212,13 @@ one e f = e ∙ sym f
 pub read_alike : {A B : Type 0} (f : A → B) → ((x y : A) → f x ≡ f y → x ≡ y) → {b : B} {x y : A} → f x ≡ b → f y ≡ b → x ≡ y
 read_alike f law {b} {x} {y} e g = law x y (e ∙ sym g)
 
-pub one_read_integer : (s : List ℕ) {b : _} {x y : Whole} → whole_is s x ≡ b → whole_is s y ≡ b → x ≡ y
+pub one_read_integer : (s : List ℕ) {b : _} {x y : Maybe Whole} → whole_is s x ≡ b → whole_is s y ≡ b → x ≡ y
 one_read_integer s e f = read_alike (whole_is s) (whole_one s) e f
 
-pub one_judged : {b : _} {x y : Judged} → judged_is x ≡ b → judged_is y ≡ b → x ≡ y
+pub one_judged : {b : _} {x y : Result declared-settings.Settings declared-code.Code} → judged_is x ≡ b → judged_is y ≡ b → x ≡ y
 one_judged e f = read_alike judged_is judged_one e f
 
-pub one_single : {b : _} {x y : Single} → single_is x ≡ b → single_is y ≡ b → x ≡ y
+pub one_single : {b : _} {x y : Maybe ℕ} → single_is x ≡ b → single_is y ≡ b → x ≡ y
 one_single e f = read_alike single_is single_one e f
 
 spot_as : Fault → (place : ℕ) → Spot
@@ -259,20 +257,20 @@ one_decided false false d e = refl
 pub one_step : {p : Part} {b : ℕ} {x y : Step} → Stepped p b x → Stepped p b y → x ≡ y
 one_step e f = one e.is f.is
 
-pub one_end : {s : List ℕ} {at x y : ℕ} → Ended s at x → Ended s at y → x ≡ y
+pub one_end : {s : List ℕ} {at : ℕ} {x y : Maybe ℕ} → Ended s at x → Ended s at y → x ≡ y
 one_end e f = one e.is f.is
 
 pub one_value : {s : List ℕ} {at x y : ℕ} → Valued s at x → Valued s at y → x ≡ y
 one_value e f = one e.is f.is
 
-pub one_write : {w : Write} {l a b : List ℕ} {r q : Wrote} → Meets w l r a → Meets w l q b → (r ≡ q) × (a ≡ b)
+pub one_write : {w : Write} {l a b : List ℕ} {r q : Result ℕ House} → Meets w l r a → Meets w l q b → (r ≡ q) × (a ≡ b)
 one_write m n = meets_one m n
 
 pub one_ended : (c : Cells) {x y : ℕ} → Ends c x → Ends c y → x ≡ y
 one_ended c e f = one (e (own_place c) [] a_place) (f (own_place c) [] a_place)
 
-pub one_ruling : {number : ℕ} {x y : std.Result Use Code} → ruled_in x ≡ number → ruled_in y ≡ number → x ≡ y
-one_ruling {x} {y} e f = ruled_one x y (one e f)
+pub one_ruling : {number : ℕ} {x y : _} → ruled_in x ≡ number → ruled_in y ≡ number → x ≡ y
+one_ruling {number} {x} {y} e f = ruled_one x y (one e f)
 
 pub one_closed : (w : OneWay) {x y : ℕ} → Closes w x → Closes w y → x ≡ y
 one_closed w e f = one (e unset []) (f unset [])
@@ -317,7 +315,6 @@ module _ (w : World) where
       ∷ function varint-read-step-is.symbol varint-read-step.ended (varint-read-step.clauses w.𝓛 w.𝓜.mem w.𝓡.returns) (λ κs a g r q ws vs. facts (λ x y. (one_step x y, refl)))
       ∷ function varint-ends-is.symbol varint-ends.ended (varint-ends.clauses w.𝓛 w.𝓜.mem w.𝓡.returns) (λ κs a g r q ws vs. facts (λ x y. (one_end x y, refl)))
       ∷ function varint-value-is.symbol varint-value.ended (varint-value.clauses w.𝓛 w.𝓜.mem w.𝓡.returns) (λ κs a g r q ws vs. facts (λ x y. (one_value x y, refl)))
-      ∷ function varint-near-value-is.symbol varint-near-value.ended (varint-near-value.clauses w.𝓛 w.𝓜.mem w.𝓡.returns) (λ κs a g r q ws vs. facts (λ x y. (one_value x y, refl)))
       ∷ function varint-read-is.symbol varint-read.ended (varint-read.clauses w.𝓛 w.𝓜.mem w.𝓡.returns) (λ κs a g r q ws vs. facts (λ x y. (one_read_integer a.0.now x y, refl)))
       ∷ function varint-size-is.symbol varint-size.ended (varint-size.clauses w.𝓛 w.𝓜.mem w.𝓡.returns) (λ κs a g r q ws vs. equal)
       ∷ function varint-put-is.symbol varint-put.ended (varint-put.clauses w.𝓛 w.𝓜.mem w.𝓡.returns) (λ κs a g r q ws vs. facts (λ x y. (refl, ap (λ l. (tt, (l, (tt, tt)))) (one x y))))
@@ -452,7 +449,7 @@ module _ (w : World) where
   functions = of_varint ++ (of_ids ++ (of_wire ++ (of_settings ++ (of_fields ++ (of_section ++ (of_streams ++ (of_record ++ (of_given_lem ++ (of_oneway ++ (of_control ++ (of_requests ++ (of_doors ++ (of_oneways ++ (of_connection ++ (of_board)))))))))))))))
 
   pub listed : ◌≡◌ {A = List Symbol} (map (λ (f : Function). f.name) functions)
-      ("varint::fresh" ∷ "varint::read_step" ∷ "varint::ends" ∷ "varint::value" ∷ "varint::near_value" ∷ "varint::read" ∷ "varint::size" ∷ "varint::put" ∷ "varint::write" ∷ "wire::ids::is_request" ∷ "wire::write_header" ∷ "wire::write_integer_frame" ∷ "wire::write_opening" ∷ "wire::write_goaway" ∷ "control::settings::judge" ∷ "control::settings::only" ∷ "fields::has_byte" ∷ "fields::begins_with" ∷ "fields::same_bytes" ∷ "fields::any_outside" ∷ "fields::bad_line" ∷ "fields::decimal_of" ∷ "fields::line_spot" ∷ "fields::line_at" ∷ "section::code" ∷ "section::header_section" ∷ "section::trailers" ∷ "frames::Place::rule" ∷ "frames::end" ∷ "record::cells_in" ∷ "record::free" ∷ "record::is_free" ∷ "record::read" ∷ "record::row" ∷ "record::write" ∷ "record::in_content" ∷ "requests::given::give" ∷ "oneway::close" ∷ "control::judge" ∷ "requests::reset" ∷ "requests::end" ∷ "requests::feed" ∷ "requests::give" ∷ "connection::doors::fresh" ∷ "connection::doors::open" ∷ "connection::doors::send_goaway" ∷ "oneway::calls::fresh" ∷ "oneway::calls::feed" ∷ "oneway::calls::give" ∷ "oneway::calls::close" ∷ "connection::fresh" ∷ "connection::wanted" ∷ "connection::answer" ∷ "connection::decide" ∷ "connection::begin" ∷ "connection::swept" ∷ "connection::say_goaway" ∷ "calls::step" ∷ "calls::eistulko_start" ∷ "calls::eistulko_open" ∷ "calls::eistulko_feed" ∷ "calls::eistulko_give" ∷ "calls::eistulko_end" ∷ "calls::eistulko_reset" ∷ "calls::eistulko_goaway" ∷ "calls::eistulko_write_header" ∷ "calls::eistulko_write_integer_frame" ∷ "calls::eistulko_write_opening" ∷ "calls::eistulko_connection_size" ∷ "calls::eistulko_record_size" ∷ "calls::eistulko_report_size" ∷ "calls::eistulko_written_size" ∷ [])
+      ("varint::fresh" ∷ "varint::read_step" ∷ "varint::ends" ∷ "varint::value" ∷ "varint::read" ∷ "varint::size" ∷ "varint::put" ∷ "varint::write" ∷ "wire::ids::is_request" ∷ "wire::write_header" ∷ "wire::write_integer_frame" ∷ "wire::write_opening" ∷ "wire::write_goaway" ∷ "control::settings::judge" ∷ "control::settings::only" ∷ "fields::has_byte" ∷ "fields::begins_with" ∷ "fields::same_bytes" ∷ "fields::any_outside" ∷ "fields::bad_line" ∷ "fields::decimal_of" ∷ "fields::line_spot" ∷ "fields::line_at" ∷ "section::code" ∷ "section::header_section" ∷ "section::trailers" ∷ "frames::Place::rule" ∷ "frames::end" ∷ "record::cells_in" ∷ "record::free" ∷ "record::is_free" ∷ "record::read" ∷ "record::row" ∷ "record::write" ∷ "record::in_content" ∷ "requests::given::give" ∷ "oneway::close" ∷ "control::judge" ∷ "requests::reset" ∷ "requests::end" ∷ "requests::feed" ∷ "requests::give" ∷ "connection::doors::fresh" ∷ "connection::doors::open" ∷ "connection::doors::send_goaway" ∷ "oneway::calls::fresh" ∷ "oneway::calls::feed" ∷ "oneway::calls::give" ∷ "oneway::calls::close" ∷ "connection::fresh" ∷ "connection::wanted" ∷ "connection::answer" ∷ "connection::decide" ∷ "connection::begin" ∷ "connection::swept" ∷ "connection::say_goaway" ∷ "calls::step" ∷ "calls::eistulko_start" ∷ "calls::eistulko_open" ∷ "calls::eistulko_feed" ∷ "calls::eistulko_give" ∷ "calls::eistulko_end" ∷ "calls::eistulko_reset" ∷ "calls::eistulko_goaway" ∷ "calls::eistulko_write_header" ∷ "calls::eistulko_write_integer_frame" ∷ "calls::eistulko_write_opening" ∷ "calls::eistulko_connection_size" ∷ "calls::eistulko_record_size" ∷ "calls::eistulko_report_size" ∷ "calls::eistulko_written_size" ∷ [])
   listed = refl
 
   -- ---- and those that do not

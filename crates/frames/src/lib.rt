@@ -18,7 +18,8 @@ ghost use Rattle.frames.specs.End.{tally_of, cut_of, Ends};
 ghost use Rattle.frames.specs.Stops.{Lawful, Unready, Stuck, Stop, header_of, stop_of, HeaderAt};
 
 use rules::codes::Code;
-use varint::{Part, Step};
+use std::ops::ControlFlow;
+use varint::Part;
 
 // What a header's payload is for.
 #[derive(Clone, Copy, Debug, PartialEq, Eq)]
@@ -126,6 +127,7 @@ pub struct Place {
 
 impl Place {
     // What a whole header's payload is for here, or the code that refuses it.
+    #[inline(always)]
     pub fn rule(&self, ftype: u64, len: u64) -> Result<Use, Code>
         requires { len < 2 ^ 62 }
         ensures { ruled_in result ≡ number_of (rule (place_of self.now.phase (has_in self.now.stated) (length_in self.now.stated) self.now.sum) ftype len) }
@@ -248,17 +250,13 @@ struct FrameHeader {
     next: usize,
 }
 
+// Inlined, as the table is: the readers are one loop then.
+#[inline(always)]
 fn whole_header(s: &[u8], at: usize) -> Option<FrameHeader>
     ensures { HeaderAt s.now at result }
 {
-    let middle = varint::ends(s, at);
-    if middle == 0 {
-        return None;
-    }
-    let next = varint::ends(s, middle);
-    if next == 0 {
-        return None;
-    }
+    let middle = varint::ends(s, at)?;
+    let next = varint::ends(s, middle)?;
     Some(FrameHeader {
         ftype: varint::value(s, at),
         len: varint::value(s, middle),
@@ -351,13 +349,13 @@ fn head_step(h: Head, b: u8) -> Head
         due: h.due,
     };
     match varint::read_step(p, b) {
-        Step::More(q) => Head {
+        ControlFlow::Continue(q) => Head {
             mode: h.mode,
             acc: q.acc,
             due: q.due,
             ftype: h.ftype,
         },
-        Step::Done(v) => {
+        ControlFlow::Break(v) => {
             if h.mode == IN_TYPE {
                 Head {
                     mode: IN_LENGTH,
@@ -746,19 +744,15 @@ pub fn brisk(s: &[u8], c: Cells, allow: u64) -> Answer
     if c.mode == IN_CONTENT {
         return handed(s, 0, c.acc, IN_CONTENT, c, 0);
     }
-    if c.mode == IN_TYPE && c.due == 0 && allow != 0 && s.len() != 0 && s[0] == 0 {
-        let middle = varint::ends(s, 0);
-        if middle != 0 {
-            let next = varint::ends(s, middle);
-            if next != 0 {
-                let len = varint::near_value(s, middle);
-                if len != 0
-                    && let Ok(Use::Content) = c.place().rule(varint::value(s, 0), len)
-                {
-                    return handed(s, next, len, IN_CONTENT, more_sum(c, len), 1);
-                }
-            }
-        }
+    if c.mode == IN_TYPE
+        && c.due == 0
+        && allow != 0
+        && let [0, ..] = s
+        && let Some(h) = whole_header(s, 0)
+        && h.len != 0
+        && let Ok(Use::Content) = c.place().rule(h.ftype, h.len)
+    {
+        return handed(s, h.next, h.len, IN_CONTENT, more_sum(c, h.len), 1);
     }
     quiet(0, 0, c)
 }

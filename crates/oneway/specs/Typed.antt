@@ -5,8 +5,8 @@ use Rattle.rules.specs.OneWay.{type_rule}
 use Rattle.meaning.specs.Machine.{Prog, Fed, going, value, fed}
 use Rattle.meaning.specs.OneWayFeed.{OneFeeding, also, typed_feed, type_feed}
 use Rattle.varint.specs.declared.Part.{Part}
-use Rattle.varint.specs.declared.Step.{Step}
-use Rattle.varint.specs.declared.Step.TheVariants.{More, Done}
+use Rattle.varint.specs.ByByte.{Step}
+use Rattle.std.specs.declared.ops.ControlFlow.TheVariants.{Continue, Break}
 use Rattle.varint.specs.ByByte.{part, prog, read_as, step_reads, Good, Stepped}
 use Rattle.oneway.specs.declared.TypeEnd.{TypeEnd}
 
@@ -74,7 +74,7 @@ module _ (s : List ℕ) (acc due i : ℕ) (p : Part) (o : OnType s acc due i p) 
     at_next : (f : List ℕ → OneFeeding) → one_past (i + 1) (f (drop (suc i) s)) ≡ one_past (i + 1) (f (drop (i + 1) s))
     at_next f = ap (λ n. one_past (i + 1) (f (drop n s))) (sym (add-one i))
 
-    pub type_on : {q : Part} → r ≡ More q → OnType s acc due (i + 1) q
+    pub type_on : {q : Part} → r ≡ Continue q → OnType s acc due (i + 1) q
     unfolding read_as
     type_on {q} e =
         let k = rw e at st.good in
@@ -84,7 +84,7 @@ module _ (s : List ℕ) (acc due i : ℕ) (p : Part) (o : OnType s acc due i p) 
           good = k;
         }
 
-    pub type_whole : {t : ℕ} → r ≡ Done t → TypeRead s acc due (record { next = i + 1; whole = 1; acc = t; due = 0 })
+    pub type_whole : {t : ℕ} → r ≡ Break t → TypeRead s acc due (record { next = i + 1; whole = 1; acc = t; due = 0 })
     unfolding read_as type_goes
     type_whole {t} e = record {
       is = λ seen allow. byte seen allow _ (byte_done seen allow _ _ _ (here (value t) (ap read_as e))) ∙ at_next (λ x. typed_feed allow (type_rule seen t) x);

@@ -17,7 +17,8 @@ ghost use Rattle.oneway.specs.Fed.{untyped, quiet_at, Bare};
 ghost use Rattle.oneway.specs.Closed.{Closes};
 
 use frames::Cells;
-use varint::{Part, Step};
+use std::ops::ControlFlow;
+use varint::Part;
 
 // The stream types that came before and may come once: 0 control, 2 QPACK encoder, 3 QPACK decoder. 0: it has not come.
 #[repr(C)]
@@ -98,11 +99,11 @@ fn type_on(s: &[u8], acc: u64, due: u64) -> TypeEnd
     let mut p = Part { acc, due };
     while i < s.len() {
         match varint::read_step(p, s[i]) {
-            Step::More(q) => {
+            ControlFlow::Continue(q) => {
                 p = q;
                 i += 1;
             }
-            Step::Done(t) => {
+            ControlFlow::Break(t) => {
                 return TypeEnd {
                     next: i + 1,
                     whole: 1,

@@ -15,8 +15,9 @@ use connection::doors::Doors;
 use connection::{Call, Connection, Own, Report};
 use control::Kept;
 use record::Record;
+use rules::codes::House;
 use script::Line;
-use varint::{Whole, Wrote};
+use varint::Whole;
 
 // ---- parts of a printed line, from a place of the room on
 
@@ -407,7 +408,7 @@ fn told_goaway(room: &mut [u8; 2048], pair: Pair, id: u64, buffer: &mut [u8]) ->
 }
 
 // The other writes.
-fn wrote(letter: u8, a: u64, b: u64, buffer: &mut [u8]) -> Wrote
+fn wrote(letter: u8, a: u64, b: u64, buffer: &mut [u8]) -> Result<usize, House>
     ensures { Meets (write_of letter a b (length buffer.old)) buffer.old result buffer.new }
 {
     if letter == b'W' {
@@ -427,8 +428,8 @@ fn written(room: &mut [u8; 2048], letter: u8, a: u64, b: u64, buffer: &mut [u8])
     ensures { Puts room.old 0 (write_line (write_of letter a b (length buffer.old)) buffer.old) 221 room.new result }
 {
     match wrote(letter, a, b, buffer) {
-        Wrote::Refused(code) => written_line(room, code, 0, buffer),
-        Wrote::Count(count) => written_line(room, 0, count as u64, buffer),
+        Err(refusal) => written_line(room, refusal.number(), 0, buffer),
+        Ok(count) => written_line(room, 0, count as u64, buffer),
     }
 }
 
@@ -457,8 +458,8 @@ fn value(room: &mut [u8; 2048], bytes: &[u8]) -> usize
     ensures { Puts room.old 0 (read_line (integer 0 bytes.now)) 54 room.new result }
 {
     match varint::read(bytes, 0) {
-        Whole::Short => listing::put(room, 0, b"0 0 0 cut\n"),
-        Whole::Value { value: v, next } => value_line(room, v, next as u64),
+        None => listing::put(room, 0, b"0 0 0 cut\n"),
+        Some(Whole { value: v, next }) => value_line(room, v, next as u64),
     }
 }
 

@@ -1,12 +1,12 @@
 // RFC 9000's sample integers and document 01's worked bytes, one line each; what is to come is in the file stdout.
 #![tactic(auto)]
 
-use control::settings::{Judged, SectionSize, Settings, Single};
+use control::settings::Settings;
 use fields::Record;
+use rules::codes::House;
 use section::{HeaderAnswer, Stated, TrailerAnswer};
 use std::io;
-use varint::{Whole, Wrote};
-use wire::Sent;
+use varint::Whole;
 use wire::ids::StreamId;
 
 fn text(rt: &impl Print, t: &[u8]) -> io::Result<()> {
@@ -31,8 +31,8 @@ fn bytes(rt: &impl Print, b: &[u8]) -> io::Result<()> {
 fn read(rt: &impl Print, b: &[u8]) -> io::Result<()> {
     bytes(rt, b)?;
     match varint::read(b, 0) {
-        Whole::Short => text(rt, b" is cut\n"),
-        Whole::Value { value, next } => {
+        None => text(rt, b" is cut\n"),
+        Some(Whole { value, next }) => {
             text(rt, b" reads ")?;
             number(rt, value)?;
             text(rt, b", size ")?;
@@ -54,13 +54,13 @@ fn integers(rt: &impl Print) -> io::Result<()> {
 
 // ---- writing, with the whole room behind it: what is not written stays ee
 
-fn told(rt: &impl Print, w: Wrote, room: &[u8]) -> io::Result<()> {
+fn told(rt: &impl Print, w: Result<usize, House>, room: &[u8]) -> io::Result<()> {
     match w {
-        Wrote::Refused(n) => {
+        Err(refusal) => {
             text(rt, b" is refused, ")?;
-            number(rt, n)?;
+            number(rt, refusal.number())?;
         }
-        Wrote::Count(n) => {
+        Ok(n) => {
             text(rt, b" takes ")?;
             number(rt, n as u64)?;
         }
@@ -99,11 +99,7 @@ fn opening_in(rt: &impl Print, room: &mut [u8]) -> io::Result<()> {
 fn goaway_in(rt: &impl Print, id: u64, room: &mut [u8]) -> io::Result<()> {
     text(rt, b"goaway ")?;
     number(rt, id)?;
-    told(
-        rt,
-        wire::write_goaway(Sent::Nothing, StreamId(id), room),
-        room,
-    )
+    told(rt, wire::write_goaway(None, StreamId(id), room), room)
 }
 
 fn goaway_after(rt: &impl Print, sent: u64, id: u64, room: &mut [u8]) -> io::Result<()> {
@@ -113,7 +109,7 @@ fn goaway_after(rt: &impl Print, sent: u64, id: u64, room: &mut [u8]) -> io::Res
     number(rt, sent)?;
     told(
         rt,
-        wire::write_goaway(Sent::Up(StreamId(sent)), StreamId(id), room),
+        wire::write_goaway(Some(StreamId(sent)), StreamId(id), room),
         room,
     )
 }
@@ -197,10 +193,10 @@ fn writes(rt: &impl Print) -> io::Result<()> {
 
 // ---- SETTINGS, and payloads that are one integer
 
-fn size(rt: &impl Print, s: SectionSize) -> io::Result<()> {
+fn size(rt: &impl Print, s: Option<u64>) -> io::Result<()> {
     match s {
-        SectionSize::Unlimited => text(rt, b"unlimited"),
-        SectionSize::AtMost(n) => number(rt, n),
+        None => text(rt, b"unlimited"),
+        Some(n) => number(rt, n),
     }
 }
 
@@ -219,10 +215,11 @@ fn settings(rt: &impl Print, payload: &[u8]) -> io::Result<()> {
     bytes(rt, payload)?;
     text(rt, b": ")?;
     match control::settings::judge(payload) {
-        Judged::Refused(code) => {
-            print!(rt; "{code:04x}")?;
+        Err(code) => {
+            let number = code.number();
+            print!(rt; "{number:04x}")?;
         }
-        Judged::Kept(s) => kept(rt, s)?,
+        Ok(s) => kept(rt, s)?,
     }
     text(rt, b"\n")
 }
@@ -232,8 +229,8 @@ fn only(rt: &impl Print, payload: &[u8]) -> io::Result<()> {
     bytes(rt, payload)?;
     text(rt, b": ")?;
     match control::settings::only(payload) {
-        Single::Is(v) => number(rt, v)?,
-        Single::Not => text(rt, b"not")?,
+        Some(v) => number(rt, v)?,
+        None => text(rt, b"not")?,
     }
     text(rt, b"\n")
 }

@@ -1,14 +1,13 @@
 -- What the rules say, as the numbers that cross to another language; a refusal leaves `out` as it was. Assumes nothing.
-use Rattle.std.specs.Prelude.{ℕ, ◌≡◌, List, Bool, true, false, set}
+use Rattle.std.specs.Prelude.{ℕ, ◌≡◌, List, Bool, true, false, set, Result, Ok, Err}
 use Rattle.std.proofs.Common.{ap, ◌∙◌}
 use Rattle.std.proofs.Math.Option.{Option, none, some}
 use Rattle.rules.specs.Integers.{Int, cut, got}
 use Rattle.meaning.specs.NumberLaws.{Numbered, stops, goes}
 use Rattle.rules.specs.Control.{Settings}
 use Rattle.rules.specs.Writer.{Write}
-use Rattle.varint.specs.Write.{Meets, wrote_of, left_in}
-use Rattle.varint.specs.declared.Wrote.{Wrote}
-use Rattle.varint.specs.declared.Wrote.TheVariants.{Refused, Count}
+use Rattle.rules.specs.declared.codes.House.{House}
+use Rattle.varint.specs.Write.{Wrote, Meets, wrote_of, answer_of, left_in}
 use Rattle.section.specs.declared.HeaderAnswer.{HeaderAnswer}
 use Rattle.section.specs.declared.HeaderAnswer.TheVariants as header
 use Rattle.section.specs.Answer.{read_stated}
@@ -59,20 +58,20 @@ given true n = some n
 given false n = none
 
 abbrev pub wrote_number : Wrote → ℕ
-wrote_number (Refused number) = number
-wrote_number (Count n) = 0
+wrote_number (Err number) = number
+wrote_number (Ok n) = 0
 
 abbrev pub wrote_out : Wrote → List ℕ → List ℕ
-wrote_out (Refused number) out = out
-wrote_out (Count n) out = set out 0 n
+wrote_out (Err number) out = out
+wrote_out (Ok n) out = set out 0 n
 
 pub record Written (w : Write) (room out : List ℕ) (r : ℕ) (room_left out-left : List ℕ) : Type 0 where
   pub answers : r ≡ wrote_number (wrote_of w)
   pub leaves : room_left ≡ left_in w room
   pub counts : out-left ≡ wrote_out (wrote_of w) out
 
-pub written : {w : Write} {room out room_left out-left : List ℕ} {r : ℕ} {a : Wrote}
-    → Meets w room a room_left → r ≡ wrote_number a → out-left ≡ wrote_out a out → Written w room out r room_left out-left
+pub written : {w : Write} {room out room_left out-left : List ℕ} {r : ℕ} {a : Result ℕ House}
+    → Meets w room a room_left → r ≡ wrote_number (answer_of a) → out-left ≡ wrote_out (answer_of a) out → Written w room out r room_left out-left
 written {out} m e f = record {
   answers = e ∙ ap wrote_number m.answers;
   leaves = m.leaves;

@@ -6,35 +6,35 @@ ghost use Rattle.rules.specs.Writer.{write_integer, write_header, write_integer_
 ghost use Rattle.control.specs.Answers.{size_is};
 ghost use Rattle.rules.specs.Block.{lines};
 ghost use Rattle.section.specs.Answer.{read_stated, header_answer, header_number, trailer_answer, trailer_number};
+ghost use Rattle.varint.specs.Write.{answer_of};
 ghost use Rattle.wire.specs.Goaway.{sent_of};
 ghost use Rattle.meaning.specs.NumberLaws.{numbered};
 ghost use Rattle.tried_c.specs.LeafNumbers.{stated, value_or0, settings_number, settings_out, read_number, read_out, header_out, wrote_number, wrote_out, given, Written};
 
-use control::settings::{Judged, SectionSize};
+use rules::codes::House;
 use section::{HeaderAnswer, Stated, TrailerAnswer};
-use varint::{Whole, Wrote};
-use wire::Sent;
+use varint::Whole;
 use wire::ids::StreamId;
 
 // ---- SETTINGS
 
 // Whether a section size is stated: 1 or 0.
-fn is_limited(size: SectionSize) -> u64
+fn is_limited(size: Option<u64>) -> u64
     ensures { result ≡ stated (size_is size) }
 {
     match size {
-        SectionSize::Unlimited => 0,
-        SectionSize::AtMost(_) => 1,
+        None => 0,
+        Some(_) => 1,
     }
 }
 
 // The section size; 0 where none is stated.
-fn limit(size: SectionSize) -> u64
+fn limit(size: Option<u64>) -> u64
     ensures { result ≡ value_or0 (size_is size) }
 {
     match size {
-        SectionSize::Unlimited => 0,
-        SectionSize::AtMost(n) => n,
+        None => 0,
+        Some(n) => n,
     }
 }
 
@@ -45,8 +45,8 @@ pub extern "C" fn eist_settings(payload: &[u8], out: &mut [u64; 4]) -> u64
     ensures out_after { out.new ≡ settings_out (numbered (settings_of payload.now)) out.old }
 {
     match control::settings::judge(payload) {
-        Judged::Refused(code) => code,
-        Judged::Kept(s) => {
+        Err(code) => code.number(),
+        Ok(s) => {
             let size = s.size;
             out[0] = is_limited(size);
             out[1] = limit(size);
@@ -66,8 +66,8 @@ pub extern "C" fn eist_read(bytes: &[u8], at: usize, out: &mut [u64; 2]) -> u64
     ensures out_after { out.new ≡ read_out (integer at (drop at bytes.now)) out.old }
 {
     match varint::read(bytes, at) {
-        Whole::Short => 0,
-        Whole::Value { value, next } => {
+        None => 0,
+        Some(Whole { value, next }) => {
             out[0] = value;
             out[1] = next as u64;
             1
@@ -134,13 +134,13 @@ pub extern "C" fn eist_trailers(block: &[u8]) -> u64
 
 // ---- the writer: 0, 7 or 8. out, where it is 0: how many bytes were written.
 
-fn told(w: Wrote, out: &mut [u64; 1]) -> u64
-    ensures value { result ≡ wrote_number w }
-    ensures out_after { out.new ≡ wrote_out w out.old }
+fn told(w: Result<usize, House>, out: &mut [u64; 1]) -> u64
+    ensures value { result ≡ wrote_number (answer_of w) }
+    ensures out_after { out.new ≡ wrote_out (answer_of w) out.old }
 {
     match w {
-        Wrote::Refused(number) => number,
-        Wrote::Count(n) => {
+        Err(refusal) => refusal.number(),
+        Ok(n) => {
             out[0] = n as u64;
             0
         }
@@ -185,14 +185,10 @@ pub extern "C" fn eist_write_opening(room: &mut [u8], out: &mut [u64; 1]) -> u64
     told(wire::write_opening(room), out)
 }
 
-fn sent_of(sent: bool, up: u64) -> Sent
+fn sent_of(sent: bool, up: u64) -> Option<StreamId>
     ensures { sent_of result ≡ given sent up }
 {
-    if sent {
-        Sent::Up(StreamId(up))
-    } else {
-        Sent::Nothing
-    }
+    if sent { Some(StreamId(up)) } else { None }
 }
 
 // sent: whether a GOAWAY was sent before, and up to which ID.

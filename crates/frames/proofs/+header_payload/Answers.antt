@@ -2,7 +2,6 @@ use native.Mathlib.Omega.{arith}
 use Prim.Native.Nat.{ℕ, ◌+◌, ◌-◌, ◌*◌, ◌<◌, ◌≤◌}
 use mathlib.Core.Path.{◌≡◌, sym, subst, ◌∙◌}
 use Rattle.std.proofs.lemmas.Grind.{common_steps}
-use Rattle.rules.specs.Named.{code_of}
 use Rattle.frames.specs.Wants.{use_none, refusal_passes, refusal_none}
 use Rattle.frames.specs.Stops.{unready_none, ruling_lawful, stop_header, stop_here, header_stop, passed_fits, pass_stop}
 use Rattle.frames.proofs.+header_payload.Goals as goal

@@ -1,6 +1,7 @@
 -- `listing::next` meets its contract: one law of specs, At, for each way that the input can go on. Assumes nothing.
 use mathlib.Core.Path.{◌∙◌}
 use native.Mathlib.Omega.{arith}
+use Rattle.varint.specs.Whole.{ended_whole}
 use Rattle.listing.specs.At.{line_too_long, line_heading, line-end, line-cut-type, line-cut-length, line-header}
 use Rattle.listing.proofs.next.Goals as goal
 
@@ -13,20 +14,20 @@ returns-then-p-gt-TRAILED c = let a = c.args in line_heading a.s.now a.p (omega 
 pub returns-then-at-total : goal.returns-then-at-total
 returns-then-at-total c = let a = c.args in c.end_line.ensures ∙ line-end a.s.now a.p (omega (arith, c.if-total-gt65536.false)) (omega (arith, c.if-p-gt-TRAILED.false)) (omega (arith, c.if-at-total.true))
 
-pub returns-then-here-eq0 : goal.returns-then-here-eq0
-returns-then-here-eq0 c = let a = c.args in line-cut-type a.s.now a.p (omega (arith, c.if-total-gt65536.false)) (omega (arith, c.if-p-gt-TRAILED.false)) (λ e. omega (arith, c.if-at-total.false)) c.ends-here.ensures c.if-here-eq0.true
+pub returns-in_default : goal.returns-in_default
+returns-in_default c = let a = c.args in line-cut-type a.s.now a.p (omega (arith, c.if-total-gt65536.false)) (omega (arith, c.if-p-gt-TRAILED.false)) (λ e. omega (arith, c.if-at-total.false)) c.in_default.ensures
 
 pub value-ftype-requires : goal.value-ftype-requires
-value-ftype-requires c = omega (arith, c.ends-here.ensures.is, c.if-here-eq0.false)
+value-ftype-requires c = ended_whole c.args.s.now _ c.in-Some.ensures
 
-pub returns-then-from-eq0 : goal.returns-then-from-eq0
-returns-then-from-eq0 c = let a = c.args in line-cut-length a.s.now a.p (omega (arith, c.if-total-gt65536.false)) (omega (arith, c.if-p-gt-TRAILED.false)) _ _ c.ends-here.ensures c.if-here-eq0.false c.value-ftype.ensures c.ends-from.ensures c.if-from-eq0.true
+pub returns-in_default-ends : goal.returns-in_default-ends
+returns-in_default-ends c = let a = c.args in line-cut-length a.s.now a.p (omega (arith, c.if-total-gt65536.false)) (omega (arith, c.if-p-gt-TRAILED.false)) _ _ c.in-Some.ensures c.value-ftype.ensures c.in_default-ends.ensures
 
 pub value-requires : goal.value-requires
-value-requires c = omega (arith, c.ends-from.ensures.is, c.if-from-eq0.false)
+value-requires c = ended_whole c.args.s.now _ c.in-Some-ends.ensures
 
 pub ruled_line-requires : goal.ruled_line-requires
-ruled_line-requires c = (omega (arith, c.if-p-gt-TRAILED.false), omega (arith, c.ends-from.ensures.within, c.if-total-gt65536.false), c.value.ensures.small)
+ruled_line-requires c = (omega (arith, c.if-p-gt-TRAILED.false), omega (arith, c.in-Some-ends.ensures.within, c.if-total-gt65536.false), c.value.ensures.small)
 
 pub returns : goal.returns
-returns c = let a = c.args in line-header a.s.now a.p (omega (arith, c.if-total-gt65536.false)) (omega (arith, c.if-p-gt-TRAILED.false)) _ _ c.ends-here.ensures c.if-here-eq0.false c.value-ftype.ensures _ _ c.ends-from.ensures c.if-from-eq0.false c.value.ensures c.ruled_line.ensures
+returns c = let a = c.args in line-header a.s.now a.p (omega (arith, c.if-total-gt65536.false)) (omega (arith, c.if-p-gt-TRAILED.false)) _ _ c.in-Some.ensures c.value-ftype.ensures _ _ c.in-Some-ends.ensures c.value.ensures c.ruled_line.ensures

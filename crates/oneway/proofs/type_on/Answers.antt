@@ -12,10 +12,10 @@ pub loop-i-smaller : goal.loop-i-smaller
 loop-i-smaller c = omega (arith, c.loop-i-test.true)
 
 pub loop-i-preserved : goal.loop-i-preserved
-loop-i-preserved c = type_on _ _ _ _ _ c.loop-i.invariant c.loop-i-test.true c.read_step.ensures c.in-More.is
+loop-i-preserved c = type_on _ _ _ _ _ c.loop-i.invariant c.loop-i-test.true c.read_step.ensures c.in-Continue.is
 
-pub returns-in-Done : goal.returns-in-Done
-returns-in-Done c = type_whole _ _ _ _ _ c.loop-i.invariant c.loop-i-test.true c.read_step.ensures c.in-Done.is
+pub returns-in-Break : goal.returns-in-Break
+returns-in-Break c = type_whole _ _ _ _ _ c.loop-i.invariant c.loop-i-test.true c.read_step.ensures c.in-Break.is
 
 pub returns : goal.returns
 returns c = type_ends _ _ _ _ _ c.loop-i.invariant c.loop-i-test.false
