@@ -9,6 +9,8 @@ ghost use Rattle.listing.specs.Lines.{first, end_line, ruled_line, line_at, use_
 ghost use Rattle.listing.specs.Text.{decimal, spaced, word, text_of};
 ghost use Rattle.listing.specs.Put.{Put};
 
+use frames::Use;
+
 // What a payload is for.
 #[derive(Clone, Copy)]
 pub enum Usage {
@@ -75,36 +77,32 @@ fn ruled_line(p: Place, from: usize, ftype: u64, len: u64) -> Line
 {
     // more is past the limit on content, whatever is added
     let sum = least(p.sum, 1048577);
-    let number = frames::ruled(p.phase, 0, 0, sum, ftype, len);
+    let place = frames::Place {
+        phase: p.phase,
+        stated: None,
+        sum,
+    };
     let to = from + len as usize;
-    if number == frames::USE_SKIPPED {
-        return Line::Frame {
+    match place.rule(ftype, len) {
+        Ok(Use::Skipped) => Line::Frame {
             at: p.at,
             ftype,
             len,
             usage: Usage::Skipped,
-            next: Place {
-                at: to,
-                phase: p.phase,
-                sum: p.sum,
-            },
-        };
-    }
-    if number == frames::USE_CONTENT {
-        return Line::Frame {
+            next: Place { at: to, ..p },
+        },
+        Ok(Use::Content) => Line::Frame {
             at: p.at,
             ftype,
             len,
             usage: Usage::Content,
             next: Place {
                 at: to,
-                phase: p.phase,
                 sum: p.sum + len,
+                ..p
             },
-        };
-    }
-    if number == frames::USE_HEADER_SECTION {
-        return Line::Frame {
+        },
+        Ok(Use::HeaderSection) => Line::Frame {
             at: p.at,
             ftype,
             len,
@@ -114,10 +112,8 @@ fn ruled_line(p: Place, from: usize, ftype: u64, len: u64) -> Line
                 phase: frames::BODY,
                 sum: 0,
             },
-        };
-    }
-    if number == frames::USE_TRAILERS {
-        return Line::Frame {
+        },
+        Ok(Use::Trailers) => Line::Frame {
             at: p.at,
             ftype,
             len,
@@ -125,13 +121,15 @@ fn ruled_line(p: Place, from: usize, ftype: u64, len: u64) -> Line
             next: Place {
                 at: to,
                 phase: frames::TRAILED,
-                sum: p.sum,
+                ..p
             },
-        };
-    }
-    Line::Refused {
-        bytes: from,
-        code: number,
+        },
+        // a control stream's
+        Ok(_) => unreachable!(),
+        Err(code) => Line::Refused {
+            bytes: from,
+            code: code.number(),
+        },
     }
 }
 
