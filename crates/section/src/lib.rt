@@ -80,7 +80,7 @@ fn other_name(name: &[u8]) -> Name
 
 // The one name of its length.
 #[tactic(auto, unfolding(crate::specs::Names::one_name))]
-fn one_name<'a>(name: &'a [u8], text: &'a [u8], is: Name) -> Name
+fn one_name(name: &[u8], text: &[u8], is: Name) -> Name
     ensures { result ≡ one_name text.now is name.now }
 {
     if fields::same_bytes(name, text) {
@@ -127,7 +127,7 @@ fn long_name(name: &[u8]) -> Name
     }
 }
 
-// By its length, and then by the names of that length.
+// By its length, and then by the names of that length. A match on the byte strings leaves a goal at each byte of each name, two names 16.
 fn name_of(name: &[u8]) -> Name
     ensures { result ≡ name_of name.now }
 {
@@ -175,20 +175,17 @@ struct Facts {
 }
 
 // Empty, or with a byte outside a class.
-fn not_all<'a>(table: &'a Table, v: &'a [u8], class: Class) -> bool
+fn not_all(table: &Table, v: &[u8], class: Class) -> bool
     ensures { result ≡ (is_empty v.now || not (all (is_in class) v.now)) }
 {
-    if v.len() == 0 {
-        return true;
-    }
-    table.any_outside(v, class)
+    v.is_empty() || table.any_outside(v, class)
 }
 
 // A size past 2^62 is past the limit.
 fn held_below(size: usize) -> usize
     ensures { result ≡ capped size }
 {
-    if size < ABOVE { size } else { ABOVE }
+    size.min(ABOVE)
 }
 
 impl Facts {
@@ -393,7 +390,7 @@ fn is_http(scheme: &[u8]) -> bool
 
 // `*` is fine with OPTIONS.
 #[tactic(auto, unfolding(crate::specs::Judging::is_path, rules::specs::Text::ascii))]
-fn is_path<'a>(path: &'a [u8], method: &'a [u8]) -> bool
+fn is_path(path: &[u8], method: &[u8]) -> bool
     ensures { result ≡ is_path path.now method.now }
 {
     fields::begins_with(path, b'/')
@@ -411,10 +408,10 @@ fn sends_content(method: &[u8]) -> bool
 
 // What the method, the scheme and the path say, and whether a length is stated.
 #[tactic(auto, unfolding(crate::specs::Judging::by_request, rules::specs::Text::ascii))]
-fn request_fault<'a>(
-    method: &'a [u8],
-    scheme: &'a [u8],
-    path: &'a [u8],
+fn request_fault(
+    method: &[u8],
+    scheme: &[u8],
+    path: &[u8],
     stated: bool,
     n: Option<Reason>,
 ) -> Option<Reason>
@@ -428,10 +425,10 @@ fn request_fault<'a>(
 
 // What the authority and the host say, each with whether it is there.
 #[tactic(auto, unfolding(crate::specs::Judging::by_authority))]
-fn authority_fault<'a>(
-    authority: &'a [u8],
+fn authority_fault(
+    authority: &[u8],
     given: bool,
-    host: &'a [u8],
+    host: &[u8],
     hosted: bool,
     n: Option<Reason>,
 ) -> Option<Reason>
