@@ -36,7 +36,7 @@ fn integers(rt: &impl Print) -> io::Result<()> {
     read(rt, b"")
 }
 
-// ---- writing, with the whole room of N bytes behind it: what is not written stays ee
+// ---- writing, with the whole room behind it: what is not written stays ee
 
 fn told(rt: &impl Print, wrote: Result<usize, House>, room: &[u8]) -> io::Result<()> {
     match wrote {
@@ -50,40 +50,35 @@ fn told(rt: &impl Print, wrote: Result<usize, House>, room: &[u8]) -> io::Result
     println!(rt; "")
 }
 
-fn integer<const N: usize>(rt: &impl Print, value: u64) -> io::Result<()> {
-    let mut room = [0xee; N];
+fn integer(rt: &impl Print, value: u64, room: &mut [u8]) -> io::Result<()> {
     print!(rt; "{value}")?;
-    told(rt, varint::write(value, &mut room), &room)
+    told(rt, varint::write(value, room), room)
 }
 
-fn header<const N: usize>(rt: &impl Print, ftype: u64, len: u64) -> io::Result<()> {
-    let mut room = [0xee; N];
+fn header(rt: &impl Print, ftype: u64, len: u64, room: &mut [u8]) -> io::Result<()> {
     print!(rt; "header {ftype} {len}")?;
-    told(rt, wire::write_header(ftype, len, &mut room), &room)
+    told(rt, wire::write_header(ftype, len, room), room)
 }
 
-fn integer_frame<const N: usize>(rt: &impl Print, ftype: u64, value: u64) -> io::Result<()> {
-    let mut room = [0xee; N];
+fn integer_frame(rt: &impl Print, ftype: u64, value: u64, room: &mut [u8]) -> io::Result<()> {
     print!(rt; "integer frame {ftype} {value}")?;
-    told(rt, wire::write_integer_frame(ftype, value, &mut room), &room)
+    told(rt, wire::write_integer_frame(ftype, value, room), room)
 }
 
-fn opening<const N: usize>(rt: &impl Print) -> io::Result<()> {
-    let mut room = [0xee; N];
+fn opening(rt: &impl Print, room: &mut [u8]) -> io::Result<()> {
     print!(rt; "opening")?;
-    told(rt, wire::write_opening(&mut room), &room)
+    told(rt, wire::write_opening(room), room)
 }
 
-fn goaway<const N: usize>(rt: &impl Print, sent: Option<u64>, id: u64) -> io::Result<()> {
-    let mut room = [0xee; N];
+fn goaway(rt: &impl Print, sent: Option<u64>, id: u64, room: &mut [u8]) -> io::Result<()> {
     print!(rt; "goaway {id}")?;
     if let Some(up) = sent {
         print!(rt; " after {up}")?;
     }
     told(
         rt,
-        wire::write_goaway(sent.map(|up| StreamId(up)), StreamId(id), &mut room),
-        &room,
+        wire::write_goaway(sent.map(|up| StreamId(up)), StreamId(id), room),
+        room,
     )
 }
 
@@ -100,27 +95,27 @@ fn writes(rt: &impl Print) -> io::Result<()> {
         4611686018427387903,
         4611686018427387904,
     ] {
-        integer::<10>(rt, value)?;
+        integer(rt, value, &mut [0xee; 10])?;
     }
-    opening::<13>(rt)?;
-    header::<6>(rt, 1, 16384)?;
-    header::<6>(rt, 4611686018427387904, 0)?;
-    integer_frame::<6>(rt, 13, 37)?;
-    integer_frame::<6>(rt, 7, 4611686018427387904)?;
-    goaway::<6>(rt, None, 8)?;
-    goaway::<6>(rt, None, 6)?;
-    goaway::<6>(rt, Some(8), 8)?;
-    goaway::<6>(rt, Some(8), 12)?;
+    opening(rt, &mut [0xee; 13])?;
+    header(rt, 1, 16384, &mut [0xee; 6])?;
+    header(rt, 4611686018427387904, 0, &mut [0xee; 6])?;
+    integer_frame(rt, 13, 37, &mut [0xee; 6])?;
+    integer_frame(rt, 7, 4611686018427387904, &mut [0xee; 6])?;
+    goaway(rt, None, 8, &mut [0xee; 6])?;
+    goaway(rt, None, 6, &mut [0xee; 6])?;
+    goaway(rt, Some(8), 8, &mut [0xee; 6])?;
+    goaway(rt, Some(8), 12, &mut [0xee; 6])?;
     // rooms that are one byte too short
-    integer::<7>(rt, 4611686018427387903)?;
-    integer::<3>(rt, 16384)?;
-    header::<4>(rt, 1, 16384)?;
-    integer_frame::<5>(rt, 13, 16384)?;
-    opening::<11>(rt)?;
-    goaway::<2>(rt, None, 8)?;
+    integer(rt, 4611686018427387903, &mut [0xee; 7])?;
+    integer(rt, 16384, &mut [0xee; 3])?;
+    header(rt, 1, 16384, &mut [0xee; 4])?;
+    integer_frame(rt, 13, 16384, &mut [0xee; 5])?;
+    opening(rt, &mut [0xee; 11])?;
+    goaway(rt, None, 8, &mut [0xee; 2])?;
     // 8 comes before 7
-    integer::<1>(rt, 4611686018427387904)?;
-    goaway::<1>(rt, None, 6)
+    integer(rt, 4611686018427387904, &mut [0xee; 1])?;
+    goaway(rt, None, 6, &mut [0xee; 1])
 }
 
 // ---- SETTINGS, and payloads that are one integer
@@ -130,7 +125,11 @@ fn kept(rt: &impl Print, kept: Settings) -> io::Result<()> {
         None => print!(rt; "size unlimited")?,
         Some(size) => print!(rt; "size {size}")?,
     }
-    let Settings { capacity, blocked, .. } = kept;
+    let Settings {
+        capacity,
+        blocked,
+        ..
+    } = kept;
     println!(rt; ", capacity {capacity}, blocked {blocked}")
 }
 
@@ -197,7 +196,13 @@ fn header_section(rt: &impl Print, block: &[u8]) -> io::Result<()> {
     hex(rt, block)?;
     match section::header_section(block) {
         Err(fault) => refused(rt, fault),
-        Ok(Sound { method, end, stated }) => {
+        Ok(
+            Sound {
+                method,
+                end,
+                stated,
+            },
+        ) => {
             print!(rt; ": sound, method {method} to {end}, ")?;
             match stated {
                 None => println!(rt; "no length"),

@@ -9,7 +9,11 @@ use Rattle.rules.specs.Writer.{Write}
 use Rattle.rules.specs.declared.codes.House.{House}
 use Rattle.varint.specs.Write.{Wrote, Meets, wrote_of, answer_of, left_in}
 use mir.Val.{bool_byte}
+use Rattle.std.specs.Bool.{then_some}
 use Rattle.std.specs.Prelude.{Option as Maybe, Some, None, is_some, unwrap_or}
+use Rattle.control.specs.Answers.{size_is}
+use Rattle.wire.specs.declared.ids.StreamId.{StreamId}
+use Rattle.wire.specs.Goaway.{sent_of}
 use Rattle.section.specs.Answer.{HeaderAnswer, read_stated}
 
 -- ---- an optional number is two: whether it is there, and itself or 0
@@ -29,6 +33,14 @@ stated_told (Some n) = refl
 pub value_told : (o : Maybe ℕ) → unwrap_or o 0 ≡ value_or0 (read_stated o)
 value_told None = refl
 value_told (Some n) = refl
+
+pub limited_told : (o : Maybe ℕ) → bool_byte (is_some o) ≡ stated (size_is o)
+limited_told None = refl
+limited_told (Some n) = refl
+
+pub limit_told : (o : Maybe ℕ) → unwrap_or o 0 ≡ value_or0 (size_is o)
+limit_told None = refl
+limit_told (Some n) = refl
 
 -- ---- SETTINGS
 
@@ -63,6 +75,11 @@ header_out (Ok s) out =
 abbrev pub given : Bool → ℕ → Option ℕ
 given true n = some n
 given false n = none
+
+pub given_sent : (b : Bool) (id : StreamId) {o : Maybe StreamId} → o ≡ then_some b id → sent_of o ≡ given b id.0
+unfolding sent_of
+given_sent true id e = ap sent_of e
+given_sent false id e = ap sent_of e
 
 abbrev pub wrote_number : Wrote → ℕ
 wrote_number (Err number) = number

@@ -61,7 +61,7 @@ pub extern "C" fn eist_header_section(block: &[u8], out: &mut [u64; 4]) -> u64
     ensures out_after { out.new ≡ header_out (header_answer (lines block.now)) out.old }
 {
     match section::header_section(block) {
-        Err(Fault::Unreadable) => 6,
+        Err(Fault::Unreadable) => House::Unreadable.number(),
         Err(Fault::Refused(reason)) => section::code(reason).number(),
         Ok(sound) => {
             out[0] = u64::from(sound.stated.is_some());
@@ -79,7 +79,7 @@ pub extern "C" fn eist_trailers(block: &[u8]) -> u64
     ensures { result ≡ trailer_number (trailer_answer (lines block.now)) }
 {
     match section::trailers(block) {
-        Err(Fault::Unreadable) => 6,
+        Err(Fault::Unreadable) => House::Unreadable.number(),
         Err(Fault::Refused(reason)) => section::code(reason).number(),
         Ok(()) => 0,
     }

@@ -14,13 +14,13 @@ pub returns-in-Err-Unreadable : goal.returns-in-Err-Unreadable
 unfolding header_number header_out
 returns-in-Err-Unreadable c =
     let e = rw (c.in-Err-Unreadable.is ∙ ap Err c.in-Err-Unreadable.field-0-is) at c.header_section.ensures in
-    record { value = rw (← e); out_after = rw (← e) }
+    record { value = rw (c.number.ensures, ← e); out_after = rw (← e) }
 
 pub returns-in-Err-Refused : goal.returns-in-Err-Refused
 unfolding header_number header_out
 returns-in-Err-Refused c =
     let e = rw (c.in-Err-Refused.is ∙ ap Err c.in-Err-Refused.field-0-is) at c.header_section.ensures in
-    record { value = rw (← e) (number_named (code_of (reason_of c.in-Err-Refused.reason)) c.code.ensures c.number.ensures); out_after = rw (← e) }
+    record { value = rw (← e) (number_named (code_of (reason_of c.in-Err-Refused.reason)) c.code.ensures c.number-in-Err-Refused.ensures); out_after = rw (← e) }
 
 pub returns-in-Ok : goal.returns-in-Ok
 unfolding header_number header_out

@@ -10,13 +10,13 @@ pub returns-in-Err-Unreadable : goal.returns-in-Err-Unreadable
 unfolding trailer_number
 returns-in-Err-Unreadable c =
     let e = rw (c.in-Err-Unreadable.is ∙ ap Err c.in-Err-Unreadable.field-0-is) at c.trailers.ensures in
-    rw (← e)
+    rw (c.number.ensures, ← e)
 
 pub returns-in-Err-Refused : goal.returns-in-Err-Refused
 unfolding trailer_number
 returns-in-Err-Refused c =
     let e = rw (c.in-Err-Refused.is ∙ ap Err c.in-Err-Refused.field-0-is) at c.trailers.ensures in
-    rw (← e) (number_named (code_of (reason_of c.in-Err-Refused.reason)) c.code.ensures c.number.ensures)
+    rw (← e) (number_named (code_of (reason_of c.in-Err-Refused.reason)) c.code.ensures c.number-in-Err-Refused.ensures)
 
 pub returns-in-Ok : goal.returns-in-Ok
 unfolding trailer_number
