@@ -1,7 +1,8 @@
 -- ONE ANSWER: for each public function of the engine, by its own name and its own promise, two results and two contents of lent memory that meet the
 -- promise are equal. The exceptions are named too: below a record two feeds leave open numbers that say nothing (docs/DECISIONS, N9), and what may
 -- decline leaves open what it then answers. What is no part of the engine is in docs/PROOFS. Assumes nothing.
-use Rattle.std.specs.Prelude.{◌≡◌, refl, ℕ, List, [], ◌∷◌, ◌++◌, map, Bool, true, false}
+use Rattle.std.specs.Prelude as std
+use Rattle.std.specs.Prelude.{◌≡◌, refl, ℕ, List, [], ◌∷◌, ◌++◌, map, Bool, true, false, Option as Maybe, Some, None, IsSome}
 use Rattle.std.proofs.Common.{sym, ap, ap₂, ◌∙◌}
 use Rattle.std.proofs.Math.Option.{Option, none, some}
 use base.Logic.{ent, sep, fst∗, snd∗}
@@ -11,6 +12,7 @@ use contract.Lifetimes.{Lfts}
 use denote.Triple.Entry.{Args, Res}
 use denote.Triple.Clauses.{Clauses, Lasts, at_exit}
 use denote.Triple.Clauses as kit
+use Rattle.rules.specs.declared.codes.Code.{Code}
 use Rattle.rules.specs.Control.{unset}
 use Rattle.varint.specs.declared.Part.{Part}
 use Rattle.varint.specs.declared.Whole.{Whole}
@@ -26,15 +28,17 @@ use Rattle.control.specs.Answers.{judged_is, judged_one, single_is, single_one}
 use Rattle.frames.specs.declared.Cells.{Cells}
 use Rattle.frames.specs.Uses.{a_place}
 use Rattle.frames.specs.End.{Ends}
+use Rattle.record.specs.Body.{said_no}
 use Rattle.record.specs.declared.Record.{Record}
 use Rattle.record.specs.declared.Stream.{Stream}
+use Rattle.record.specs.declared.Reading.{Reading}
 use Rattle.record.specs.Sound.{Decides, own_place, Read, Written}
 use Rattle.record.specs.Same.{one_read, one_written}
 use Rattle.oneway.specs.declared.OneWay.{OneWay}
 use Rattle.oneway.specs.Closed.{Closes}
 use Rattle.requests.specs.Answered.{one_answer}
 use Rattle.oneway.specs.Feeds.{one_heard}
-use Rattle.connection.specs.Goaway.{sends_one}
+use Rattle.connection.specs.Goaway.{sends_as_one}
 use Rattle.connection.specs.declared.Found.{Found}
 use Rattle.connection.specs.declared.Brief.{Brief}
 use Rattle.connection.specs.Faults.{with_code}
@@ -43,6 +47,10 @@ use Rattle.connection.specs.Briefly.{Briefly}
 use Rattle.connection.specs.Nearly.{one_near}
 use Rattle.connection.specs.One.{one_turn, one_goaway}
 use Rattle.calls.specs.Once as once
+use Rattle.rules.specs.contracts.codes.House.number as house-number
+use Rattle.rules.proofs.codes.House.number.Symbol as house-number-is
+use Rattle.rules.specs.contracts.codes.Code.number as code-number
+use Rattle.rules.proofs.codes.Code.number.Symbol as code-number-is
 use Rattle.varint.specs.contracts.fresh as varint-fresh
 use Rattle.varint.proofs.fresh.Symbol as varint-fresh-is
 use Rattle.varint.specs.contracts.read_step as varint-read-step
@@ -82,16 +90,16 @@ use Rattle.fields.proofs.same_bytes.Symbol as fields-same-bytes-is
 use Rattle.rules.specs.Bytes as bytes
 use Rattle.rules.specs.Bytes.{Fault, empty_name, capital, bad_in_name, bad_in_value, blank_at_end}
 use Rattle.fields.specs.declared.Spot.{Spot}
-use Rattle.fields.specs.declared.Spot.TheVariants.{Nowhere, EmptyName, Capital, BadInName, BadInValue, BlankAtEnd}
+use Rattle.fields.specs.declared.Spot.TheVariants.{EmptyName, Capital, BadInName, BadInValue, BlankAtEnd}
 use Rattle.fields.specs.Spots.{spot_of}
-use Rattle.fields.specs.contracts.any_outside as fields-any-outside
-use Rattle.fields.proofs.any_outside.Symbol as fields-any-outside-is
-use Rattle.fields.specs.contracts.bad_line as fields-bad-line
-use Rattle.fields.proofs.bad_line.Symbol as fields-bad-line-is
+use Rattle.fields.specs.contracts.Table.any_outside as fields-any-outside
+use Rattle.fields.proofs.Table.any_outside.Symbol as fields-any-outside-is
+use Rattle.fields.specs.contracts.Table.bad_line as fields-bad-line
+use Rattle.fields.proofs.Table.bad_line.Symbol as fields-bad-line-is
 use Rattle.fields.specs.contracts.decimal_of as fields-decimal-of
 use Rattle.fields.proofs.decimal_of.Symbol as fields-decimal-of-is
-use Rattle.fields.specs.contracts.line_spot as fields-line-spot
-use Rattle.fields.proofs.line_spot.Symbol as fields-line-spot-is
+use Rattle.fields.specs.contracts.Table.line_spot as fields-line-spot
+use Rattle.fields.proofs.Table.line_spot.Symbol as fields-line-spot-is
 use Rattle.fields.specs.contracts.line_at as fields-line-at
 use Rattle.fields.proofs.line_at.Symbol as fields-line-at-is
 use Rattle.fields.proofs.classes.Symbol as fields-classes-is
@@ -101,6 +109,8 @@ use Rattle.section.specs.contracts.header_section as section-header-section
 use Rattle.section.proofs.header_section.Symbol as section-header-section-is
 use Rattle.section.specs.contracts.trailers as section-trailers
 use Rattle.section.proofs.trailers.Symbol as section-trailers-is
+use Rattle.frames.specs.declared.Use.{Use}
+use Rattle.rules.specs.declared.codes.Code.{Code}
 use Rattle.frames.specs.Wants.{ruled_in, ruled_one}
 use Rattle.frames.specs.contracts.Place.rule as streams-rule
 use Rattle.frames.proofs.Place.rule.Symbol as streams-rule-is
@@ -114,6 +124,10 @@ use Rattle.record.specs.contracts.free as record-free
 use Rattle.record.proofs.free.Symbol as record-free-is
 use Rattle.record.specs.contracts.is_free as record-is-free
 use Rattle.record.proofs.is_free.Symbol as record-is-free-is
+use Rattle.record.specs.contracts.is_part as record-is-part
+use Rattle.record.proofs.is_part.Symbol as record-is-part-is
+use Rattle.record.specs.contracts.is_sane as record-is-sane
+use Rattle.record.proofs.is_sane.Symbol as record-is-sane-is
 use Rattle.record.specs.contracts.read as record-read
 use Rattle.record.proofs.read.Symbol as record-read-is
 use Rattle.record.specs.contracts.row as record-row
@@ -228,20 +242,20 @@ spot_as bad_in_name p = BadInName p
 spot_as bad_in_value p = BadInValue p
 spot_as blank_at_end p = BlankAtEnd p
 
-spot_back : Option bytes.Spot → Spot
-spot_back none = Nowhere
-spot_back (some s) = spot_as s.fault s.place
+spot_back : Option bytes.Spot → std.Option Spot
+spot_back none = std.None
+spot_back (some s) = std.Some (spot_as s.fault s.place)
 
-spot_back_lem : (x : Spot) → spot_back (spot_of x) ≡ x
+spot_back_lem : (x : std.Option Spot) → spot_back (spot_of x) ≡ x
 unfolding spot_back spot_as
-spot_back_lem Nowhere = refl
-spot_back_lem (EmptyName p) = refl
-spot_back_lem (Capital p) = refl
-spot_back_lem (BadInName p) = refl
-spot_back_lem (BadInValue p) = refl
-spot_back_lem (BlankAtEnd p) = refl
+spot_back_lem std.None = refl
+spot_back_lem (std.Some (EmptyName p)) = refl
+spot_back_lem (std.Some (Capital p)) = refl
+spot_back_lem (std.Some (BadInName p)) = refl
+spot_back_lem (std.Some (BadInValue p)) = refl
+spot_back_lem (std.Some (BlankAtEnd p)) = refl
 
-pub one_line_spot : {b : _} {x y : Spot} → spot_of x ≡ b → spot_of y ≡ b → x ≡ y
+pub one_line_spot : {b : _} {x y : std.Option Spot} → spot_of x ≡ b → spot_of y ≡ b → x ≡ y
 one_line_spot e f = read_alike spot_of (λ x y q. sym (spot_back_lem x) ∙ ap spot_back q ∙ spot_back_lem y) e f
 
 -- ---- tests
@@ -269,22 +283,24 @@ one_write m n = meets_one m n
 pub one_ended : (c : Cells) {x y : ℕ} → Ends c x → Ends c y → x ≡ y
 one_ended c e f = one (e (own_place c) [] a_place) (f (own_place c) [] a_place)
 
-pub one_ruling : {number : ℕ} {x y : _} → ruled_in x ≡ number → ruled_in y ≡ number → x ≡ y
+pub one_ruling : {number : ℕ} {x y : std.Result Use Code} → ruled_in x ≡ number → ruled_in y ≡ number → x ≡ y
 one_ruling {number} {x} {y} e f = ruled_one x y (one e f)
 
-pub one_closed : (w : OneWay) {x y : ℕ} → Closes w x → Closes w y → x ≡ y
+pub one_closed : (w : OneWay) {x y : Result Unit Code} → Closes w x → Closes w y → x ≡ y
 one_closed w e f = one (e unset []) (f unset [])
 
-pub one_stream : (r : Record) (s t : Stream) → Read r s → Read r t → s ≡ t
+pub one_stream : (r : Record) (s t : Reading) → Read r s → Read r t → s ≡ t
 one_stream r s t e f = one_read r s t e f
 
 pub one_record : (s : Stream) (r q : Record) → Written s r → Written s q → r ≡ q
 one_record s r q e f = one_written s r q e f
 
 -- a short way that was taken
-pub one_brief : {code : ℕ} {f : Found} {allow : ℕ} {piece : List ℕ} {x y : Brief} → Briefly code f allow piece x → Briefly code f allow piece y → x.report.number ≡ 0 → y.report.number ≡ 0 → x ≡ y
-one_brief {code} b d s t = let c = with_code code fresh_connection in let e = one_turn c _ _ 0 _ _ (b.turns s c 0 refl) (d.turns t c 0 refl) in
-    ap₂ (λ r p. record { row = r; report = p }) (ap (λ z. z.row) e) (ap (λ z. z.report) e)
+pub one_brief : {code : ℕ} {f : Found} {allow : ℕ} {piece : List ℕ} {x y : Maybe Brief} → Briefly code f allow piece x → Briefly code f allow piece y → IsSome x → IsSome y → x ≡ y
+one_brief {x = None} b d s t = said_no s
+one_brief {x = Some v} {y = None} b d s t = said_no t
+one_brief {code} {x = Some v} {y = Some w} b d s t = let c = with_code code fresh_connection in let e = one_turn c _ _ 0 _ _ (b.content.turns c 0 refl) (d.content.turns c 0 refl) in
+    ap Some (ap₂ (λ r p. record { row = r; report = p }) (ap (λ z. z.row) e) (ap (λ z. z.report) e))
 
 -- ---- each function, as it is proved
 
@@ -308,6 +324,12 @@ module _ (w : World) where
 
   pub equal : {A B : Type 0} {r q z : A} {ws : B} → ent w.𝓤 (sep w.𝓤 (fact w.𝓤 (r ≡ z)) (fact w.𝓤 (q ≡ z))) (fact w.𝓤 ((r ≡ q) × (ws ≡ ws)))
   equal = facts (λ x y. (one x y, refl))
+
+  abbrev of_codes : List Function
+  of_codes =
+      function house-number-is.symbol house-number.ended (house-number.clauses w.𝓛 w.𝓜.mem w.𝓡.returns) (λ κs a g r q ws vs. equal)
+      ∷ function code-number-is.symbol code-number.ended (code-number.clauses w.𝓛 w.𝓜.mem w.𝓡.returns) (λ κs a g r q ws vs. equal)
+      ∷ []
 
   abbrev of_varint : List Function
   of_varint =
@@ -370,6 +392,8 @@ module _ (w : World) where
       function record-cells-in-is.symbol record-cells-in.ended (record-cells-in.clauses w.𝓛 w.𝓜.mem w.𝓡.returns) (λ κs a g r q ws vs. equal)
       ∷ function record-free-is.symbol record-free.ended (record-free.clauses w.𝓛 w.𝓜.mem w.𝓡.returns) (λ κs a g r q ws vs. equal)
       ∷ function record-is-free-is.symbol record-is-free.ended (record-is-free.clauses w.𝓛 w.𝓜.mem w.𝓡.returns) (λ κs a g r q ws vs. facts (λ x y. (one_decided r q x y, refl)))
+      ∷ function record-is-part-is.symbol record-is-part.ended (record-is-part.clauses w.𝓛 w.𝓜.mem w.𝓡.returns) (λ κs a g r q ws vs. facts (λ x y. (one_decided r q x y, refl)))
+      ∷ function record-is-sane-is.symbol record-is-sane.ended (record-is-sane.clauses w.𝓛 w.𝓜.mem w.𝓡.returns) (λ κs a g r q ws vs. facts (λ x y. (one_decided r q x y, refl)))
       ∷ function record-read-is.symbol record-read.ended (record-read.clauses w.𝓛 w.𝓜.mem w.𝓡.returns) (λ κs a g r q ws vs. facts (λ x y. (one_stream a.0 r q x y, refl)))
       ∷ function record-row-is.symbol record-row.ended (record-row.clauses w.𝓛 w.𝓜.mem w.𝓡.returns) (λ κs a g r q ws vs. facts (λ x y. (one_record a.0 r q x y, refl)))
       ∷ function record-write-is.symbol record-write.ended (record-write.clauses w.𝓛 w.𝓜.mem w.𝓡.returns) (λ κs a g r q ws vs. facts (λ x y. (one_record a.0 r q x y, refl)))
@@ -403,7 +427,7 @@ module _ (w : World) where
   of_doors =
       function doors-fresh-is.symbol doors-fresh.ended (doors-fresh.clauses w.𝓛 w.𝓜.mem w.𝓡.returns) (λ κs a g r q ws vs. equal)
       ∷ function doors-open-is.symbol doors-open.ended (doors-open.clauses w.𝓛 w.𝓜.mem w.𝓡.returns) (λ κs a g r q ws vs. equal)
-      ∷ function doors-send-goaway-is.symbol doors-send-goaway.ended (doors-send-goaway.clauses w.𝓛 w.𝓜.mem w.𝓡.returns) (λ κs a g r q ws vs. facts (λ x y. let e = sends_one x y in (e.0, ap (λ l. (tt, (tt, (l, tt)))) e.1)))
+      ∷ function doors-send-goaway-is.symbol doors-send-goaway.ended (doors-send-goaway.clauses w.𝓛 w.𝓜.mem w.𝓡.returns) (λ κs a g r q ws vs. facts (λ x y. let e = sends_as_one x y in (e.0, ap₂ (λ d l. (d, (tt, (l, tt)))) e.1 e.2)))
       ∷ []
 
   abbrev of_oneways : List Function
@@ -422,12 +446,12 @@ module _ (w : World) where
       ∷ function connection-decide-is.symbol connection-decide.ended (connection-decide.clauses w.𝓛 w.𝓜.mem w.𝓡.returns) (λ κs a g r q ws vs. facts (λ x y. (one_turn _ _ _ _ _ _ x y, refl)))
       ∷ function connection-begin-is.symbol connection-begin.ended (connection-begin.clauses w.𝓛 w.𝓜.mem w.𝓡.returns) (λ κs a g r q ws vs. equal)
       ∷ function connection-swept-is.symbol connection-swept.ended (connection-swept.clauses w.𝓛 w.𝓜.mem w.𝓡.returns) (λ κs a g r q ws vs. equal)
-      ∷ function connection-say-goaway-is.symbol connection-say-goaway.ended (connection-say-goaway.clauses w.𝓛 w.𝓜.mem w.𝓡.returns) (λ κs a g r q ws vs. facts (λ x y. let e = one_goaway x y in (e.0, ap (λ l. (tt, (tt, (l, tt)))) e.1)))
+      ∷ function connection-say-goaway-is.symbol connection-say-goaway.ended (connection-say-goaway.clauses w.𝓛 w.𝓜.mem w.𝓡.returns) (λ κs a g r q ws vs. facts (λ x y. let e = one_goaway x y in (ap (λ g. g.written) e.0, ap₂ (λ d l. (d, (tt, (l, tt)))) (ap (λ g. g.doors) e.0) e.1)))
       ∷ []
 
   abbrev of_board : List Function
   of_board =
-      function board-step-is.symbol board-step.ended (board-step.clauses w.𝓛 w.𝓜.mem w.𝓡.returns) (λ κs a g r q ws vs. facts (λ x y. let e = once.one_step x y in (e.2, ap₂ (λ c l. (c, (l, (tt, (tt, (tt, (tt, tt))))))) e.0 e.1)))
+      function board-step-is.symbol board-step.ended (board-step.clauses w.𝓛 w.𝓜.mem w.𝓡.returns) (λ κs a g r q ws vs. facts (λ x y. let e = once.one_step x y in (e.2, ap₂ (λ c l. (c, (l, (tt, tt)))) e.0 e.1)))
       ∷ function board-eistulko-start-is.symbol board-eistulko-start.ended (board-eistulko-start.clauses w.𝓛 w.𝓜.mem w.𝓡.returns) (λ κs a g r q ws vs. facts (λ x y. let e = once.one_start x y in (e.2, ap₂ (λ c l. (c, (l, tt))) e.0 e.1)))
       ∷ function board-eistulko-open-is.symbol board-eistulko-open.ended (board-eistulko-open.clauses w.𝓛 w.𝓜.mem w.𝓡.returns) (λ κs a g r q ws vs. facts (λ x y. let e = once.one_step x y in (e.2, ap₂ (λ c l. (c, (l, (tt, tt)))) e.0 e.1)))
       ∷ function board-eistulko-feed-is.symbol board-eistulko-feed.ended (board-eistulko-feed.clauses w.𝓛 w.𝓜.mem w.𝓡.returns) (λ κs a g r q ws vs. facts (λ x y. let e = once.one_step x y in (e.2, ap₂ (λ c l. (c, (l, (tt, (tt, (tt, tt)))))) e.0 e.1)))
@@ -446,10 +470,25 @@ module _ (w : World) where
 
   -- all of them, by the name in the source
   abbrev pub functions : List Function
-  functions = of_varint ++ (of_ids ++ (of_wire ++ (of_settings ++ (of_fields ++ (of_section ++ (of_streams ++ (of_record ++ (of_given_lem ++ (of_oneway ++ (of_control ++ (of_requests ++ (of_doors ++ (of_oneways ++ (of_connection ++ (of_board)))))))))))))))
+  functions = of_codes ++ (of_varint ++ (of_ids ++ (of_wire ++ (of_settings ++ (of_fields ++ (of_section ++ (of_streams ++ (of_record ++ (of_given_lem ++ (of_oneway ++ (of_control ++ (of_requests ++ (of_doors ++ (of_oneways ++ (of_connection ++ (of_board))))))))))))))))
 
   pub listed : ◌≡◌ {A = List Symbol} (map (λ (f : Function). f.name) functions)
-      ("varint::fresh" ∷ "varint::read_step" ∷ "varint::ends" ∷ "varint::value" ∷ "varint::read" ∷ "varint::size" ∷ "varint::put" ∷ "varint::write" ∷ "wire::ids::is_request" ∷ "wire::write_header" ∷ "wire::write_integer_frame" ∷ "wire::write_opening" ∷ "wire::write_goaway" ∷ "control::settings::judge" ∷ "control::settings::only" ∷ "fields::has_byte" ∷ "fields::begins_with" ∷ "fields::same_bytes" ∷ "fields::any_outside" ∷ "fields::bad_line" ∷ "fields::decimal_of" ∷ "fields::line_spot" ∷ "fields::line_at" ∷ "section::code" ∷ "section::header_section" ∷ "section::trailers" ∷ "frames::Place::rule" ∷ "frames::end" ∷ "record::cells_in" ∷ "record::free" ∷ "record::is_free" ∷ "record::read" ∷ "record::row" ∷ "record::write" ∷ "record::in_content" ∷ "requests::given::give" ∷ "oneway::close" ∷ "control::judge" ∷ "requests::reset" ∷ "requests::end" ∷ "requests::feed" ∷ "requests::give" ∷ "connection::doors::fresh" ∷ "connection::doors::open" ∷ "connection::doors::send_goaway" ∷ "oneway::calls::fresh" ∷ "oneway::calls::feed" ∷ "oneway::calls::give" ∷ "oneway::calls::close" ∷ "connection::fresh" ∷ "connection::wanted" ∷ "connection::answer" ∷ "connection::decide" ∷ "connection::begin" ∷ "connection::swept" ∷ "connection::say_goaway" ∷ "calls::step" ∷ "calls::eistulko_start" ∷ "calls::eistulko_open" ∷ "calls::eistulko_feed" ∷ "calls::eistulko_give" ∷ "calls::eistulko_end" ∷ "calls::eistulko_reset" ∷ "calls::eistulko_goaway" ∷ "calls::eistulko_write_header" ∷ "calls::eistulko_write_integer_frame" ∷ "calls::eistulko_write_opening" ∷ "calls::eistulko_connection_size" ∷ "calls::eistulko_record_size" ∷ "calls::eistulko_report_size" ∷ "calls::eistulko_written_size" ∷ [])
+      ("rules::codes::House::number" ∷ "rules::codes::Code::number" ∷
+      "varint::fresh" ∷ "varint::read_step" ∷ "varint::ends" ∷ "varint::value" ∷ "varint::read" ∷ "varint::size" ∷ "varint::put" ∷ "varint::write" ∷
+      "wire::ids::is_request" ∷ "wire::write_header" ∷ "wire::write_integer_frame" ∷ "wire::write_opening" ∷ "wire::write_goaway" ∷
+      "control::settings::judge" ∷ "control::settings::only" ∷
+      "fields::has_byte" ∷ "fields::begins_with" ∷ "fields::same_bytes" ∷ "fields::Table::any_outside" ∷ "fields::Table::bad_line" ∷ "fields::decimal_of" ∷ "fields::Table::line_spot" ∷ "fields::line_at" ∷
+      "section::code" ∷ "section::header_section" ∷ "section::trailers" ∷
+      "frames::Place::rule" ∷ "frames::end" ∷
+      "record::cells_in" ∷ "record::free" ∷ "record::is_free" ∷ "record::is_part" ∷ "record::is_sane" ∷ "record::read" ∷ "record::row" ∷ "record::write" ∷ "record::in_content" ∷
+      "requests::given::give" ∷
+      "oneway::close" ∷
+      "control::judge" ∷
+      "requests::reset" ∷ "requests::end" ∷ "requests::feed" ∷ "requests::give" ∷
+      "connection::doors::fresh" ∷ "connection::doors::open" ∷ "connection::doors::send_goaway" ∷
+      "oneway::calls::fresh" ∷ "oneway::calls::feed" ∷ "oneway::calls::give" ∷ "oneway::calls::close" ∷
+      "connection::fresh" ∷ "connection::wanted" ∷ "connection::answer" ∷ "connection::decide" ∷ "connection::begin" ∷ "connection::swept" ∷ "connection::say_goaway" ∷
+      "calls::step" ∷ "calls::eistulko_start" ∷ "calls::eistulko_open" ∷ "calls::eistulko_feed" ∷ "calls::eistulko_give" ∷ "calls::eistulko_end" ∷ "calls::eistulko_reset" ∷ "calls::eistulko_goaway" ∷ "calls::eistulko_write_header" ∷ "calls::eistulko_write_integer_frame" ∷ "calls::eistulko_write_opening" ∷ "calls::eistulko_connection_size" ∷ "calls::eistulko_record_size" ∷ "calls::eistulko_report_size" ∷ "calls::eistulko_written_size" ∷ [])
   listed = refl
 
   -- ---- and those that do not
@@ -462,7 +501,7 @@ module _ (w : World) where
   pub request_taken : LeavesOneIf requests-brisk.ended (requests-brisk.clauses w.𝓛 w.𝓜.mem w.𝓡.returns) (λ κs r. r.number ≡ 0)
   request_taken κs a g r q ws vs = facts (λ x y s t. (one_answer a.0 _ r q (x s).0.answers (y t).0.answers, refl))
 
-  pub connection_taken : LeavesOneIf connection-brisk.ended (connection-brisk.clauses w.𝓛 w.𝓜.mem w.𝓡.returns) (λ κs r. r.report.number ≡ 0)
+  pub connection_taken : LeavesOneIf connection-brisk.ended (connection-brisk.clauses w.𝓛 w.𝓜.mem w.𝓡.returns) (λ κs r. IsSome r)
   connection_taken κs a g r q ws vs = facts (λ x y s t. (one_brief x y s t, refl))
 
 -- `fields::classes` leaves open the bits of an entry that no class reads; `record::in_body` may say no; two are feeds below a record, and three short ways

@@ -25,8 +25,7 @@ use Rattle.rules.specs.declared.codes.House.{House}
 use Rattle.varint.specs.Shortest.{bytes_of, size_of, size_few, size_some, size_one}
 use Rattle.varint.specs.Write.{Wrote, wrote_of, answer_of, left_in, Meets}
 use Rattle.connection.specs.declared.doors.Doors.{Doors}
-use Rattle.connection.specs.declared.doors.Goaway.{Goaway}
-use Rattle.connection.specs.Goaway.{sent_in, sending_of, write_of}
+use Rattle.connection.specs.Goaway.{Goaway, sent_in, sending_of, write_of}
 use Rattle.connection.specs.declared.Connection.{Connection}
 use Rattle.connection.specs.declared.Written.{Written}
 use Rattle.connection.specs.Halves.{stream_id, doors_in}

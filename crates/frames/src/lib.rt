@@ -398,7 +398,7 @@ fn head_on(s: &[u8], at: usize, h: Head) -> HeadEnd
 // acc: the value of an integer's bytes so far, or the payload's bytes to come; due: the integer's bytes to come; ftype: the type before a length.
 // phase, has, stated, sum: the place between two frames, as above.
 #[repr(C)]
-#[derive(Clone, Copy)]
+#[derive(Clone, Copy, Default, PartialEq, Eq)]
 pub struct Cells {
     pub mode: u64,
     pub acc: u64,

@@ -1,7 +1,7 @@
 // The lines of `replay`: a script's calls made one by one, and a line printed for each.
 #![tactic(auto)]
 
-ghost use Rattle.std.specs.Prelude.{◌≡◌, ◌+◌, ◌*◌, ◌<◌, ◌≤◌, [], ◌∷◌, ◌++◌, length, take, replicate};
+ghost use Rattle.std.specs.Prelude.{◌≡◌, ◌+◌, ◌*◌, ◌<◌, ◌≤◌, [], ◌∷◌, ◌++◌, length, take, replicate, IfSome};
 ghost use Rattle.rules.specs.Integers.{integer};
 ghost use Rattle.varint.specs.Write.{Meets};
 ghost use Rattle.listing.specs.Text.{decimal};
@@ -16,7 +16,7 @@ use connection::{Call, Connection, Own, Report};
 use control::Kept;
 use record::Record;
 use rules::codes::House;
-use script::Line;
+use script::{Line, Verb, Writing};
 use varint::Whole;
 
 // ---- parts of a printed line, from a place of the room on
@@ -408,26 +408,22 @@ fn told_goaway(room: &mut [u8; 2048], pair: Pair, id: u64, buffer: &mut [u8]) ->
 }
 
 // The other writes.
-fn wrote(letter: u8, a: u64, b: u64, buffer: &mut [u8]) -> Result<usize, House>
-    ensures { Meets (write_of letter a b (length buffer.old)) buffer.old result buffer.new }
+fn wrote(writing: Writing, a: u64, b: u64, buffer: &mut [u8]) -> Result<usize, House>
+    ensures { Meets (write_of writing a b (length buffer.old)) buffer.old result buffer.new }
 {
-    if letter == b'W' {
-        return wire::write_header(a, b, buffer);
+    match writing {
+        Writing::Header => wire::write_header(a, b, buffer),
+        Writing::IntegerFrame => wire::write_integer_frame(a, b, buffer),
+        Writing::Integer => varint::write(a, buffer),
+        Writing::Opening => wire::write_opening(buffer),
     }
-    if letter == b'I' {
-        return wire::write_integer_frame(a, b, buffer);
-    }
-    if letter == b'N' {
-        return varint::write(a, buffer);
-    }
-    wire::write_opening(buffer)
 }
 
-fn written(room: &mut [u8; 2048], letter: u8, a: u64, b: u64, buffer: &mut [u8]) -> usize
+fn written(room: &mut [u8; 2048], writing: Writing, a: u64, b: u64, buffer: &mut [u8]) -> usize
     requires { length buffer.old ≤ 64 }
-    ensures { Puts room.old 0 (write_line (write_of letter a b (length buffer.old)) buffer.old) 221 room.new result }
+    ensures { Puts room.old 0 (write_line (write_of writing a b (length buffer.old)) buffer.old) 221 room.new result }
 {
-    match wrote(letter, a, b, buffer) {
+    match wrote(writing, a, b, buffer) {
         Err(refusal) => written_line(room, refusal.number(), 0, buffer),
         Ok(count) => written_line(room, 0, count as u64, buffer),
     }
@@ -440,17 +436,21 @@ fn filled() -> [u8; 64]
     [170u8; 64]
 }
 
-// A write into a buffer.
-fn buffered(room: &mut [u8; 2048], pair: Pair, l: Line) -> Played
-    requires { l.room ≤ 64 }
+// A GOAWAY, and a write, into a buffer of the line's size.
+fn goaway(room: &mut [u8; 2048], pair: Pair, l: Line) -> Played
+    requires { (l.room ≤ 64) × (l.verb ≡ Verb.Goaway) }
     ensures { Lined (Writes pair l result.pair) room.old room.new result.count }
 {
     let mut buffer = filled();
-    let n = l.room;
-    if l.letter == b'G' {
-        return told_goaway(room, pair, l.a, &mut buffer[..n]);
-    }
-    let count = written(room, l.letter, l.a, l.b, &mut buffer[..n]);
+    told_goaway(room, pair, l.a, &mut buffer[..l.room])
+}
+
+fn buffered(room: &mut [u8; 2048], pair: Pair, l: Line, writing: Writing) -> Played
+    requires { (l.room ≤ 64) × (l.verb ≡ Verb.Write writing) }
+    ensures { Lined (Writes pair l result.pair) room.old room.new result.count }
+{
+    let mut buffer = filled();
+    let count = written(room, writing, l.a, l.b, &mut buffer[..l.room]);
     Played { pair, count }
 }
 
@@ -465,38 +465,28 @@ fn value(room: &mut [u8; 2048], bytes: &[u8]) -> usize
 
 // The call of a line.
 fn play(room: &mut [u8; 2048], pair: Pair, l: Line, piece: &[u8]) -> Played
-    requires { (l.row ≤ 32) × (l.room ≤ 64) }
+    requires { IfSome l.row (λ n. n ≤ 32) × (l.room ≤ 64) }
     ensures { Lined (Plays pair l piece.now result.pair) room.old room.new result.count }
 {
-    if l.letter == b'S' {
-        return started(room, pair, l.row);
+    let row = l.row.unwrap_or(24);
+    match l.verb {
+        Verb::Start => started(room, pair, row),
+        Verb::Open => streamed(room, pair, row, Call::Open, l.a, l.b, piece),
+        Verb::Feed => streamed(room, pair, row, Call::On(Own::Feed), l.a, l.b, piece),
+        Verb::Give => streamed(room, pair, row, Call::On(Own::Give), l.a, l.b, piece),
+        Verb::End => streamed(room, pair, row, Call::On(Own::End), l.a, l.b, piece),
+        Verb::Reset => streamed(room, pair, row, Call::On(Own::Reset), l.a, l.b, piece),
+        Verb::Value => Played {
+            pair,
+            count: value(room, piece),
+        },
+        Verb::State => Played {
+            pair,
+            count: state_line(room, pair.conn, pair.rows),
+        },
+        Verb::Goaway => goaway(room, pair, l),
+        Verb::Write(writing) => buffered(room, pair, l, writing),
     }
-    if l.letter == b'O' {
-        return streamed(room, pair, l.row, Call::Open, l.a, l.b, piece);
-    }
-    if l.letter == b'F' {
-        return streamed(room, pair, l.row, Call::On(Own::Feed), l.a, l.b, piece);
-    }
-    if l.letter == b'H' {
-        return streamed(room, pair, l.row, Call::On(Own::Give), l.a, l.b, piece);
-    }
-    if l.letter == b'E' {
-        return streamed(room, pair, l.row, Call::On(Own::End), l.a, l.b, piece);
-    }
-    if l.letter == b'R' {
-        return streamed(room, pair, l.row, Call::On(Own::Reset), l.a, l.b, piece);
-    }
-    if l.letter == b'V' {
-        let count = value(room, piece);
-        return Played { pair, count };
-    }
-    if l.letter == b'D' {
-        let conn = pair.conn;
-        let rows = pair.rows;
-        let count = state_line(room, conn, rows);
-        return Played { pair, count };
-    }
-    buffered(room, pair, l)
 }
 
 // ---- the run
@@ -540,8 +530,7 @@ pub fn next(script: &[u8], at: usize, pair: Pair, scratch: &mut [u8], room: &mut
             on: false,
         };
     }
-    let l = script::line_at(script, at, scratch);
-    if l.letter == 0 {
+    let Some(l) = script::line_at(script, at, scratch) else {
         let count = listing::put(room, 0, b"bad line\n");
         return Step {
             pair,
@@ -549,9 +538,8 @@ pub fn next(script: &[u8], at: usize, pair: Pair, scratch: &mut [u8], room: &mut
             count,
             on: false,
         };
-    }
-    let n = l.count;
-    let played = play(room, pair, l, &scratch[..n]);
+    };
+    let played = play(room, pair, l, &scratch[..l.count]);
     let left = played.pair;
     Step {
         pair: left,

@@ -1,8 +1,7 @@
 -- `replaying::next` meets its contract: a line leads on, or is the last. Assumes nothing.
-use mathlib.Core.Path.{refl, sym}
+use mathlib.Core.Path.{refl}
 use mathlib.Core.List.{[]}
 use native.Mathlib.Omega.{arith}
-use lib.Seq.{length-take-le}
 use Rattle.rules.specs.Text.{ascii}
 use Rattle.replaying.specs.Lines.{long_line, bad_line}
 use Rattle.replaying.specs.Plays.{too_long, at_end, bad, plays, told}
@@ -17,12 +16,16 @@ returns-then-script-gt1048576 c = stops refl refl (record { text = long_line; te
 pub returns-then-script-at : goal.returns-then-script-at
 returns-then-script-at c = stops refl refl (record { text = []; tells = at_end c.if-script-at.true refl refl; put = (puts_none _ 0 (omega arith)).put })
 
-pub returns-then-l-eq0 : goal.returns-then-l-eq0
+pub returns-in_default : goal.returns-in_default
 unfolding ascii
-returns-then-l-eq0 c = stops refl c.line_at-l.ensures.same (record { text = bad_line; tells = bad c.line_at-l.result c.line_at-l.ensures c.if-l-eq0.true refl refl; put = c.put-count-then-l-eq0.ensures })
-
-pub slice_bounds-play-end-2 : goal.slice_bounds-play-end-2
-slice_bounds-play-end-2 c = sym (length-take-le _ _ c.line_at-l.ensures.count)
+returns-in_default c = stops refl c.line_at.ensures.same (record { text = bad_line; tells = bad (rw c.in_default.is at c.line_at.ensures) refl refl; put = c.put-count-in_default.ensures })
 
 pub returns : goal.returns
-returns c = record { same = c.line_at-l.ensures.same; line = told (λ t s. plays c.line_at-l.result c.line_at-l.ensures (omega (arith, c.if-l-eq0.false)) s refl refl) c.play-played.ensures; inside = λ h. omega (arith, c.if-script-at.false); leads = λ h. c.line_at-l.ensures.on (omega (arith, c.if-l-eq0.false)) }
+returns c =
+    let l = c.in-Some.ensures.line in
+    record {
+      same = c.line_at.ensures.same;
+      line = told (λ t s. plays c.in-Some.l (rw c.in-Some.is at c.line_at.ensures) s refl refl) c.play-played.ensures;
+      inside = λ h. omega (arith, c.if-script-at.false);
+      leads = λ h. l.on;
+    }

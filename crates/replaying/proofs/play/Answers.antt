@@ -1,31 +1,24 @@
--- `replaying::play` meets its contract: a call for each letter. Assumes nothing.
-use mathlib.Core.Path.{refl}
-use Rattle.replaying.specs.Plays.{starts, opens, feeds, gives, ends, resets, shows, Plays.reads as read_by_lem, writes, lined, told}
+-- `replaying::play` meets its contract: a call for each verb. Assumes nothing.
+use Rattle.replaying.specs.Plays.{starts, opens, feeds, gives, ends, resets, writes, told}
 use Rattle.replaying.proofs.play.Goals as goal
 
-pub returns-then-l-eq83 : goal.returns-then-l-eq83
-returns-then-l-eq83 c = told (λ t s. starts c.if-l-eq83.true s) c.started.ensures
+pub returns-in-Start : goal.returns-in-Start
+returns-in-Start c = told (λ t s. starts c.in-Start.is s) (rw c.unwrap_or-row.ensures at c.started.ensures)
 
-pub returns-then-l-eq79 : goal.returns-then-l-eq79
-returns-then-l-eq79 c = told (λ t s. opens c.if-l-eq79.true s) c.streamed.ensures
+pub returns-in-Open : goal.returns-in-Open
+returns-in-Open c = told (λ t s. opens c.in-Open.is s) (rw c.unwrap_or-row.ensures at c.streamed.ensures)
 
-pub returns-then-l-eq70 : goal.returns-then-l-eq70
-returns-then-l-eq70 c = told (λ t s. feeds c.if-l-eq70.true s) c.streamed-then-l-eq70.ensures
+pub returns-in-Feed : goal.returns-in-Feed
+returns-in-Feed c = told (λ t s. feeds c.in-Feed.is s) (rw c.unwrap_or-row.ensures at c.streamed-in-Feed.ensures)
 
-pub returns-then-l-eq72 : goal.returns-then-l-eq72
-returns-then-l-eq72 c = told (λ t s. gives c.if-l-eq72.true s) c.streamed-then-l-eq72.ensures
+pub returns-in-Give : goal.returns-in-Give
+returns-in-Give c = told (λ t s. gives c.in-Give.is s) (rw c.unwrap_or-row.ensures at c.streamed-in-Give.ensures)
 
-pub returns-then-l-eq69 : goal.returns-then-l-eq69
-returns-then-l-eq69 c = told (λ t s. ends c.if-l-eq69.true s) c.streamed-then-l-eq69.ensures
+pub returns-in-End : goal.returns-in-End
+returns-in-End c = told (λ t s. ends c.in-End.is s) (rw c.unwrap_or-row.ensures at c.streamed-in-End.ensures)
 
-pub returns-then-l-eq82 : goal.returns-then-l-eq82
-returns-then-l-eq82 c = told (λ t s. resets c.if-l-eq82.true s) c.streamed-then-l-eq82.ensures
+pub returns-in-Reset : goal.returns-in-Reset
+returns-in-Reset c = told (λ t s. resets c.in-Reset.is s) (rw c.unwrap_or-row.ensures at c.streamed-in-Reset.ensures)
 
-pub returns-then-l-eq86 : goal.returns-then-l-eq86
-returns-then-l-eq86 c = lined (read_by_lem c.if-l-eq86.true refl refl) c.value-count.ensures
-
-pub returns-then-l-eq68 : goal.returns-then-l-eq68
-returns-then-l-eq68 c = lined (shows c.if-l-eq68.true refl refl) c.state_line-count.ensures
-
-pub returns : goal.returns
-returns c = told (λ t s. writes s) c.buffered.ensures
+pub returns-in-Write : goal.returns-in-Write
+returns-in-Write c = told (λ t s. writes s) c.buffered.ensures

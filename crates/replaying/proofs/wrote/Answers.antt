@@ -1,20 +1,19 @@
--- `replaying::wrote` meets its contract: one write for each letter. Assumes nothing.
-use borrow.Author.Tests.{eq-eqb, ne_eqb}
-use Rattle.replaying.specs.Lines.{write_of, pick_write}
+-- `replaying::wrote` meets its contract: one write for each kind. Assumes nothing.
+use Rattle.replaying.specs.Lines.{write_of}
 use Rattle.replaying.proofs.wrote.Goals as goal
 
-pub returns-then-letter-eq87 : goal.returns-then-letter-eq87
-unfolding write_of pick_write
-returns-then-letter-eq87 c = simp (eq-eqb _ _ c.if-letter-eq87.true) c.write_header.ensures
+pub returns-in-Header : goal.returns-in-Header
+unfolding write_of
+returns-in-Header c = rw c.in-Header.is c.write_header.ensures
 
-pub returns-then-letter-eq73 : goal.returns-then-letter-eq73
-unfolding write_of pick_write
-returns-then-letter-eq73 c = simp (ne_eqb _ _ c.if-letter-eq87.false, eq-eqb _ _ c.if-letter-eq73.true) c.write_integer_frame.ensures
+pub returns-in-IntegerFrame : goal.returns-in-IntegerFrame
+unfolding write_of
+returns-in-IntegerFrame c = rw c.in-IntegerFrame.is c.write_integer_frame.ensures
 
-pub returns-then-letter-eq78 : goal.returns-then-letter-eq78
-unfolding write_of pick_write
-returns-then-letter-eq78 c = simp (ne_eqb _ _ c.if-letter-eq87.false, ne_eqb _ _ c.if-letter-eq73.false, eq-eqb _ _ c.if-letter-eq78.true) c.write.ensures
+pub returns-in-Integer : goal.returns-in-Integer
+unfolding write_of
+returns-in-Integer c = rw c.in-Integer.is c.write.ensures
 
-pub returns : goal.returns
-unfolding write_of pick_write
-returns c = simp (ne_eqb _ _ c.if-letter-eq87.false, ne_eqb _ _ c.if-letter-eq73.false, ne_eqb _ _ c.if-letter-eq78.false) c.write_opening.ensures
+pub returns-in-Opening : goal.returns-in-Opening
+unfolding write_of
+returns-in-Opening c = rw c.in-Opening.is c.write_opening.ensures
