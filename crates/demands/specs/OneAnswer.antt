@@ -110,7 +110,6 @@ use Rattle.section.proofs.header_section.Symbol as section-header-section-is
 use Rattle.section.specs.contracts.trailers as section-trailers
 use Rattle.section.proofs.trailers.Symbol as section-trailers-is
 use Rattle.frames.specs.declared.Use.{Use}
-use Rattle.rules.specs.declared.codes.Code.{Code}
 use Rattle.frames.specs.Wants.{ruled_in, ruled_one}
 use Rattle.frames.specs.contracts.Place.rule as streams-rule
 use Rattle.frames.proofs.Place.rule.Symbol as streams-rule-is
