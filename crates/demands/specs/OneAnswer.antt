@@ -109,6 +109,7 @@ use Rattle.section.specs.contracts.header_section as section-header-section
 use Rattle.section.proofs.header_section.Symbol as section-header-section-is
 use Rattle.section.specs.contracts.trailers as section-trailers
 use Rattle.section.proofs.trailers.Symbol as section-trailers-is
+use Rattle.frames.specs.declared.Use.{Use}
 use Rattle.frames.specs.Wants.{ruled_in, ruled_one}
 use Rattle.frames.specs.contracts.Place.rule as streams-rule
 use Rattle.frames.proofs.Place.rule.Symbol as streams-rule-is
@@ -281,7 +282,7 @@ one_write m n = meets_one m n
 pub one_ended : (c : Cells) {x y : ℕ} → Ends c x → Ends c y → x ≡ y
 one_ended c e f = one (e (own_place c) [] a_place) (f (own_place c) [] a_place)
 
-pub one_ruling : {number : ℕ} {x y : _} → ruled_in x ≡ number → ruled_in y ≡ number → x ≡ y
+pub one_ruling : {number : ℕ} {x y : std.Result Use Code} → ruled_in x ≡ number → ruled_in y ≡ number → x ≡ y
 one_ruling {number} {x} {y} e f = ruled_one x y (one e f)
 
 pub one_closed : (w : OneWay) {x y : Result Unit Code} → Closes w x → Closes w y → x ≡ y
