@@ -2,7 +2,7 @@
 ghost use Rattle.std.specs.Prelude.{◌≡◌, ◌<◌, ◌^◌};
 ghost use Rattle.wire.specs.Goaway.{sent_of};
 ghost use Rattle.connection.specs.Goaway.{sent_in, SendsAs};
-ghost use Rattle.connection.specs.Openings.{fresh_doors, refusal, barred_at, next_request, next_one_way, admitted_as, request_of, one_way_of, opened_of};
+ghost use Rattle.connection.specs.Openings.{fresh_doors, refusal, barred_at, admitted_as, request_of, one_way_of, opened_of};
 
 use wire::ids::StreamId;
 
@@ -67,27 +67,6 @@ fn refused(number: u64, d: Doors) -> Opening
     Opening { number, doors: d }
 }
 
-// The ID is spent.
-fn next_request(d: Doors) -> Doors
-    requires { d.requests < 2 ^ 62 }
-    ensures { result ≡ next_request d }
-{
-    Doors {
-        requests: d.requests + 4,
-        ..d
-    }
-}
-
-fn next_one_way(d: Doors) -> Doors
-    requires { d.oneways < 2 ^ 62 }
-    ensures { result ≡ next_one_way d }
-{
-    Doors {
-        oneways: d.oneways + 4,
-        ..d
-    }
-}
-
 // A record must be free; free is how many are.
 fn admitted(free: u64, next: Doors, d: Doors) -> Opening
     ensures { result ≡ admitted_as free next d }
@@ -109,16 +88,22 @@ fn open_request(d: Doors, id: StreamId, free: u64) -> Opening
     if id.0 != d.requests {
         return refused(rules::NOT_NEXT, d);
     }
+    // The ID is spent.
+    let next = Doors {
+        requests: d.requests + 4,
+        ..d
+    };
     if d.bars(id) {
         Opening {
             number: rules::REQUEST_REJECTED,
-            doors: next_request(d),
+            doors: next,
         }
     } else {
-        admitted(free, next_request(d), d)
+        admitted(free, next, d)
     }
 }
 
+// Requests alone are barred: so no one function with open_request.
 fn open_one_way(d: Doors, id: StreamId, free: u64) -> Opening
     requires { id.0 < 2 ^ 62 }
     ensures { result ≡ one_way_of d id.0 free }
@@ -126,7 +111,11 @@ fn open_one_way(d: Doors, id: StreamId, free: u64) -> Opening
     if id.0 != d.oneways {
         return refused(rules::NOT_NEXT, d);
     }
-    admitted(free, next_one_way(d), d)
+    let next = Doors {
+        oneways: d.oneways + 4,
+        ..d
+    };
+    admitted(free, next, d)
 }
 
 // The peer opens a stream; free is how many records are.

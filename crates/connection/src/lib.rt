@@ -111,6 +111,7 @@ impl From<Heard> for Report {
 }
 
 // What a search of the row found: how many records it has, where the wanted one is (that many, if it is nowhere), and the record.
+// The place is no Option: FoundIn and Turned speak of this one, and past the end the record is a free one.
 #[derive(Clone, Copy)]
 pub struct Found {
     pub len: usize,
