@@ -203,10 +203,6 @@ at_any P a b c d e f number g = ⊎_elim (at_unkept P a b c d e f number) (λ l.
 pub not_kept : (P : Mode → Type 0) → ((k : Kept) → P (paying (kept k)) → ⊥) → (number : ℕ) → P (mode_of number) → number ≤ TRAILERS-DUE
 not_kept P f number p = ⊎_elim (λ l. omega arith) (λ l. absurd (at_kept (λ m. P m → ⊥) f number l p)) (kept_or_not number)
 
--- a header of which some bytes were read: one more number says that it is whole
-abbrev pub HEAD-WHOLE : ℕ
-HEAD-WHOLE = 2
-
 -- ---- uses: their numbers are given in Uses, and read back there
 
 abbrev pub USE-SKIPPED : ℕ
@@ -235,12 +231,6 @@ USE-CANCEL-PUSH = 7
 
 abbrev pub NO-USE : ℕ
 NO-USE = 9
-
-abbrev pub SECTION-MODES : ℕ
-SECTION-MODES = 2
-
-abbrev pub KEPT-MODES : ℕ
-KEPT-MODES = 4
 
 -- ---- phases: a place is read from its numbers by Uses.place_of
 

@@ -4,12 +4,12 @@
 ghost use Rattle.std.specs.Prelude.{◌≡◌, ◌+◌, ◌≤◌, ◌<◌, ◌^◌, length, Some, None, Ok};
 ghost use Rattle.rules.specs.Events.{NOTHING, CONTENT};
 ghost use Rattle.frames.specs.Both.{rule};
-ghost use Rattle.frames.specs.Modes.{BODY, UNSET, IN-SKIPPED, IN-CONTENT, HEAD-WHOLE};
+ghost use Rattle.frames.specs.Modes.{BODY, UNSET, IN-SKIPPED, IN-CONTENT};
 ghost use Rattle.frames.specs.Uses.{place_of, number_of, passes_of};
 ghost use Rattle.frames.specs.Wants.{mode_in, use_in, ruled_in, wanted_in, halt_at, stated_in, has_in, length_in};
 ghost use Rattle.frames.specs.declared.Use.TheVariants.{Skipped};
 ghost use Rattle.frames.specs.Ruled.{one_of};
-ghost use Rattle.frames.specs.Heads.{GoodHead, HeadStepped, HeadRead};
+ghost use Rattle.frames.specs.Heads.{head_in, GoodHead, HeadStepped, HeadRead};
 ghost use Rattle.frames.specs.Answers.{Sane, Numbers, HandedMode, Tells, Answers, in_mode, Content, Hands, answer};
 ghost use Rattle.frames.specs.Stopped.{more_sum, from_stop};
 ghost use Rattle.frames.specs.Begun.{head_cells, from_cut, start, Started};
@@ -322,74 +322,50 @@ fn payload(s: &[u8], at: usize, left: u64, wanted: Use, place: &Place, allow: u6
 
 // ---- a header that a piece cuts
 
-// A header of which some bytes were read: in its type, in its length, or it is whole, and acc is the length.
-const HEAD_WHOLE: u64 = 2;
-
+// A header of which some bytes were read: in its type, or in the length behind it.
 #[derive(Clone, Copy)]
-struct Head {
-    mode: u64,
-    acc: u64,
-    due: u64,
-    ftype: u64,
+enum Head {
+    InType(Part),
+    InLength { ftype: u64, part: Part },
 }
 
-#[derive(Clone, Copy)]
-struct HeadEnd {
-    head: Head,
-    next: usize,
-}
-
-// One byte more.
-fn head_step(h: Head, b: u8) -> Head
-    requires { GoodHead h × (h.mode < HEAD-WHOLE) }
-    ensures { HeadStepped h b result }
-{
-    let p = Part {
-        acc: h.acc,
-        due: h.due,
-    };
-    match varint::read_step(p, b) {
-        ControlFlow::Continue(q) => Head {
-            mode: h.mode,
-            acc: q.acc,
-            due: q.due,
-            ftype: h.ftype,
-        },
-        ControlFlow::Break(v) => {
-            if h.mode == IN_TYPE {
-                Head {
-                    mode: IN_LENGTH,
-                    acc: 0,
-                    due: 0,
-                    ftype: v,
-                }
-            } else {
-                Head {
-                    mode: HEAD_WHOLE,
-                    acc: v,
-                    due: 0,
-                    ftype: h.ftype,
-                }
-            }
+impl Head {
+    // One byte more, behind which `next` is: the header goes on, or is whole.
+    fn step(self, b: u8, next: usize) -> ControlFlow<FrameHeader, Head>
+        requires { GoodHead self }
+        ensures { HeadStepped self b next result }
+    {
+        match self {
+            Head::InType(part) => match varint::read_step(part, b) {
+                ControlFlow::Continue(part) => ControlFlow::Continue(Head::InType(part)),
+                ControlFlow::Break(ftype) => ControlFlow::Continue(Head::InLength {
+                    ftype,
+                    part: varint::fresh(),
+                }),
+            },
+            Head::InLength { ftype, part } => match varint::read_step(part, b) {
+                ControlFlow::Continue(part) => ControlFlow::Continue(Head::InLength {
+                    ftype,
+                    part,
+                }),
+                ControlFlow::Break(len) => ControlFlow::Break(FrameHeader { ftype, len, next }),
+            },
         }
     }
 }
 
-// On to the header's end or the piece's.
-fn head_on(s: &[u8], at: usize, h: Head) -> HeadEnd
-    requires { (at ≤ length s.now) × GoodHead h × (h.mode < HEAD-WHOLE) }
-    ensures { HeadRead s.now at h result }
+// On to the header's end, or the piece's.
+fn head_on(piece: &[u8], mut head: Head) -> Result<FrameHeader, Head>
+    requires { GoodHead head }
+    ensures { HeadRead piece.now head result }
 {
-    let mut i = at;
-    let mut q = h;
-    while i < s.len() {
-        q = head_step(q, s[i]);
-        i += 1;
-        if q.mode == HEAD_WHOLE {
-            return HeadEnd { head: q, next: i };
+    for (i, b) in piece.iter().enumerate() {
+        match head.step(*b, i + 1) {
+            ControlFlow::Continue(on) => head = on,
+            ControlFlow::Break(whole) => return Ok(whole),
         }
     }
-    HeadEnd { head: q, next: i }
+    Err(head)
 }
 
 // ---- one feed
@@ -436,6 +412,23 @@ impl Cells {
                 Some(self.stated)
             },
             sum: self.sum,
+        }
+    }
+
+    // A header that was begun.
+    fn head(&self) -> Head
+        ensures { result ≡ head_in self.now }
+    {
+        let part = Part {
+            acc: self.acc,
+            due: self.due,
+        };
+        match self.mode {
+            IN_TYPE => Head::InType(part),
+            _ => Head::InLength {
+                ftype: self.ftype,
+                part,
+            },
         }
     }
 }
@@ -541,12 +534,20 @@ fn more_sum(c: Cells, len: u64) -> Cells
 fn head_cells(h: Head, c: Cells) -> Cells
     ensures { result ≡ head_cells h c }
 {
-    Cells {
-        mode: h.mode,
-        acc: h.acc,
-        due: h.due,
-        ftype: h.ftype,
-        ..c
+    match h {
+        Head::InType(part) => Cells {
+            mode: IN_TYPE,
+            acc: part.acc,
+            due: part.due,
+            ..c
+        },
+        Head::InLength { ftype, part } => Cells {
+            mode: IN_LENGTH,
+            acc: part.acc,
+            due: part.due,
+            ftype,
+            ..c
+        },
     }
 }
 
@@ -555,18 +556,10 @@ fn cut_header(s: &[u8], to: usize, c: Cells, heads: u64) -> Answer
     requires { (to ≤ length s.now) × Numbers c × Unready s.now to }
     ensures { Answers c s.now 1 (from_cut s.now to heads) result }
 {
-    let e = head_on(
-        s,
-        to,
-        Head {
-            mode: IN_TYPE,
-            acc: 0,
-            due: 0,
-            ftype: 0,
-        },
-    );
-    let h = e.head;
-    quiet(s.len(), heads, head_cells(h, c))
+    match head_on(&s[to..], Head::InType(varint::fresh())) {
+        Err(head) => quiet(s.len(), heads, head_cells(head, Cells { ftype: 0, ..c })),
+        Ok(_) => unreachable!(),
+    }
 }
 
 // What the reading stopped at.
@@ -655,27 +648,15 @@ fn begun(s: &[u8], c: Cells, allow: u64) -> Start
     if allow == 0 {
         return Start::nowhere(0, c);
     }
-    let e = head_on(
-        s,
-        0,
-        Head {
-            mode: c.mode,
-            acc: c.acc,
-            due: c.due,
-            ftype: c.ftype,
-        },
-    );
-    let h = e.head;
-    if h.mode == HEAD_WHOLE {
-        Start {
-            at: e.next,
-            left: h.acc,
-            wanted: Some(c.place().rule(h.ftype, h.acc)),
+    match head_on(s, c.head()) {
+        Ok(h) => Start {
+            at: h.next,
+            left: h.len,
+            wanted: Some(c.place().rule(h.ftype, h.len)),
             heads: 1,
             cells: c,
-        }
-    } else {
-        Start::nowhere(s.len(), head_cells(h, c))
+        },
+        Err(head) => Start::nowhere(s.len(), head_cells(head, c)),
     }
 }
 

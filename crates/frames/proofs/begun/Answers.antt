@@ -1,13 +1,17 @@
-use native.Mathlib.Omega.{arith}
 use Rattle.frames.specs.Wants.{ruled_back}
-use Rattle.frames.specs.Begun.{begin_held, begin_whole, begin_cut}
+use Rattle.frames.specs.Begun.{begin_held, begin_whole, begin_cut, head_good}
 use Rattle.frames.proofs.begun.Goals as goal
 
+pub head_on-requires : goal.head_on-requires
+head_on-requires c = let a = c.args in rw c.head.ensures (head_good a.c a.s.now a.allow c.requires.0 c.requires.1)
+
 pub returns-then-allow-eq0 : goal.returns-then-allow-eq0
-returns-then-allow-eq0 c = let a = c in rw c.nowhere.ensures (begin_held a.args.c a.args.s.now a.args.allow a.requires.0 a.requires.1 c.if-allow-eq0.true)
+returns-then-allow-eq0 c = let a = c.args in rw c.nowhere.ensures (begin_held a.c a.s.now a.allow c.requires.0 c.requires.1 c.if-allow-eq0.true)
 
-pub returns-then-h-eq-HEAD_WHOLE : goal.returns-then-h-eq-HEAD_WHOLE
-returns-then-h-eq-HEAD_WHOLE c = let a = c in let p = c.place.ensures in begin_whole a.args.c a.args.s.now a.args.allow a.requires.0 _ _ a.requires.1 c.if-allow-eq0.false c.head_on-e.ensures c.if-h-eq-HEAD_WHOLE.true (ruled_back _ _ _ _ _ _ p.phase p.stated p.sum c.rule.ensures)
+pub returns-in-Ok : goal.returns-in-Ok
+returns-in-Ok c = let a = c.args in let p = c.place.ensures in
+    begin_whole a.c a.s.now a.allow c.requires.0 _ _ c.requires.1 c.if-allow-eq0.false (rw c.head.ensures at c.in-Ok.ensures) (ruled_back _ _ _ _ _ _ p.phase p.stated p.sum c.rule.ensures)
 
-pub returns-else-h-eq-HEAD_WHOLE : goal.returns-else-h-eq-HEAD_WHOLE
-returns-else-h-eq-HEAD_WHOLE c = let a = c in let h = c.head_on-e.ensures in rw c.nowhere-else-h-eq-HEAD_WHOLE.ensures (begin_cut a.args.c a.args.s.now a.args.allow a.requires.0 _ _ a.requires.1 c.if-allow-eq0.false h (omega (arith, h.good.0, c.if-h-eq-HEAD_WHOLE.false)) c.head_cells.ensures)
+pub returns-in-Err : goal.returns-in-Err
+returns-in-Err c = let a = c.args in
+    rw c.nowhere-in-Err.ensures (begin_cut a.c a.s.now a.allow c.requires.0 _ _ c.requires.1 c.if-allow-eq0.false (rw c.head.ensures at c.in-Err.ensures) c.head_cells.ensures)

@@ -1,10 +1,9 @@
-use native.Mathlib.Omega.{arith}
-use Rattle.varint.specs.ByByte.{fresh_good}
-use Rattle.frames.specs.Begun.{cut_answer}
+use Rattle.frames.specs.Begun.{never_whole, cut_answer, rest_all}
 use Rattle.frames.proofs.cut_header.Goals as goal
 
-pub head_on-e-requires : goal.head_on-e-requires
-head_on-e-requires c = (c.requires.0, (omega arith, (λ l. fresh_good), omega arith, omega arith), omega arith)
+pub unreachable-requires : goal.unreachable-requires
+unreachable-requires c = let a = c.args in never_whole a.s.now a.to _ c.requires.2 (rw (rest_all a.s.now a.to, c.fresh.ensures) at c.in-Ok.ensures)
 
 pub returns : goal.returns
-returns c = let a = c in rw c.quiet.ensures (cut_answer a.args.c a.args.s.now a.args.to a.args.heads _ _ a.requires.0 a.requires.1 a.requires.2 c.head_on-e.ensures c.head_cells.ensures)
+returns c = let a = c.args in
+    rw c.quiet.ensures (cut_answer a.c a.s.now a.to a.heads _ _ c.requires.0 c.requires.1 (rw (rest_all a.s.now a.to, c.fresh.ensures) at c.in-Err.ensures) c.head_cells.ensures)
