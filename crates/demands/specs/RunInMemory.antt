@@ -23,7 +23,7 @@ use Rattle.connection.specs.declared.Found.{Found}
 use Rattle.connection.specs.Halves.{stream_id, with_doors}
 use Rattle.connection.specs.Faults.{keeps, kept_if, with_code}
 use Rattle.connection.specs.Whose.{Wanted}
-use Rattle.connection.specs.Turned.{fresh_connection, told, numbered, turn, unaltered, first_as, taken_by, free_at, opened_at, by_own, request_as, replied, other_row, opens, request, started_of, begun_of, swept_of}
+use Rattle.connection.specs.Turned.{fresh_connection, told, numbered, turn, unaltered, first_as, taken_by, free_at, opened_at, by_own, request_as, replied, other_row, opens, request, started_of, swept_of}
 use Rattle.demands.specs.Streams.{streams}
 use Rattle.demands.specs.Runs.{Seen, a_report, seen_in, number_in, Does, starts, opens_one, feeds, ends as ends_one}
 use Rattle.demands.specs.Host.{Run, begun, then_called, meant}

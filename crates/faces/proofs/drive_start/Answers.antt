@@ -1,5 +1,5 @@
 -- The row comes back before the records behind it. Assumes nothing.
-use Rattle.std.specs.Prelude.{◌≡◌, List, length, take}
+use Rattle.std.specs.Prelude.{List, take}
 use Rattle.std.proofs.Common.{arith, length-take}
 use Rattle.record.specs.declared.Record.{Record}
 use Rattle.calls.specs.Lent.{Started}
