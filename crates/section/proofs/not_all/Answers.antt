@@ -1,12 +1,16 @@
 -- `section::not_all` meets its contract. Assumes nothing.
-use mathlib.Core.Path.{sym, ◌∙◌}
+use mathlib.Core.Path.{◌≡◌, sym, ◌∙◌}
+use Rattle.std.specs.Prelude.{true, false, eqb, length}
 use Rattle.fields.specs.Laws.{empty_is}
 use Rattle.fields.specs.Outside.{outside_all}
-use borrow.Author.Tests.{eq-eqb, ne_eqb}
 use Rattle.section.proofs.not_all.Goals as goal
 
-pub returns-then-v-eq0 : goal.returns-then-v-eq0
-returns-then-v-eq0 c = rw (empty_is, eq-eqb _ _ c.if-v-eq0.true)
+pub returns-then-is_empty : goal.returns-then-is_empty
+returns-then-is_empty c =
+    let e : eqb (length c.args.v.now) 0 ≡ true = sym c.is_empty.ensures ∙ c.if-is_empty.true in
+    rw (empty_is, e) c.if-is_empty.true
 
-pub returns : goal.returns
-returns c = rw (empty_is, ne_eqb _ _ c.if-v-eq0.false) (c.any_outside.ensures ∙ sym (outside_all c.args.class c.args.v.now))
+pub returns-else-is_empty : goal.returns-else-is_empty
+returns-else-is_empty c =
+    let e : eqb (length c.args.v.now) 0 ≡ false = sym c.is_empty.ensures ∙ c.if-is_empty.false in
+    rw (empty_is, e) (c.any_outside.ensures ∙ sym (outside_all c.args.class c.args.v.now))
