@@ -14,7 +14,9 @@ use Rattle.std.specs.Prelude.{Option as Maybe, Some, None, is_some, unwrap_or}
 use Rattle.control.specs.Answers.{size_is}
 use Rattle.wire.specs.declared.ids.StreamId.{StreamId}
 use Rattle.wire.specs.Goaway.{sent_of}
-use Rattle.section.specs.Answer.{HeaderAnswer, read_stated}
+use Rattle.section.specs.declared.Fault.{Fault}
+use Rattle.section.specs.declared.Fault.TheVariants as fault
+use Rattle.section.specs.Answer.{HeaderAnswer, read_stated, header_number, trailer_number}
 
 -- ---- an optional number is two: whether it is there, and itself or 0
 
@@ -63,7 +65,13 @@ unfoldable pub read_out : Int → List ℕ → List ℕ
 read_out cut out = out
 read_out (got value next rest) out = set (set out 0 value) 1 next
 
--- ---- a header section
+-- ---- a section
+
+-- refused, trailers are told as a header section is
+pub same_fault : (f : Fault) → header_number (Err f) ≡ trailer_number (Err f)
+unfolding header_number trailer_number
+same_fault fault.Unreadable = refl
+same_fault (fault.Refused r) = refl
 
 unfoldable pub header_out : HeaderAnswer → List ℕ → List ℕ
 header_out (Err e) out = out

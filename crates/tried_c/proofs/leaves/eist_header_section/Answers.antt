@@ -1,8 +1,5 @@
 -- `tried_c::leaves::eist_header_section` meets its contract: each answer is what the rules say of the block. Assumes nothing.
 use Rattle.std.proofs.Common.{ap, ◌∙◌}
-use Rattle.std.specs.Prelude.{Err}
-use Rattle.rules.specs.Section.{code_of}
-use Rattle.rules.specs.Named.{reason_of, number_named}
 use Rattle.section.specs.Answer.{header_number}
 use Rattle.section.specs.Answer.{read_stated}
 use Rattle.tried_c.specs.LeafNumbers.{stated, value_or0, stated_told, value_told, header_out}
@@ -10,17 +7,11 @@ use mir.Val.{bool_byte}
 use mathlib.Core.Path.{◌≡◌}
 use Rattle.tried_c.proofs.leaves.eist_header_section.Goals as goal
 
-pub returns-in-Err-Unreadable : goal.returns-in-Err-Unreadable
-unfolding header_number header_out
-returns-in-Err-Unreadable c =
-    let e = rw (c.in-Err-Unreadable.is ∙ ap Err c.in-Err-Unreadable.field-0-is) at c.header_section.ensures in
-    record { value = rw (c.number.ensures, ← e); out_after = rw (← e) }
-
-pub returns-in-Err-Refused : goal.returns-in-Err-Refused
-unfolding header_number header_out
-returns-in-Err-Refused c =
-    let e = rw (c.in-Err-Refused.is ∙ ap Err c.in-Err-Refused.field-0-is) at c.header_section.ensures in
-    record { value = rw (← e) (number_named (code_of (reason_of c.in-Err-Refused.reason)) c.code.ensures c.number-in-Err-Refused.ensures); out_after = rw (← e) }
+pub returns-in-Err : goal.returns-in-Err
+unfolding header_out
+returns-in-Err c =
+    let e = rw c.in-Err.is at c.header_section.ensures in
+    record { value = rw (← e) c.refused.ensures; out_after = rw (← e) }
 
 pub returns-in-Ok : goal.returns-in-Ok
 unfolding header_number header_out

@@ -1,22 +1,13 @@
 -- `tried_c::leaves::eist_trailers` meets its contract: each answer is what the rules say of the block. Assumes nothing.
-use Rattle.std.proofs.Common.{ap, ◌∙◌}
-use Rattle.std.specs.Prelude.{Err}
-use Rattle.rules.specs.Section.{code_of}
-use Rattle.rules.specs.Named.{reason_of, number_named}
+use Rattle.std.proofs.Common.{◌∙◌}
 use Rattle.section.specs.Answer.{trailer_number}
+use Rattle.tried_c.specs.LeafNumbers.{same_fault}
 use Rattle.tried_c.proofs.leaves.eist_trailers.Goals as goal
 
-pub returns-in-Err-Unreadable : goal.returns-in-Err-Unreadable
-unfolding trailer_number
-returns-in-Err-Unreadable c =
-    let e = rw (c.in-Err-Unreadable.is ∙ ap Err c.in-Err-Unreadable.field-0-is) at c.trailers.ensures in
-    rw (c.number.ensures, ← e)
-
-pub returns-in-Err-Refused : goal.returns-in-Err-Refused
-unfolding trailer_number
-returns-in-Err-Refused c =
-    let e = rw (c.in-Err-Refused.is ∙ ap Err c.in-Err-Refused.field-0-is) at c.trailers.ensures in
-    rw (← e) (number_named (code_of (reason_of c.in-Err-Refused.reason)) c.code.ensures c.number-in-Err-Refused.ensures)
+pub returns-in-Err : goal.returns-in-Err
+returns-in-Err c =
+    let e = rw c.in-Err.is at c.trailers.ensures in
+    rw (← e) (c.refused.ensures ∙ same_fault c.in-Err.fault)
 
 pub returns-in-Ok : goal.returns-in-Ok
 unfolding trailer_number
