@@ -6,4 +6,5 @@ pub mod Lists
 pub mod Falls
 pub mod Text
 pub mod Put
+pub mod Grown
 pub mod Worked

@@ -1,20 +1,21 @@
 -- `replaying::wrote` meets its contract: one write for each letter. Assumes nothing.
-use borrow.Author.Tests.{eq-eqb, ne_eqb}
+use native.Mathlib.Omega.{arith}
+use borrow.Author.Tests.{ne_eqb}
 use Rattle.replaying.specs.Lines.{write_of, pick_write}
 use Rattle.replaying.proofs.wrote.Goals as goal
 
-pub returns-then-letter-eq87 : goal.returns-then-letter-eq87
+pub returns-in-87 : goal.returns-in-87
 unfolding write_of pick_write
-returns-then-letter-eq87 c = simp (eq-eqb _ _ c.if-letter-eq87.true) c.write_header.ensures
+returns-in-87 c = rw c.in-87.is c.write_header.ensures
 
-pub returns-then-letter-eq73 : goal.returns-then-letter-eq73
+pub returns-in-73 : goal.returns-in-73
 unfolding write_of pick_write
-returns-then-letter-eq73 c = simp (ne_eqb _ _ c.if-letter-eq87.false, eq-eqb _ _ c.if-letter-eq73.true) c.write_integer_frame.ensures
+returns-in-73 c = rw c.in-73.is c.write_integer_frame.ensures
 
-pub returns-then-letter-eq78 : goal.returns-then-letter-eq78
+pub returns-in-78 : goal.returns-in-78
 unfolding write_of pick_write
-returns-then-letter-eq78 c = simp (ne_eqb _ _ c.if-letter-eq87.false, ne_eqb _ _ c.if-letter-eq73.false, eq-eqb _ _ c.if-letter-eq78.true) c.write.ensures
+returns-in-78 c = rw c.in-78.is c.write.ensures
 
-pub returns : goal.returns
+pub returns-in_default : goal.returns-in_default
 unfolding write_of pick_write
-returns c = simp (ne_eqb _ _ c.if-letter-eq87.false, ne_eqb _ _ c.if-letter-eq73.false, ne_eqb _ _ c.if-letter-eq78.false) c.write_opening.ensures
+returns-in_default c = let l = c.args.letter in simp (ne_eqb l 87 (λ e. omega arith), ne_eqb l 73 (λ e. omega arith), ne_eqb l 78 (λ e. omega arith)) c.write_opening.ensures
