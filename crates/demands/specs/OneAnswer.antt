@@ -1,6 +1,7 @@
 -- ONE ANSWER: for each public function of the engine, by its own name and its own promise, two results and two contents of lent memory that meet the
 -- promise are equal. The exceptions are named too: below a record two feeds leave open numbers that say nothing (docs/DECISIONS, N9), and what may
 -- decline leaves open what it then answers. What is no part of the engine is in docs/PROOFS. Assumes nothing.
+use Rattle.std.specs.Prelude as std
 use Rattle.std.specs.Prelude.{◌≡◌, refl, ℕ, List, [], ◌∷◌, ◌++◌, map, Bool, true, false}
 use Rattle.std.proofs.Common.{sym, ap, ap₂, ◌∙◌}
 use Rattle.std.proofs.Math.Option.{Option, none, some}
@@ -43,6 +44,10 @@ use Rattle.connection.specs.Briefly.{Briefly}
 use Rattle.connection.specs.Nearly.{one_near}
 use Rattle.connection.specs.One.{one_turn, one_goaway}
 use Rattle.calls.specs.Once as once
+use Rattle.rules.specs.contracts.codes.House.number as house-number
+use Rattle.rules.proofs.codes.House.number.Symbol as house-number-is
+use Rattle.rules.specs.contracts.codes.Code.number as code-number
+use Rattle.rules.proofs.codes.Code.number.Symbol as code-number-is
 use Rattle.varint.specs.contracts.fresh as varint-fresh
 use Rattle.varint.proofs.fresh.Symbol as varint-fresh-is
 use Rattle.varint.specs.contracts.read_step as varint-read-step
@@ -84,16 +89,16 @@ use Rattle.fields.proofs.same_bytes.Symbol as fields-same-bytes-is
 use Rattle.rules.specs.Bytes as bytes
 use Rattle.rules.specs.Bytes.{Fault, empty_name, capital, bad_in_name, bad_in_value, blank_at_end}
 use Rattle.fields.specs.declared.Spot.{Spot}
-use Rattle.fields.specs.declared.Spot.TheVariants.{Nowhere, EmptyName, Capital, BadInName, BadInValue, BlankAtEnd}
+use Rattle.fields.specs.declared.Spot.TheVariants.{EmptyName, Capital, BadInName, BadInValue, BlankAtEnd}
 use Rattle.fields.specs.Spots.{spot_of}
-use Rattle.fields.specs.contracts.any_outside as fields-any-outside
-use Rattle.fields.proofs.any_outside.Symbol as fields-any-outside-is
-use Rattle.fields.specs.contracts.bad_line as fields-bad-line
-use Rattle.fields.proofs.bad_line.Symbol as fields-bad-line-is
+use Rattle.fields.specs.contracts.Table.any_outside as fields-any-outside
+use Rattle.fields.proofs.Table.any_outside.Symbol as fields-any-outside-is
+use Rattle.fields.specs.contracts.Table.bad_line as fields-bad-line
+use Rattle.fields.proofs.Table.bad_line.Symbol as fields-bad-line-is
 use Rattle.fields.specs.contracts.decimal_of as fields-decimal-of
 use Rattle.fields.proofs.decimal_of.Symbol as fields-decimal-of-is
-use Rattle.fields.specs.contracts.line_spot as fields-line-spot
-use Rattle.fields.proofs.line_spot.Symbol as fields-line-spot-is
+use Rattle.fields.specs.contracts.Table.line_spot as fields-line-spot
+use Rattle.fields.proofs.Table.line_spot.Symbol as fields-line-spot-is
 use Rattle.fields.specs.contracts.line_at as fields-line-at
 use Rattle.fields.proofs.line_at.Symbol as fields-line-at-is
 use Rattle.fields.proofs.classes.Symbol as fields-classes-is
@@ -229,20 +234,20 @@ spot_as bad_in_name p = BadInName p
 spot_as bad_in_value p = BadInValue p
 spot_as blank_at_end p = BlankAtEnd p
 
-spot_back : Option bytes.Spot → Spot
-spot_back none = Nowhere
-spot_back (some s) = spot_as s.fault s.place
+spot_back : Option bytes.Spot → std.Option Spot
+spot_back none = std.None
+spot_back (some s) = std.Some (spot_as s.fault s.place)
 
-spot_back_lem : (x : Spot) → spot_back (spot_of x) ≡ x
+spot_back_lem : (x : std.Option Spot) → spot_back (spot_of x) ≡ x
 unfolding spot_back spot_as
-spot_back_lem Nowhere = refl
-spot_back_lem (EmptyName p) = refl
-spot_back_lem (Capital p) = refl
-spot_back_lem (BadInName p) = refl
-spot_back_lem (BadInValue p) = refl
-spot_back_lem (BlankAtEnd p) = refl
+spot_back_lem std.None = refl
+spot_back_lem (std.Some (EmptyName p)) = refl
+spot_back_lem (std.Some (Capital p)) = refl
+spot_back_lem (std.Some (BadInName p)) = refl
+spot_back_lem (std.Some (BadInValue p)) = refl
+spot_back_lem (std.Some (BlankAtEnd p)) = refl
 
-pub one_line_spot : {b : _} {x y : Spot} → spot_of x ≡ b → spot_of y ≡ b → x ≡ y
+pub one_line_spot : {b : _} {x y : std.Option Spot} → spot_of x ≡ b → spot_of y ≡ b → x ≡ y
 one_line_spot e f = read_alike spot_of (λ x y q. sym (spot_back_lem x) ∙ ap spot_back q ∙ spot_back_lem y) e f
 
 -- ---- tests
@@ -306,6 +311,12 @@ module _ (w : World) where
 
   pub equal : {A B : Type 0} {r q z : A} {ws : B} → ent w.𝓤 (sep w.𝓤 (fact w.𝓤 (r ≡ z)) (fact w.𝓤 (q ≡ z))) (fact w.𝓤 ((r ≡ q) × (ws ≡ ws)))
   equal = facts (λ x y. (one x y, refl))
+
+  abbrev of_codes : List Function
+  of_codes =
+      function house-number-is.symbol house-number.ended (house-number.clauses w.𝓛 w.𝓜.mem w.𝓡.returns) (λ κs a g r q ws vs. equal)
+      ∷ function code-number-is.symbol code-number.ended (code-number.clauses w.𝓛 w.𝓜.mem w.𝓡.returns) (λ κs a g r q ws vs. equal)
+      ∷ []
 
   abbrev of_varint : List Function
   of_varint =
@@ -445,10 +456,25 @@ module _ (w : World) where
 
   -- all of them, by the name in the source
   abbrev pub functions : List Function
-  functions = of_varint ++ (of_ids ++ (of_wire ++ (of_settings ++ (of_fields ++ (of_section ++ (of_streams ++ (of_record ++ (of_given_lem ++ (of_oneway ++ (of_control ++ (of_requests ++ (of_doors ++ (of_oneways ++ (of_connection ++ (of_board)))))))))))))))
+  functions = of_codes ++ (of_varint ++ (of_ids ++ (of_wire ++ (of_settings ++ (of_fields ++ (of_section ++ (of_streams ++ (of_record ++ (of_given_lem ++ (of_oneway ++ (of_control ++ (of_requests ++ (of_doors ++ (of_oneways ++ (of_connection ++ (of_board))))))))))))))))
 
   pub listed : ◌≡◌ {A = List Symbol} (map (λ (f : Function). f.name) functions)
-      ("varint::fresh" ∷ "varint::read_step" ∷ "varint::ends" ∷ "varint::value" ∷ "varint::near_value" ∷ "varint::read" ∷ "varint::size" ∷ "varint::put" ∷ "varint::write" ∷ "wire::ids::is_request" ∷ "wire::write_header" ∷ "wire::write_integer_frame" ∷ "wire::write_opening" ∷ "wire::write_goaway" ∷ "control::settings::judge" ∷ "control::settings::only" ∷ "fields::has_byte" ∷ "fields::begins_with" ∷ "fields::same_bytes" ∷ "fields::any_outside" ∷ "fields::bad_line" ∷ "fields::decimal_of" ∷ "fields::line_spot" ∷ "fields::line_at" ∷ "section::code" ∷ "section::header_section" ∷ "section::trailers" ∷ "frames::ruled" ∷ "frames::end" ∷ "record::cells_in" ∷ "record::free" ∷ "record::is_free" ∷ "record::read" ∷ "record::row" ∷ "record::write" ∷ "record::in_content" ∷ "requests::given::give" ∷ "oneway::close" ∷ "control::judge" ∷ "requests::reset" ∷ "requests::end" ∷ "requests::feed" ∷ "requests::give" ∷ "connection::doors::fresh" ∷ "connection::doors::open" ∷ "connection::doors::send_goaway" ∷ "oneway::calls::fresh" ∷ "oneway::calls::feed" ∷ "oneway::calls::give" ∷ "oneway::calls::close" ∷ "connection::fresh" ∷ "connection::wanted" ∷ "connection::answer" ∷ "connection::decide" ∷ "connection::begin" ∷ "connection::swept" ∷ "connection::say_goaway" ∷ "calls::step" ∷ "calls::eistulko_start" ∷ "calls::eistulko_open" ∷ "calls::eistulko_feed" ∷ "calls::eistulko_give" ∷ "calls::eistulko_end" ∷ "calls::eistulko_reset" ∷ "calls::eistulko_goaway" ∷ "calls::eistulko_write_header" ∷ "calls::eistulko_write_integer_frame" ∷ "calls::eistulko_write_opening" ∷ "calls::eistulko_connection_size" ∷ "calls::eistulko_record_size" ∷ "calls::eistulko_report_size" ∷ "calls::eistulko_written_size" ∷ [])
+      ("rules::codes::House::number" ∷ "rules::codes::Code::number" ∷
+      "varint::fresh" ∷ "varint::read_step" ∷ "varint::ends" ∷ "varint::value" ∷ "varint::near_value" ∷ "varint::read" ∷ "varint::size" ∷ "varint::put" ∷ "varint::write" ∷
+      "wire::ids::is_request" ∷ "wire::write_header" ∷ "wire::write_integer_frame" ∷ "wire::write_opening" ∷ "wire::write_goaway" ∷
+      "control::settings::judge" ∷ "control::settings::only" ∷
+      "fields::has_byte" ∷ "fields::begins_with" ∷ "fields::same_bytes" ∷ "fields::Table::any_outside" ∷ "fields::Table::bad_line" ∷ "fields::decimal_of" ∷ "fields::Table::line_spot" ∷ "fields::line_at" ∷
+      "section::code" ∷ "section::header_section" ∷ "section::trailers" ∷
+      "frames::ruled" ∷ "frames::end" ∷
+      "record::cells_in" ∷ "record::free" ∷ "record::is_free" ∷ "record::read" ∷ "record::row" ∷ "record::write" ∷ "record::in_content" ∷
+      "requests::given::give" ∷
+      "oneway::close" ∷
+      "control::judge" ∷
+      "requests::reset" ∷ "requests::end" ∷ "requests::feed" ∷ "requests::give" ∷
+      "connection::doors::fresh" ∷ "connection::doors::open" ∷ "connection::doors::send_goaway" ∷
+      "oneway::calls::fresh" ∷ "oneway::calls::feed" ∷ "oneway::calls::give" ∷ "oneway::calls::close" ∷
+      "connection::fresh" ∷ "connection::wanted" ∷ "connection::answer" ∷ "connection::decide" ∷ "connection::begin" ∷ "connection::swept" ∷ "connection::say_goaway" ∷
+      "calls::step" ∷ "calls::eistulko_start" ∷ "calls::eistulko_open" ∷ "calls::eistulko_feed" ∷ "calls::eistulko_give" ∷ "calls::eistulko_end" ∷ "calls::eistulko_reset" ∷ "calls::eistulko_goaway" ∷ "calls::eistulko_write_header" ∷ "calls::eistulko_write_integer_frame" ∷ "calls::eistulko_write_opening" ∷ "calls::eistulko_connection_size" ∷ "calls::eistulko_record_size" ∷ "calls::eistulko_report_size" ∷ "calls::eistulko_written_size" ∷ [])
   listed = refl
 
   -- ---- and those that do not

@@ -1,8 +1,8 @@
 -- A number held below 2^62: the code's numbers are of 64 bits, and a row of digits has any length, and so have the lines of a section. Assumes nothing.
-use Rattle.std.specs.Prelude.{ℕ, ◌+◌, ◌-◌, ◌*◌, ◌≤◌, ◌<◌, ◌^◌, ◌≡◌, refl, Bool, true, false, cond, List, [], ◌∷◌, ltb, length, drop, get_or}
-use Rattle.std.proofs.Common.{sym, ap, ◌∙◌, arith, drop_of_length-le, lt-ltb, le-ltb, ltb-true, ltb-false}
+use Rattle.std.specs.Prelude.{ℕ, min, ◌+◌, ◌-◌, ◌*◌, ◌≤◌, ◌<◌, ◌^◌, ◌≡◌, refl, Bool, true, false, cond, List, [], ◌∷◌, ltb}
+use Rattle.std.proofs.Common.{sym, ap, ◌∙◌, arith, lt-ltb, le-ltb, ltb-true, ltb-false}
+use Rattle.std.specs.List.{fold}
 use Rattle.rules.specs.Section.{decimal_from}
-use Rattle.fields.specs.Laws.{from_here}
 
 -- 2^62 means every number above 2^62-1
 unfoldable pub capped : ℕ → ℕ
@@ -56,13 +56,18 @@ capped_on n v = go (ltb n (2 ^ 62)) refl
         let f = ltb-false n (2 ^ 62) e in
         capped_above _ (omega (arith, grows (capped n) v, capped_above n f)) ∙ sym (capped_above _ (omega (arith, grows n v)))
 
-pub decimal_here : (n : ℕ) (v : List ℕ) (i : ℕ) → i < length v → decimal_from n (drop i v) ≡ decimal_from (n * 10 + (get_or v i 0 - 0x30)) (drop (i + 1) v)
+-- by a fold, capped at each digit
+pub capped_fold : (n : ℕ) (v : List ℕ) → n ≤ 2 ^ 62 → fold (λ total b. capped (total * 10 + (b - 0x30))) n v ≡ capped (decimal_from n v)
 unfolding decimal_from
-decimal_here n v i h = ap (decimal_from n) (from_here v i h)
+capped_fold n [] h = sym (capped_self n h)
+capped_fold n (b ∷ v) h = capped_fold (capped (n * 10 + (b - 0x30))) v (capped_le _) ∙ capped_on (n * 10 + (b - 0x30)) v
 
-pub decimal_none : (n : ℕ) (v : List ℕ) (i : ℕ) → length v ≤ i → decimal_from n (drop i v) ≡ n
-unfolding decimal_from
-decimal_none n v i h = ap (decimal_from n) (drop_of_length-le v h)
+pub capped_min : (n : ℕ) → min n (2 ^ 62) ≡ capped n
+capped_min n = go (ltb n (2 ^ 62)) refl
+  where
+    go : (t : Bool) → ltb n (2 ^ 62) ≡ t → min n (2 ^ 62) ≡ capped n
+    go true e = omega (arith, capped_below n (ltb-true n (2 ^ 62) e), ltb-true n (2 ^ 62) e)
+    go false e = omega (arith, capped_above n (ltb-false n (2 ^ 62) e), ltb-false n (2 ^ 62) e)
 
 -- a limit below 2^62 is passed by the one where it is passed by the other
 pub past : (limit n : ℕ) → limit < 2 ^ 62 → ltb limit (capped n) ≡ ltb limit n

@@ -1,11 +1,18 @@
--- Laws of the rules' words on lists of bytes, as a walk by an index uses them. Assumes nothing.
+-- Laws of the rules' words on lists of bytes, and what they are in std's words. Assumes nothing.
 use Rattle.std.specs.Prelude.{ℕ, suc, ◌+◌, ◌-◌, ◌≤◌, ◌<◌, ◌≡◌, Bool, ◌||◌, ◌&&◌, eqb, length, drop, get_or}
 use Rattle.std.proofs.Math.Path.{refl, ap}
-use Rattle.std.proofs.Common.{sym, ◌∙◌, add-one, arith, drop_of_length-le, drop-cons}
+use Rattle.std.proofs.Common.{sym, ◌∙◌, add-one, arith, drop-cons}
 use Rattle.std.proofs.Math.Bool.{true, false, not}
 use mathlib.Core.List.{List, [], ◌∷◌}
 use Rattle.std.proofs.Math.Numerals.{sub-one}
 use Rattle.std.proofs.Math.Dec.{eqb-suc-zero}
+use Rattle.std.specs.Prelude as std
+use Rattle.std.specs.List.{list_any}
+use Rattle.std.specs.Option.{option_eq, option_copied}
+use denote.Ref.{Bor}
+use lib.Pointwise.{pointwise}
+use Rattle.std.proofs.lemmas.Option.{none-some}
+use borrow.Author.Tests.{eqb-true, eqb-false, eq-eqb, ne_eqb}
 use Rattle.rules.specs.Text.{any, all, same}
 use Rattle.rules.specs.Section.{is_empty, begins, ends}
 
@@ -14,14 +21,6 @@ pub from_here : (v : List ℕ) (i : ℕ) → i < length v → drop i v ≡ get_o
 from_here v i h = rw (add-one) (drop-cons v i 0 h)
 
 module _ (test : ℕ → Bool) where
-  pub any_here : (v : List ℕ) (i : ℕ) → i < length v → any test (drop i v) ≡ (test (get_or v i 0) || any test (drop (i + 1) v))
-  unfolding any
-  any_here v i h = ap (any test) (from_here v i h)
-
-  pub any_none : (v : List ℕ) (i : ℕ) → length v ≤ i → any test (drop i v) ≡ false
-  unfolding any
-  any_none v i h = ap (any test) (drop_of_length-le v h)
-
   pub all_by_any : (v : List ℕ) → all test v ≡ not (any (λ b. not (test b)) v)
   unfolding all any
   all_by_any [] = refl
@@ -36,45 +35,42 @@ module _ (test : ℕ → Bool) where
   begins_first [] h = absurd (h refl)
   begins_first (b ∷ v) h = refl
 
-  pub begins_none : (v : List ℕ) → length v ≡ 0 → begins test v ≡ false
-  unfolding begins
-  begins_none [] e = refl
-  begins_none (b ∷ v) e = absurd (omega arith)
-
   pub ends_last : (v : List ℕ) → (length v ≡ 0 → ⊥) → ends test v ≡ test (get_or v (length v - 1) 0)
   unfolding ends
   ends_last [] h = absurd (h refl)
   ends_last (b ∷ []) h = refl
   ends_last (b ∷ d ∷ v) h = rw sub-one (ends_last (d ∷ v) (λ e. omega arith) ∙ rw sub-one refl)
 
-  pub ends_none : (v : List ℕ) → length v ≡ 0 → ends test v ≡ false
-  unfolding ends
-  ends_none [] e = refl
-  ends_none (b ∷ v) e = absurd (omega arith)
-
 pub empty_is : (v : List ℕ) → is_empty v ≡ eqb (length v) 0
 unfolding is_empty
 empty_is [] = refl
 empty_is (b ∷ v) = sym (eqb-suc-zero (length v))
 
--- ---- the same bytes
+-- ---- std's words
 
-pub same_here : (a b : List ℕ) (i : ℕ) → i < length a → i < length b
-    → same (drop i a) (drop i b) ≡ (eqb (get_or a i 0) (get_or b i 0) && same (drop (i + 1) a) (drop (i + 1) b))
-unfolding same
-same_here a b i h k = simp (from_here a i h, from_here b i k)
-
-pub same_none : (a b : List ℕ) (i : ℕ) → length a ≤ i → length b ≤ i → same (drop i a) (drop i b) ≡ true
-unfolding same
-same_none a b i h k = simp (drop_of_length-le a h, drop_of_length-le b k)
-
-pub same_lengths : (a b : List ℕ) → (length a ≡ length b → ⊥) → same a b ≡ false
-unfolding same
-same_lengths [] [] h = absurd (h refl)
-same_lengths [] (y ∷ b) h = refl
-same_lengths (x ∷ a) [] h = refl
-same_lengths (x ∷ a) (y ∷ b) h = go (eqb x y) (same_lengths a b (λ e. h (ap suc e)))
+swapped : (a b : ℕ) → eqb a b ≡ eqb b a
+swapped a b = go (eqb a b) refl
   where
-    go : (t : Bool) → same a b ≡ false → (t && same a b) ≡ false
-    go true e = e
-    go false e = refl
+    go : (t : Bool) → eqb a b ≡ t → eqb a b ≡ eqb b a
+    go true e = e ∙ sym (eq-eqb b a (sym (eqb-true a b e)))
+    go false e = e ∙ sym (ne_eqb b a (λ q. eqb-false a b e (sym q)))
+
+pub any_is : (b : ℕ) (v : List ℕ) → list_any (λ y. eqb y b) v ≡ any (eqb b) v
+unfolding any
+any_is b [] = refl
+any_is b (y ∷ v) = simp (swapped y b, any_is b v)
+
+pub same_is : (a b : List ℕ) → pointwise eqb a b ≡ same a b
+unfolding same
+same_is [] [] = refl
+same_is [] (y ∷ b) = refl
+same_is (x ∷ a) [] = refl
+same_is (x ∷ a) (y ∷ b) = ap (λ t. eqb x y && t) (same_is a b)
+
+pub begins_is : (b : ℕ) (k : Bor ℕ) (v : List ℕ) (o : std.Option (Bor ℕ)) → k.now ≡ b → option_copied o ≡ std.slice_get v 0
+    → option_eq (λ x y. eqb x.now y.now) o (std.Some k) ≡ begins (eqb b) v
+unfolding begins
+begins_is b k [] std.None p e = refl
+begins_is b k [] (std.Some x) p e = absurd (none-some _ (sym e))
+begins_is b k (y ∷ v) std.None p e = absurd (none-some _ e)
+begins_is b k (y ∷ v) (std.Some x) p e = let q : x.now ≡ y = cc in simp (p, q) (swapped y b)

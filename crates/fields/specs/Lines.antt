@@ -14,11 +14,10 @@ use Rattle.std.proofs.Math.Nat.{sub-zero, zero-sub, suc-sub-suc}
 use borrow.Author.Tests.{leb-true, leb-false, ltb-true, ltb-false, le-leb}
 use Rattle.rules.specs.Block.{Line, Section, Lines, unreadable, readable, little, short_length, cut_record, other_kind, long_name, flawed, line, fields, record_of, before, lines_from, lines}
 use Rattle.rules.specs.Block as block
-use Rattle.fields.specs.declared.Record.{Record}
-use Rattle.fields.specs.declared.Record.TheVariants.{End, Unreadable}
-use Rattle.fields.specs.declared.Record.TheVariants as variant
+use Rattle.std.specs.Prelude.{Ok, Err, Some, None}
+use Rattle.fields.specs.declared.Line as code
 use Rattle.fields.specs.Laws.{from_here}
-use Rattle.fields.specs.Walk.{is_readable, number_at, record_from, record_at, line_of, by_record, walk, walk_from, held, onto, told_from}
+use Rattle.fields.specs.Walk.{Record, no_record, a_line, is_readable, number_at, record_from, record_at, line_of, by_record, walk, walk_from, held, onto, told_from}
 
 -- ---- a record that is a line lies within the block
 
@@ -32,32 +31,33 @@ cond_no : (t : Bool) (x y z : Record) → cond t x y ≡ z → (x ≡ z → ⊥)
 cond_no true x y z e n = absurd (n e)
 cond_no false x y z e n = (refl, e)
 
-no_end : {a b e : ℕ} → End ≡ variant.Line a b e → ⊥
+no_end : {l : code.Line} → ◌≡◌ {A = Record} (Ok None) (Ok (Some l)) → ⊥
 no_end p = let z : ◌≡◌ {A = ℕ} 0 1 = cc in omega arith
 
-no_flaw : {a b e : ℕ} → Unreadable ≡ variant.Line a b e → ⊥
+no_flaw : {l : code.Line} → ◌≡◌ {A = Record} no_record (Ok (Some l)) → ⊥
 no_flaw p = let z : ◌≡◌ {A = ℕ} 0 1 = cc in omega arith
 
-pub placed : (block : List ℕ) (at name value next : ℕ) → record_at block at ≡ variant.Line name value next → Placed block at name value next
+pub placed : (block : List ℕ) (at : ℕ) (l : code.Line) → record_at block at ≡ Ok (Some l) → Placed block at l.name l.value l.next
 unfolding record_at record_from
-placed block at name value next e =
+placed block at l e =
     let c1 = cond_no (leb (length block) at) _ _ _ e no_end in
     let c2 = cond_no (ltb (length block - at) 6) _ _ _ c1.1 no_flaw in
     let c3 = cond_no (ltb (number_at block at) 4) _ _ _ c2.1 no_flaw in
     let c4 = cond_no (ltb (length block - at - 2) (number_at block at)) _ _ _ c3.1 no_flaw in
     let c5 = cond_no (not (eqb (number_at block (at + 2)) 1)) _ _ _ c4.1 no_flaw in
     let c6 = cond_no (ltb (number_at block at - 4) (number_at block (at + 4))) _ _ _ c5.1 no_flaw in
-    let line : variant.Line (at + 6) (at + 6 + number_at block (at + 4)) (at + 2 + number_at block at) ≡ variant.Line name value next = c6.1 in
-    let n : at + 6 ≡ name = cc in
-    let v : at + 6 + number_at block (at + 4) ≡ value = cc in
-    let x : at + 2 + number_at block at ≡ next = cc in
+    let some : Some (record { name = at + 6; value = at + 6 + number_at block (at + 4); next = at + 2 + number_at block at }) ≡ Some l = cc in
+    let line : record { name = at + 6; value = at + 6 + number_at block (at + 4); next = at + 2 + number_at block at } ≡ l = cc in
+    let n : at + 6 ≡ l.name = ap (λ (k : code.Line). k.name) line in
+    let v : at + 6 + number_at block (at + 4) ≡ l.value = ap (λ (k : code.Line). k.value) line in
+    let x : at + 2 + number_at block at ≡ l.next = ap (λ (k : code.Line). k.next) line in
     let h2 : 6 ≤ length block - at = ltb-false _ _ c2.0 in
     let h3 : 4 ≤ number_at block at = ltb-false _ _ c3.0 in
     let h4 : number_at block at ≤ length block - at - 2 = ltb-false _ _ c4.0 in
     let h6 : number_at block (at + 4) ≤ number_at block at - 4 = ltb-false _ _ c6.0 in
     record { behind = sym n; named = omega arith; valued = omega arith; within = omega arith }
 
-pub past_end : (block : List ℕ) (at : ℕ) → length block ≤ at → record_at block at ≡ End
+pub past_end : (block : List ℕ) (at : ℕ) → length block ≤ at → record_at block at ≡ Ok None
 unfolding record_at
 past_end block at h = simp (le-leb (length block) at h)
 
@@ -82,11 +82,11 @@ drop_take (suc n) (suc m) (x ∷ xs) = rw suc-sub-suc (drop_take n m xs)
 module _ (fuel number at : ℕ) where
   -- what a record's lines are, with the bytes behind its first six: as the code has them
   made : List ℕ → Record → Option Section
-  made more End = some []
-  made more Unreadable = none
-  made more (variant.Line name value next) =
-      onto (record { number = number; at = at; name = take (value - name) more; value = take (next - value) (drop (value - name) more) })
-      (told (lines_from fuel (suc number) next (drop (next - name) more)))
+  made more (Ok None) = some []
+  made more (Err u) = none
+  made more (Ok (Some l)) =
+      onto (record { number = number; at = at; name = take (l.value - l.name) more; value = take (l.next - l.value) (drop (l.value - l.name) more) })
+      (told (lines_from fuel (suc number) l.next (drop (l.next - l.name) more)))
 
   -- the rules' tests, in their order
   by_record_lem : (len : ℕ) → List ℕ → block.Record → Lines
@@ -147,7 +147,7 @@ module _ (fuel number at : ℕ) where
     -- a line's parts, as the rules take them and as the code has them
     line_is : (len named : ℕ) → 4 ≤ len → named ≤ len - 4
         → told (by_record_lem len rest (line (take named (take (len - 4) more)) (drop named (take (len - 4) more))))
-        ≡ made more (variant.Line (at + 6) (at + 6 + named) (at + 2 + len))
+        ≡ made more (a_line (at + 6) (at + 6 + named) (at + 2 + len))
     unfolding rest by_record_lem made
     line_is len named h h' =
         let m : ℕ = len - 4 in
@@ -166,8 +166,8 @@ module _ (fuel number at : ℕ) where
 
     six : (t u v w : Bool) → ltb (little a b) 4 ≡ t → ltb (length rest) (little a b) ≡ u → eqb (little k k') 1 ≡ v → ltb (little a b - 4) (little n n') ≡ w
         → told (by_tests t u (by_record_lem (little a b) rest (record_of (take (little a b) rest))))
-        ≡ made more (cond t Unreadable (cond u Unreadable (cond (not v) Unreadable (cond w Unreadable
-        (variant.Line (at + 6) (at + 6 + little n n') (at + 2 + little a b))))))
+        ≡ made more (cond t no_record (cond u no_record (cond (not v) no_record (cond w no_record
+        (a_line (at + 6) (at + 6 + little n n') (at + 2 + little a b))))))
     unfolding rest by_tests by_record_lem by_kind by_name made
     six true u v w e f g h = refl
     six false true v w e f g h = refl
@@ -182,15 +182,15 @@ module _ (fuel number at : ℕ) where
         named = little n n'
 
         go : (v w : Bool) → ltb (len - 4) named ≡ w → told (by_record_lem len rest (by_kind v (by_name w named (take (len - 4) more))))
-            ≡ made more (cond (not v) Unreadable (cond w Unreadable (variant.Line (at + 6) (at + 6 + named) (at + 2 + len))))
+            ≡ made more (cond (not v) no_record (cond w no_record (a_line (at + 6) (at + 6 + named) (at + 2 + len))))
         go false w e = refl
         go true true e = refl
         go true false f = line_is len named (ltb-false len 4 e) (ltb-false (len - 4) named f)
 
     six_more : (t u v w : Bool) → ltb (little a b) 4 ≡ t → ltb (length rest) (little a b) ≡ u → eqb (little k k') 1 ≡ v → ltb (little a b - 4) (little n n') ≡ w
         → told (lines_from (suc fuel) number at (a ∷ b ∷ rest))
-        ≡ made more (cond t Unreadable (cond u Unreadable (cond (not v) Unreadable (cond w Unreadable
-        (variant.Line (at + 6) (at + 6 + little n n') (at + 2 + little a b))))))
+        ≡ made more (cond t no_record (cond u no_record (cond (not v) no_record (cond w no_record
+        (a_line (at + 6) (at + 6 + little n n') (at + 2 + little a b))))))
     six_more t u v w e f g h =
         let lines : Lines = by_record_lem (little a b) rest (record_of (take (little a b) rest)) in
         ap told (two a b rest) ∙ ap (λ (x : Bool). told (by_tests x (ltb (length rest) (little a b)) lines)) e
@@ -220,7 +220,7 @@ by_one fuel number at block = go (leb (length block) at) (ltb (length block - at
 
     go : (t u : Bool) → leb (length block) at ≡ t → ltb (length block - at) 6 ≡ u
         → told (lines_from (suc fuel) number at (drop at block))
-        ≡ made fuel number at (drop (at + 6) block) (cond t End (cond u Unreadable
+        ≡ made fuel number at (drop (at + 6) block) (cond t (Ok None) (cond u no_record
         (record_from at (length block - at) (number_at block at) (number_at block (at + 2)) (number_at block (at + 4)))))
     go true u e f = ap (λ (bytes : List ℕ). told (lines_from (suc fuel) number at bytes)) (drop_of_length-le block (leb-true (length block) at e))
     go false true e f =
@@ -240,25 +240,25 @@ by_one fuel number at block = go (leb (length block) at) (ltb (length block - at
 
 -- how the rules' walk of the bytes from a place on goes by the record that the code reads there
 module _ (fuel number at : ℕ) (block : List ℕ) where
-  pub rules_end : record_at block at ≡ End → told (lines_from (suc fuel) number at (drop at block)) ≡ some []
+  pub rules_end : record_at block at ≡ (Ok None) → told (lines_from (suc fuel) number at (drop at block)) ≡ some []
   unfolding made
   rules_end e = by_one fuel number at block ∙ ap (made fuel number at (drop (at + 6) block)) e
 
-  pub rules_flaw : record_at block at ≡ Unreadable → told (lines_from (suc fuel) number at (drop at block)) ≡ none
+  pub rules_flaw : record_at block at ≡ no_record → told (lines_from (suc fuel) number at (drop at block)) ≡ none
   unfolding made
   rules_flaw e = by_one fuel number at block ∙ ap (made fuel number at (drop (at + 6) block)) e
 
-  pub rules_line : (name value next : ℕ) → record_at block at ≡ variant.Line name value next
+  pub rules_line : (l : code.Line) → record_at block at ≡ Ok (Some l)
       → told (lines_from (suc fuel) number at (drop at block))
-      ≡ onto (line_of block number at name value next) (told (lines_from fuel (suc number) next (drop next block)))
+      ≡ onto (line_of block number at l.name l.value l.next) (told (lines_from fuel (suc number) l.next (drop l.next block)))
   unfolding made
-  rules_line name value next e =
-      let p = placed block at name value next e in
-      let i : at + 6 ≡ name = omega arith in
-      let j : at + 6 + (value - name) ≡ value = omega arith in
-      let k : at + 6 + (next - name) ≡ next = omega arith in
+  rules_line l e =
+      let p = placed block at l e in
+      let i : at + 6 ≡ l.name = omega arith in
+      let j : at + 6 + (l.value - l.name) ≡ l.value = omega arith in
+      let k : at + 6 + (l.next - l.name) ≡ l.next = omega arith in
       by_one fuel number at block ∙ ap (made fuel number at (drop (at + 6) block)) e
-      ∙ rw (drop-drop (value - name) (at + 6) block, drop-drop (next - name) (at + 6) block, j, k, i)
+      ∙ rw (drop-drop (l.value - l.name) (at + 6) block, drop-drop (l.next - l.name) (at + 6) block, j, k, i)
 
 -- the code's walk is the rules'
 told_is : (fuel number at : ℕ) (block : List ℕ) → told (lines_from fuel number at (drop at block)) ≡ walk (some []) none onto fuel number at block
@@ -270,10 +270,10 @@ told_is (suc fuel) number at block = go (record_at block at) refl (λ next. told
         → ((next : ℕ) → told (lines_from fuel (suc number) next (drop next block)) ≡ walk (some []) none onto fuel (suc number) next block)
         → told (lines_from (suc fuel) number at (drop at block))
         ≡ by_record (some []) none (λ name value next. onto (line_of block number at name value next) (walk (some []) none onto fuel (suc number) next block)) r
-    go End e ih = rules_end fuel number at block e
-    go Unreadable e ih = rules_flaw fuel number at block e
-    go (variant.Line name value next) e ih =
-        rules_line fuel number at block name value next e ∙ ap (onto (line_of block number at name value next)) (ih next)
+    go (Ok None) e ih = rules_end fuel number at block e
+    go (Err u) e ih = rules_flaw fuel number at block e
+    go (Ok (Some l)) e ih =
+        rules_line fuel number at block l e ∙ ap (onto (line_of block number at l.name l.value l.next)) (ih l.next)
 
 -- ---- a walk from a place on, by one record
 
@@ -288,10 +288,10 @@ module _ {A : Type 0} (end flaw : A) (each : Line → A → A) (block : List ℕ
   unfolding walk go turn
   turned fuel number at r e = ap (turn fuel number at) e
 
-  ended : (fuel number at : ℕ) → record_at block at ≡ End → go fuel number at ≡ end
+  ended : (fuel number at : ℕ) → record_at block at ≡ (Ok None) → go fuel number at ≡ end
   unfolding walk go turn
   ended zero number at e = refl
-  ended (suc fuel) number at e = turned fuel number at End e
+  ended (suc fuel) number at e = turned fuel number at (Ok None) e
 
   -- fuel enough is as good as more
   enough : (f g number at : ℕ) → length block ≤ at + f → length block ≤ at + g → go f number at ≡ go g number at
@@ -302,17 +302,17 @@ module _ {A : Type 0} (end flaw : A) (each : Line → A → A) (block : List ℕ
     where
       same_turn : (r : Record) → record_at block at ≡ r → ((next : ℕ) → at + 6 ≤ next → go f (suc number) next ≡ go g (suc number) next)
           → go (suc f) number at ≡ go (suc g) number at
-      same_turn End e ih = ended (suc f) number at e ∙ sym (ended (suc g) number at e)
-      same_turn Unreadable e ih = turned f number at Unreadable e ∙ sym (turned g number at Unreadable e)
-      same_turn (variant.Line name value next) e ih =
-          let p = placed block at name value next e in
-          turned f number at _ e ∙ ap (each (line_of block number at name value next)) (ih next (omega arith)) ∙ sym (turned g number at _ e)
+      same_turn (Ok None) e ih = ended (suc f) number at e ∙ sym (ended (suc g) number at e)
+      same_turn (Err u) e ih = turned f number at _ e ∙ sym (turned g number at _ e)
+      same_turn (Ok (Some l)) e ih =
+          let p = placed block at l e in
+          turned f number at _ e ∙ ap (each (line_of block number at l.name l.value l.next)) (ih l.next (omega arith)) ∙ sym (turned g number at _ e)
 
-  pub walk_end : (number at : ℕ) → record_at block at ≡ End → walk_from end flaw each block number at ≡ end
+  pub walk_end : (number at : ℕ) → record_at block at ≡ (Ok None) → walk_from end flaw each block number at ≡ end
   unfolding walk_from go
   walk_end number at e = ended (length block) number at e
 
-  some_fuel : (number at : ℕ) (r : Record) → record_at block at ≡ r → (End ≡ r → ⊥) → (f : ℕ) × ((f + 1 ≡ length block) × (walk_from end flaw each block number at ≡ turn f number at r))
+  some_fuel : (number at : ℕ) (r : Record) → record_at block at ≡ r → (Ok None ≡ r → ⊥) → (f : ℕ) × ((f + 1 ≡ length block) × (walk_from end flaw each block number at ≡ turn f number at r))
   unfolding walk_from go
   some_fuel number at r e n = by (length block) refl
     where
@@ -320,17 +320,17 @@ module _ {A : Type 0} (end flaw : A) (each : Line → A → A) (block : List ℕ
       by zero h = absurd (n (sym (past_end block at (omega arith)) ∙ e))
       by (suc f) h = (f, (omega arith, ap (λ (l : ℕ). go l number at) h ∙ turned f number at r e))
 
-  pub walk_flaw : (number at : ℕ) → record_at block at ≡ Unreadable → walk_from end flaw each block number at ≡ flaw
+  pub walk_flaw : (number at : ℕ) → record_at block at ≡ no_record → walk_from end flaw each block number at ≡ flaw
   unfolding turn
-  walk_flaw number at e = (some_fuel number at Unreadable e (λ q. let z : ◌≡◌ {A = ℕ} 0 1 = cc in omega arith)).1.1
+  walk_flaw number at e = (some_fuel number at no_record e (λ q. let z : ◌≡◌ {A = ℕ} 0 1 = cc in omega arith)).1.1
 
-  pub walk_line : (number at name value next : ℕ) → record_at block at ≡ variant.Line name value next
-      → walk_from end flaw each block number at ≡ each (line_of block number at name value next) (walk_from end flaw each block (suc number) next)
+  pub walk_line : (number at : ℕ) (l : code.Line) → record_at block at ≡ Ok (Some l)
+      → walk_from end flaw each block number at ≡ each (line_of block number at l.name l.value l.next) (walk_from end flaw each block (suc number) l.next)
   unfolding turn walk_from go
-  walk_line number at name value next e =
-      let p = placed block at name value next e in
+  walk_line number at l e =
+      let p = placed block at l e in
       let s = some_fuel number at _ e no_end in
-      s.1.1 ∙ ap (each (line_of block number at name value next)) (enough s.0 (length block) (suc number) next (omega (arith, s.1.0)) (omega arith))
+      s.1.1 ∙ ap (each (line_of block number at l.name l.value l.next)) (enough s.0 (length block) (suc number) l.next (omega (arith, s.1.0)) (omega arith))
 
 -- ---- readable blocks
 
@@ -342,10 +342,10 @@ told_onto : (l : Line) (o : Option Section) → is_told (onto l o) ≡ is_told o
 told_onto l none = refl
 told_onto l (some s) = refl
 
-pub told_next : (block : List ℕ) (number at name value next : ℕ) → record_at block at ≡ variant.Line name value next
-    → is_told (told_from block number at) ≡ is_told (told_from block (suc number) next)
-told_next block number at name value next e =
-    ap is_told (walk_line _ _ _ block number at name value next e) ∙ told_onto (line_of block number at name value next) (told_from block (suc number) next)
+pub told_next : (block : List ℕ) (number at : ℕ) (l : code.Line) → record_at block at ≡ Ok (Some l)
+    → is_told (told_from block number at) ≡ is_told (told_from block (suc number) l.next)
+told_next block number at l e =
+    ap is_told (walk_line _ _ _ block number at l e) ∙ told_onto (line_of block number at l.name l.value l.next) (told_from block (suc number) l.next)
 
 is_told_lem : (x : Lines) → is_readable x ≡ is_told (told x)
 is_told_lem (unreadable f) = refl
@@ -369,11 +369,11 @@ told_section block (suc fuel) number at s e = go' (record_at block at) e (λ nex
         → by_record (some []) none (λ name value next. onto (line_of block number at name value next) (walk (some []) none onto fuel (suc number) next block)) r ≡ some s
         → ((next : ℕ) (t : Section) → walk (some []) none onto fuel (suc number) next block ≡ some t → walk [] [] ◌∷◌ fuel (suc number) next block ≡ t)
         → by_record [] [] (λ name value next. line_of block number at name value next ∷ walk [] [] ◌∷◌ fuel (suc number) next block) r ≡ s
-    go' End f ih = cc
-    go' Unreadable f ih = let z : ◌≡◌ {A = ℕ} 0 1 = cc in absurd (omega arith)
-    go' (variant.Line name value next) f ih =
-        let o = onto_some (line_of block number at name value next) _ s f in
-        ap (λ (t : Section). line_of block number at name value next ∷ t) (ih next o.0 o.1.0) ∙ o.1.1
+    go' (Ok None) f ih = cc
+    go' (Err u) f ih = let z : ◌≡◌ {A = ℕ} 0 1 = cc in absurd (omega arith)
+    go' (Ok (Some l)) f ih =
+        let o = onto_some (line_of block number at l.name l.value l.next) _ s f in
+        ap (λ (t : Section). line_of block number at l.name l.value l.next ∷ t) (ih l.next o.0 o.1.0) ∙ o.1.1
 
 -- the lines of a readable block are those that the walk holds
 pub held_is : (block : List ℕ) → is_readable (lines block) ≡ true → lines block ≡ readable (held block)

@@ -1,14 +1,16 @@
 -- The name and value check of a line (rules, Bytes), on the bytes of its name and of its value; what its answer says; and laws for each way out. Assumes nothing.
 use Prim.Native.Nat.{ℕ, suc, ◌+◌, ◌-◌, ◌≤◌, ◌<◌}
 use Rattle.std.proofs.Math.Path.{◌≡◌, refl, sym, ap}
-use Rattle.std.proofs.Common.{◌∙◌, arith, drop_of_length-le}
+use Rattle.std.proofs.Common.{◌∙◌, arith}
 use mathlib.Core.List.{List, [], ◌∷◌}
-use Rattle.std.specs.Prelude.{Bool, not, ◌||◌, ◌&&◌, T, ltb, eqb, drop, get_or}
+use Rattle.std.specs.Prelude.{Bool, cond, not, ◌||◌, ◌&&◌, T, ltb, eqb, drop, get_or}
 use Rattle.std.proofs.Math.Bool.{true, false}
 use Rattle.std.proofs.Math.Option.{Option, none, some}
 use Rattle.std.proofs.Math.Dec.{leb-suc-suc}
 use Rattle.std.proofs.Math.ListN.{length}
-use borrow.Author.Tests.{eq-eqb, ne_eqb, lt-ltb}
+use Rattle.std.specs.List.{position_or_len}
+use borrow.Author.Tests.{eq-eqb, ne_eqb, lt-ltb, ltb-true, ltb-false}
+use Rattle.std.proofs.lemmas.Option.{cond_some, none-some}
 use Rattle.rules.specs.Text.{any, all}
 use Rattle.rules.specs.Block.{Line}
 use Rattle.rules.specs.Classes.{is_name, is_value, is_blank, is_capital}
@@ -16,25 +18,37 @@ use Rattle.rules.specs.Section.{is_empty, begins, ends, is_pseudo}
 use Rattle.rules.specs.Bytes as rules
 use Rattle.rules.specs.Bytes.{Fault, empty_name, capital, bad_in_name, bad_in_value, blank_at_end, spot, if, or_else, first_outside, name_fault, name_from, value_from, name_spot, value_spot, line_spot}
 use Rattle.fields.specs.declared.Class.{Class}
-use Rattle.fields.specs.declared.Spot.{Spot}
-use Rattle.fields.specs.declared.Spot.TheVariants.{Nowhere, EmptyName, Capital, BadInName, BadInValue, BlankAtEnd}
+use Rattle.std.specs.Prelude as std
+use Rattle.fields.specs.declared.Spot as code
+use Rattle.fields.specs.declared.Spot.TheVariants.{EmptyName, Capital, BadInName, BadInValue, BlankAtEnd}
 use Rattle.fields.specs.Bytes.{is_in, outside, bad_name_bytes, bad_value_bytes}
-use Rattle.fields.specs.Laws.{from_here, empty_is, begins_first, ends_last}
+use Rattle.fields.specs.Laws.{empty_is, begins_first, ends_last}
 use Rattle.fields.specs.Table.{marked, all_right, right_at, right_in}
 
 -- ---- what the answer says
 
-abbrev pub spot_of : Spot → Option rules.Spot
-spot_of Nowhere = none
-spot_of (EmptyName p) = some (spot empty_name p)
-spot_of (Capital p) = some (spot capital p)
-spot_of (BadInName p) = some (spot bad_in_name p)
-spot_of (BadInValue p) = some (spot bad_in_value p)
-spot_of (BlankAtEnd p) = some (spot blank_at_end p)
+abbrev pub spot_of : std.Option code.Spot → Option rules.Spot
+spot_of std.None = none
+spot_of (std.Some (EmptyName p)) = some (spot empty_name p)
+spot_of (std.Some (Capital p)) = some (spot capital p)
+spot_of (std.Some (BadInName p)) = some (spot bad_in_name p)
+spot_of (std.Some (BadInValue p)) = some (spot bad_in_value p)
+spot_of (std.Some (BlankAtEnd p)) = some (spot blank_at_end p)
 
 abbrev pub is_some : Option rules.Spot → Bool
 is_some none = false
 is_some (some s) = true
+
+pub some_spot : (o : std.Option code.Spot) → std.is_some o ≡ is_some (spot_of o)
+some_spot std.None = refl
+some_spot (std.Some s) = by s
+  where
+    by : (s : code.Spot) → std.is_some (std.Some s) ≡ is_some (spot_of (std.Some s))
+    by (EmptyName p) = refl
+    by (Capital p) = refl
+    by (BadInName p) = refl
+    by (BadInValue p) = refl
+    by (BlankAtEnd p) = refl
 
 -- ---- the rules, by the bytes
 
@@ -62,19 +76,11 @@ unfoldable pub run : (ℕ → Bool) → List ℕ → ℕ
 run test [] = 0
 run test (b ∷ bs) = elim (test b) [ true ↦ suc (run test bs) | false ↦ 0 ]
 
+-- the first byte that fails a test
+abbrev pub first_out : (ℕ → Bool) → List ℕ → std.Option ℕ
+first_out test v = cond (ltb (run test v) (length v)) (std.Some (run test v)) std.None
+
 module _ (test : ℕ → Bool) where
-  pub run_in : (v : List ℕ) (i : ℕ) → i < length v → test (get_or v i 0) ≡ true → run test (drop i v) ≡ suc (run test (drop (i + 1) v))
-  unfolding run
-  run_in v i h e = ap (run test) (from_here v i h) ∙ ap (λ t. elim t [ true ↦ suc (run test (drop (i + 1) v)) | false ↦ 0 ]) e
-
-  pub run_out : (v : List ℕ) (i : ℕ) → i < length v → test (get_or v i 0) ≡ false → run test (drop i v) ≡ 0
-  unfolding run
-  run_out v i h e = ap (run test) (from_here v i h) ∙ ap (λ t. elim t [ true ↦ suc (run test (drop (i + 1) v)) | false ↦ 0 ]) e
-
-  pub run_none : (v : List ℕ) (i : ℕ) → length v ≤ i → run test (drop i v) ≡ 0
-  unfolding run
-  run_none v i h = ap (run test) (drop_of_length-le v h)
-
   -- the first byte that fails it
   module _ (says : ℕ → Fault) where
     pub outside_at : (from : ℕ) (v : List ℕ) → run test v < length v → first_outside test says from v ≡ some (spot (says (get_or v (run test v) 0)) (from + run test v))
@@ -100,24 +106,42 @@ module _ (test : ℕ → Bool) where
         go true h ih = ih (omega arith)
         go false h ih = absurd (omega arith)
 
--- by a byte's entry in a table that is right
-module _ (table : List ℕ) (t : T (all_right table)) (class : Class) (v : List ℕ) (i : ℕ) (h : i < length v) (byte : get_or v i 0 < 256) (so_far : run (is_in class) v ≡ i + run (is_in class) (drop i v)) where
-  by_entry : {r : Bool} → r ≡ marked (get_or table (get_or v i 0) 0) class → is_in class (get_or v i 0) ≡ r
-  by_entry e = sym (e ∙ right_in (get_or v i 0) (get_or table (get_or v i 0) 0) (right_at table t (get_or v i 0) byte) class)
-
-  pub run_stops : (r : Bool) → r ≡ marked (get_or table (get_or v i 0) 0) class → not r ≡ true → i ≡ run (is_in class) v
-  run_stops r e f = let z = run_out (is_in class) v i h (by_entry e ∙ no r f) in omega (arith, so_far, z)
+-- std's search for the first byte whose entry says no, in a table that is right
+module _ (table : List ℕ) (t : T (all_right table)) (class : Class) where
+  pub run_position : (v : List ℕ) → ((k : ℕ) → get_or v k 0 < 256) → position_or_len (λ b. not (marked (get_or table b 0) class)) v ≡ run (is_in class) v
+  unfolding run
+  run_position [] h = refl
+  run_position (b ∷ bs) h =
+      ap (λ t. cond (not (not t)) (1 + position_or_len (λ b. not (marked (get_or table b 0) class)) bs) 0) (right_in b (get_or table b 0) (right_at table t b (h 0)) class)
+      ∙ go (is_in class b) (run_position bs (λ k. h (suc k)))
     where
-      no : (r : Bool) → not r ≡ true → r ≡ false
-      no true f = sym f
-      no false f = refl
+      go : (t : Bool) → position_or_len (λ b. not (marked (get_or table b 0) class)) bs ≡ run (is_in class) bs
+          → cond (not (not t)) (1 + position_or_len (λ b. not (marked (get_or table b 0) class)) bs) 0 ≡ elim t [ true ↦ suc (run (is_in class) bs) | false ↦ 0 ]
+      go true e = omega (arith, e)
+      go false e = refl
 
-  pub run_goes : (r : Bool) → r ≡ marked (get_or table (get_or v i 0) 0) class → not r ≡ false → run (is_in class) v ≡ i + 1 + run (is_in class) (drop (i + 1) v)
-  run_goes r e f = let z = run_in (is_in class) v i h (by_entry e ∙ so r f) in omega (arith, so_far, z)
+  pub position_out : (v : List ℕ) → ((k : ℕ) → get_or v k 0 < 256) → (r : std.Option ℕ)
+      → r ≡ cond (ltb (position_or_len (λ b. not (marked (get_or table b 0) class)) v) (length v)) (std.Some (position_or_len (λ b. not (marked (get_or table b 0) class)) v)) std.None
+      → r ≡ first_out (is_in class) v
+  position_out v h r e = e ∙ ap (λ n. cond (ltb n (length v)) (std.Some n) std.None) (run_position v h)
+
+module _ (test : ℕ → Bool) (v : List ℕ) where
+  pub out_at : (i : ℕ) → first_out test v ≡ std.Some i → (i < length v) × (i ≡ run test v)
+  out_at i e = let p = cond_some (ltb (run test v) (length v)) (run test v) i e in (let h = ltb-true (run test v) (length v) p.0 in omega (arith, h, p.1), sym p.1)
+
+  pub out_none : first_out test v ≡ std.None → length v ≤ run test v
+  out_none e = go (ltb (run test v) (length v)) refl e
     where
-      so : (r : Bool) → not r ≡ false → r ≡ true
-      so true f = refl
-      so false f = sym f
+      go : (t : Bool) → ltb (run test v) (length v) ≡ t → cond t (std.Some (run test v)) std.None ≡ std.None → length v ≤ run test v
+      go true f e = absurd (none-some _ (sym e))
+      go false f e = ltb-false _ _ f
+
+pub some_out : (test : ℕ → Bool) (v : List ℕ) → std.is_some (first_out test v) ≡ ltb (run test v) (length v)
+some_out test v = go (ltb (run test v) (length v))
+  where
+    go : (t : Bool) → std.is_some (cond t (std.Some (run test v)) std.None) ≡ t
+    go true = refl
+    go false = refl
 
 pub run_any : (class : Class) (v : List ℕ) → ltb (run (is_in class) v) (length v) ≡ any (outside class) v
 unfolding run any
@@ -259,19 +283,19 @@ module _ (from : ℕ) (v : List ℕ) where
         value-sound e = last false e
 
 -- the name's spot, or else the value's
-module _ (at : ℕ) (n v : List ℕ) (o : Option rules.Spot) (is : o ≡ name_spot_at at n) where
-  pub name_first : is_some o ≡ true → o ≡ line_spot_at at n v
+module _ (at : ℕ) (n v : List ℕ) (o : std.Option code.Spot) (is : spot_of o ≡ name_spot_at at n) where
+  pub name_first : (o ≡ std.None → ⊥) → spot_of o ≡ line_spot_at at n v
   unfolding or_else
-  name_first e = by o e ∙ ap (λ x. or_else x (value_spot_at (at + 6 + length n) v)) is
+  name_first found = by o found ∙ ap (λ x. or_else x (value_spot_at (at + 6 + length n) v)) is
     where
-      by : (x : Option rules.Spot) → is_some x ≡ true → x ≡ or_else x (value_spot_at (at + 6 + length n) v)
-      by none e = let z : ◌≡◌ {A = ℕ} 0 1 = cc in absurd (omega arith)
-      by (some s) e = refl
+      by : (x : std.Option code.Spot) → (x ≡ std.None → ⊥) → spot_of x ≡ or_else (spot_of x) (value_spot_at (at + 6 + length n) v)
+      by std.None e = absurd (e refl)
+      by (std.Some (EmptyName p)) e = refl
+      by (std.Some (Capital p)) e = refl
+      by (std.Some (BadInName p)) e = refl
+      by (std.Some (BadInValue p)) e = refl
+      by (std.Some (BlankAtEnd p)) e = refl
 
-  pub value_then : {w : Option rules.Spot} → is_some o ≡ false → w ≡ value_spot_at (at + 6 + length n) v → w ≡ line_spot_at at n v
+  pub value_then : {w : Option rules.Spot} → o ≡ std.None → w ≡ value_spot_at (at + 6 + length n) v → w ≡ line_spot_at at n v
   unfolding or_else
-  value_then e q = q ∙ by o e ∙ ap (λ x. or_else x (value_spot_at (at + 6 + length n) v)) is
-    where
-      by : (x : Option rules.Spot) → is_some x ≡ false → value_spot_at (at + 6 + length n) v ≡ or_else x (value_spot_at (at + 6 + length n) v)
-      by none e = refl
-      by (some s) e = let z : ◌≡◌ {A = ℕ} 0 1 = cc in absurd (omega arith)
+  value_then e q = q ∙ ap (λ x. or_else x (value_spot_at (at + 6 + length n) v)) (ap spot_of (sym e) ∙ is)

@@ -1,10 +1,10 @@
 -- The records of a section block, read at a place of the block. Assumes nothing.
-use Rattle.std.specs.Prelude.{ℕ, zero, suc, ◌+◌, ◌-◌, List, [], ◌∷◌, Bool, true, false, cond, not, leb, ltb, eqb, length, take, drop, get_or}
+use Rattle.std.specs.Prelude.{ℕ, zero, suc, ◌+◌, ◌-◌, List, [], ◌∷◌, Bool, true, false, cond, not, leb, ltb, eqb, length, take, drop, get_or, Result, Ok, Err, Some, None}
 use Rattle.std.proofs.Math.Option.{Option, none, some}
 use Rattle.rules.specs.Block.{Line, Section, Lines, unreadable, readable, little}
-use Rattle.fields.specs.declared.Record.{Record}
-use Rattle.fields.specs.declared.Record.TheVariants.{End, Unreadable}
-use Rattle.fields.specs.declared.Record.TheVariants as variant
+use Rattle.std.specs.Prelude as std
+use Rattle.fields.specs.declared.Line as code
+use Rattle.fields.specs.declared.Unreadable.{Unreadable}
 
 abbrev pub is_readable : Lines → Bool
 is_readable (unreadable f) = false
@@ -18,19 +18,29 @@ number_at block at = little (get_or block at 0) (get_or block (at + 1) 0)
 abbrev pub part : (from to : ℕ) → List ℕ → List ℕ
 part from to bytes = take (to - from) (drop from bytes)
 
+-- what is at a place of a block: its end, no record, or a field line
+abbrev pub Record : Type 0
+Record = Result (std.Option code.Line) Unreadable
+
+abbrev pub no_record : Record
+no_record = Err (record {})
+
+abbrev pub a_line : (name value next : ℕ) → Record
+a_line name value next = Ok (Some (record { name = name; value = value; next = next }))
+
 -- what a record's numbers make of it, where six bytes or more are left: the length of what follows, the kind, the name's length
 unfoldable pub record_from : (at left len kind named : ℕ) → Record
 record_from at left len kind named =
-    cond (ltb len 4) Unreadable
-    (cond (ltb (left - 2) len) Unreadable
-    (cond (not (eqb kind 1)) Unreadable
-    (cond (ltb (len - 4) named) Unreadable
-    (variant.Line (at + 6) (at + 6 + named) (at + 2 + len)))))
+    cond (ltb len 4) no_record
+    (cond (ltb (left - 2) len) no_record
+    (cond (not (eqb kind 1)) no_record
+    (cond (ltb (len - 4) named) no_record
+    (a_line (at + 6) (at + 6 + named) (at + 2 + len)))))
 
 unfoldable pub record_at : (block : List ℕ) (at : ℕ) → Record
 record_at block at =
-    cond (leb (length block) at) End
-    (cond (ltb (length block - at) 6) Unreadable
+    cond (leb (length block) at) (Ok None)
+    (cond (ltb (length block - at) 6) no_record
     (record_from at (length block - at) (number_at block at) (number_at block (at + 2)) (number_at block (at + 4))))
 
 -- the line of a record
@@ -38,9 +48,9 @@ abbrev pub line_of : (block : List ℕ) (number at name value next : ℕ) → Li
 line_of block number at name value next = record { number = number; at = at; name = part name value block; value = part value next block }
 
 abbrev pub by_record : {A : Type 0} → (end flaw : A) → (line : (name value next : ℕ) → A) → Record → A
-by_record end flaw line End = end
-by_record end flaw line Unreadable = flaw
-by_record end flaw line (variant.Line name value next) = line name value next
+by_record end flaw line (Ok None) = end
+by_record end flaw line (Err u) = flaw
+by_record end flaw line (Ok (Some l)) = line l.name l.value l.next
 
 -- A walk of the records from a place on: `end` at the end of the block, `flaw` at a record that is unreadable, `each` puts a line before
 -- what the rest gives. `fuel` bounds the number of records, as it does in the rules.

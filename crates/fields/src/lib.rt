@@ -7,13 +7,13 @@ ghost use Rattle.rules.specs.Classes.{is_blank, is_capital};
 ghost use Rattle.rules.specs.Block.{little};
 ghost use Rattle.rules.specs.Section.{begins, decimal};
 ghost use Rattle.fields.specs.Bytes.{is_in, outside, mask_of, bad_name_bytes, bad_value_bytes};
-ghost use Rattle.fields.specs.Spots.{spot_of, is_some, run, name_spot_at, value_spot_at, line_spot_at};
+ghost use Rattle.fields.specs.Spots.{spot_of, first_out, name_spot_at, value_spot_at, line_spot_at};
 ghost use Rattle.fields.specs.Table.{marked, all_right};
 ghost use Rattle.fields.specs.Walk.{record_at};
 ghost use Rattle.fields.specs.Decimal.{capped};
 
 // What a byte may be. A byte can be several of these.
-#[derive(Clone, Copy)]
+#[derive(Clone, Copy, Debug, PartialEq, Eq)]
 pub enum Class {
     Name,
     Token,
@@ -282,20 +282,26 @@ const CLASSES: [u8; 256] = [
 ];
 
 // The table, read once for a whole walk.
-pub fn classes() -> [u8; 256]
-    ensures { T (all_right result) }
-{
-    CLASSES
+#[derive(Drop)]
+pub struct Table {
+    entries: [u8; 256],
+    ghost right: { T (all_right entries) },
 }
 
-fn mask(class: Class) -> u8
-    ensures { result ≡ mask_of class }
-{
-    match class {
-        Class::Name => 1,
-        Class::Token => 2,
-        Class::Value => 4,
-        Class::Digit => 8,
+pub fn classes() -> Table {
+    Table { entries: CLASSES }
+}
+
+impl Class {
+    fn mask(self) -> u8
+        ensures { result ≡ mask_of self }
+    {
+        match self {
+            Class::Name => 1,
+            Class::Token => 2,
+            Class::Value => 4,
+            Class::Digit => 8,
+        }
     }
 }
 
@@ -303,84 +309,36 @@ fn mask(class: Class) -> u8
 fn has_class(entry: u8, class: Class) -> bool
     ensures { result ≡ marked entry class }
 {
-    entry & mask(class) != 0
+    entry & class.mask() != 0
 }
 
 pub fn has_byte(v: &[u8], b: u8) -> bool
     ensures { result ≡ any (eqb b) v.now }
 {
-    let mut i = 0;
-    while i < v.len() {
-        if b == v[i] {
-            return true;
-        }
-        i += 1;
-    }
-    false
+    v.contains(&b)
 }
 
 pub fn begins_with(v: &[u8], b: u8) -> bool
     ensures { result ≡ begins (eqb b) v.now }
 {
-    if v.len() == 0 {
-        return false;
-    }
-    b == v[0]
+    v.first() == Some(&b)
 }
 
 pub fn same_bytes(a: &[u8], b: &[u8]) -> bool
     ensures { result ≡ same a.now b.now }
 {
-    if a.len() != b.len() {
-        return false;
-    }
-    let mut i = 0;
-    while i < a.len() {
-        if a[i] != b[i] {
-            return false;
-        }
-        i += 1;
-    }
-    true
-}
-
-// How many bytes at the start are of a class.
-fn inside<'a>(table: &'a [u8; 256], v: &'a [u8], class: Class) -> usize
-    requires { T (all_right table.now) }
-    ensures { result ≡ run (is_in class) v.now }
-{
-    let mut i = 0;
-    while i < v.len() {
-        let b = v[i];
-        if !has_class(table[b as usize], class) {
-            return i;
-        }
-        i += 1;
-    }
-    i
-}
-
-// Some byte is outside a class. The table is the caller's, who reads it once for many names and values.
-pub fn any_outside<'a>(table: &'a [u8; 256], v: &'a [u8], class: Class) -> bool
-    requires { T (all_right table.now) }
-    ensures { result ≡ any (outside class) v.now }
-{
-    inside(table, v, class) < v.len()
+    a == b
 }
 
 fn blank(b: u8) -> bool
     ensures { result ≡ is_blank b }
 {
-    if b == b' ' {
-        return true;
-    }
-    b == b'\t'
+    b == b' ' || b == b'\t'
 }
 
 // Which of the rules of names and values a line's bytes break, and the place in the block of the byte that does (document 02, Q-3).
-#[derive(Clone, Copy)]
+#[derive(Clone, Copy, Debug, PartialEq, Eq)]
 pub enum Spot {
-    Nowhere,
     EmptyName(usize),
     Capital(usize),
     BadInName(usize),
@@ -388,169 +346,147 @@ pub enum Spot {
     BlankAtEnd(usize),
 }
 
-fn is_somewhere(s: Spot) -> bool
-    ensures { result ≡ is_some (spot_of s) }
-{
-    match s {
-        Spot::Nowhere => false,
-        Spot::EmptyName(_) => true,
-        Spot::Capital(_) => true,
-        Spot::BadInName(_) => true,
-        Spot::BadInValue(_) => true,
-        Spot::BlankAtEnd(_) => true,
+impl Table {
+    // The first byte outside a class.
+    fn first_outside(&self, v: &[u8], class: Class) -> Option<usize>
+        ensures { result ≡ first_out (is_in class) v.now }
+    {
+        v.iter()
+            .position(|&b| !has_class(self.entries[b as usize], class))
+    }
+
+    // Some byte is outside a class. The table is the caller's, who reads it once for many names and values.
+    pub fn any_outside(&self, v: &[u8], class: Class) -> bool
+        ensures { result ≡ any (outside class) v.now }
+    {
+        self.first_outside(v, class).is_some()
+    }
+
+    // A name whose record begins at a place of the block: empty, it is told there; with a colon first it is left to the section's rules.
+    fn name_spot(&self, name: &[u8], at: usize) -> Option<Spot>
+        requires { at + 6 + length name.now < 2 ^ 64 }
+        ensures { spot_of result ≡ name_spot_at at name.now }
+    {
+        if begins_with(name, b':') {
+            return None;
+        }
+        if name.is_empty() {
+            return Some(Spot::EmptyName(at));
+        }
+        let i = self.first_outside(name, Class::Name)?;
+        if is_capital(name[i]) {
+            return Some(Spot::Capital(at + 6 + i));
+        }
+        Some(Spot::BadInName(at + 6 + i))
+    }
+
+    // A value from a place of the block on: the lowest of a blank first byte, a byte that no value holds, a blank last byte.
+    fn value_spot(&self, value: &[u8], from: usize) -> Option<Spot>
+        requires { from + length value.now < 2 ^ 64 }
+        ensures { spot_of result ≡ value_spot_at from value.now }
+    {
+        if value.is_empty() {
+            return None;
+        }
+        if blank(value[0]) {
+            return Some(Spot::BlankAtEnd(from));
+        }
+        if let Some(i) = self.first_outside(value, Class::Value) {
+            return Some(Spot::BadInValue(from + i));
+        }
+        let last = value.len() - 1;
+        if blank(value[last]) {
+            return Some(Spot::BlankAtEnd(from + last));
+        }
+        None
+    }
+
+    // The name and value check of a line whose record begins at a place of the block.
+    pub fn line_spot(&self, name: &[u8], value: &[u8], at: usize) -> Option<Spot>
+        requires { at + 6 + (length name.now + length value.now) < 2 ^ 64 }
+        ensures { spot_of result ≡ line_spot_at at name.now value.now }
+    {
+        match self.name_spot(name, at) {
+            None => self.value_spot(value, at + 6 + name.len()),
+            found => found,
+        }
+    }
+
+    // Whether a line's bytes break one of them.
+    pub fn bad_line(&self, name: &[u8], value: &[u8]) -> bool
+        requires { 6 + (length name.now + length value.now) < 2 ^ 64 }
+        ensures { result ≡ (bad_name_bytes name.now || bad_value_bytes value.now) }
+    {
+        self.line_spot(name, value, 0).is_some()
     }
 }
 
 fn is_capital(b: u8) -> bool
     ensures { result ≡ is_capital b }
 {
-    if b < b'A' {
-        return false;
-    }
-    b <= b'Z'
-}
-
-// A name whose record begins at a place of the block: empty, it is told there; with a colon first it is left to the section's rules.
-fn name_spot<'a>(table: &'a [u8; 256], name: &'a [u8], at: usize) -> Spot
-    requires { T (all_right table.now) × (at + 6 + length name.now < 2 ^ 64) }
-    ensures { spot_of result ≡ name_spot_at at name.now }
-{
-    if begins_with(name, b':') {
-        return Spot::Nowhere;
-    }
-    if name.len() == 0 {
-        return Spot::EmptyName(at);
-    }
-    let i = inside(table, name, Class::Name);
-    if i < name.len() {
-        if is_capital(name[i]) {
-            return Spot::Capital(at + 6 + i);
-        }
-        return Spot::BadInName(at + 6 + i);
-    }
-    Spot::Nowhere
-}
-
-// A value from a place of the block on: the lowest of a blank first byte, a byte that no value holds, a blank last byte.
-fn value_spot<'a>(table: &'a [u8; 256], value: &'a [u8], from: usize) -> Spot
-    requires { T (all_right table.now) × (from + length value.now < 2 ^ 64) }
-    ensures { spot_of result ≡ value_spot_at from value.now }
-{
-    if value.len() == 0 {
-        return Spot::Nowhere;
-    }
-    if blank(value[0]) {
-        return Spot::BlankAtEnd(from);
-    }
-    let i = inside(table, value, Class::Value);
-    if i < value.len() {
-        return Spot::BadInValue(from + i);
-    }
-    if blank(value[value.len() - 1]) {
-        return Spot::BlankAtEnd(from + value.len() - 1);
-    }
-    Spot::Nowhere
-}
-
-// The name and value check of a line whose record begins at a place of the block.
-pub fn line_spot<'a>(table: &'a [u8; 256], name: &'a [u8], value: &'a [u8], at: usize) -> Spot
-    requires { T (all_right table.now) × (at + 6 + (length name.now + length value.now) < 2 ^ 64) }
-    ensures { spot_of result ≡ line_spot_at at name.now value.now }
-{
-    let found = name_spot(table, name, at);
-    if is_somewhere(found) {
-        return found;
-    }
-    value_spot(table, value, at + 6 + name.len())
-}
-
-// Whether a line's bytes break one of them.
-pub fn bad_line<'a>(table: &'a [u8; 256], name: &'a [u8], value: &'a [u8]) -> bool
-    requires { T (all_right table.now) × (6 + (length name.now + length value.now) < 2 ^ 64) }
-    ensures { result ≡ (bad_name_bytes name.now || bad_value_bytes value.now) }
-{
-    is_somewhere(line_spot(table, name, value, 0))
+    b.is_ascii_uppercase()
 }
 
 // Stands for every number above 2^62-1, so that a long row of digits never overflows.
 const ABOVE: u64 = 4_611_686_018_427_387_904;
 
-fn digit_of(b: u8) -> u8
-    ensures { result ≡ b - 0x30 }
-{
-    if b < b'0' { 0 } else { b - b'0' }
-}
-
 fn with_digit(total: u64, b: u8) -> u64
-    requires { total ≤ 2 ^ 62 }
     ensures { result ≡ capped (total * 10 + (b - 0x30)) }
 {
-    if ABOVE / 10 < total {
-        return ABOVE;
-    }
-    let next = total * 10 + digit_of(b) as u64;
-    if next < ABOVE { next } else { ABOVE }
+    total
+        .saturating_mul(10)
+        .saturating_add(u64::from(b.saturating_sub(b'0')))
+        .min(ABOVE)
 }
 
 pub fn decimal_of(v: &[u8]) -> u64
     ensures { result ≡ capped (decimal v.now) }
 {
-    let mut total: u64 = 0;
-    let mut i = 0;
-    while i < v.len() {
-        total = with_digit(total, v[i]);
-        i += 1;
-    }
-    total
+    v.iter().fold(0, |total, &b| with_digit(total, b))
 }
 
-// What is at a place of a block: a field line, with where its name, its value and the next record begin.
-#[derive(Clone, Copy)]
-pub enum Record {
-    End,
-    Unreadable,
-    Line {
-        name: usize,
-        value: usize,
-        next: usize,
-    },
+// A field line of a block: where its name, its value and the next record begin.
+#[derive(Clone, Copy, Debug, PartialEq, Eq)]
+pub struct Line {
+    pub name: usize,
+    pub value: usize,
+    pub next: usize,
 }
+
+// The bytes at a place of a block are no record of a field line.
+#[derive(Clone, Copy, Debug, PartialEq, Eq)]
+pub struct Unreadable;
+
+// The one kind of record.
+const FIELD_LINE: usize = 1;
 
 fn number_at(block: &[u8], at: usize) -> usize
     requires { at + 1 < length block.now }
     ensures { result ≡ little (get_or block.now at 0) (get_or block.now (at + 1) 0) }
 {
-    block[at] as usize + 256 * (block[at + 1] as usize)
+    u16::from_le_bytes([block[at], block[at + 1]]) as usize
 }
 
-// A record: the length of what follows, the kind (1), the name's length, name, value.
-pub fn line_at(block: &[u8], at: usize) -> Record
+// The record at a place of a block, none at the block's end: the length of what follows, the kind, the name's length, name, value.
+pub fn line_at(block: &[u8], at: usize) -> Result<Option<Line>, Unreadable>
     ensures { result ≡ record_at block.now at }
 {
     if block.len() <= at {
-        return Record::End;
+        return Ok(None);
     }
     let left = block.len() - at;
     if left < 6 {
-        return Record::Unreadable;
+        return Err(Unreadable);
     }
     let len = number_at(block, at);
-    if len < 4 {
-        return Record::Unreadable;
-    }
-    if left - 2 < len {
-        return Record::Unreadable;
-    }
-    if number_at(block, at + 2) != 1 {
-        return Record::Unreadable;
-    }
+    let kind = number_at(block, at + 2);
     let named = number_at(block, at + 4);
-    if len - 4 < named {
-        return Record::Unreadable;
+    if len < 4 || left - 2 < len || kind != FIELD_LINE || len - 4 < named {
+        return Err(Unreadable);
     }
-    Record::Line {
+    Ok(Some(Line {
         name: at + 6,
         value: at + 6 + named,
         next: at + 2 + len,
-    }
+    }))
 }

@@ -9,6 +9,8 @@ use Rattle.rules.specs.Writer.{Write, refused, wrote, write_integer, write_heade
 use Rattle.varint.specs.Write.{left_in}
 use Rattle.listing.specs.Text.{decimal}
 use Rattle.script.specs.Words.{hex_word}
+use Rattle.script.specs.declared.Writing.{Writing}
+use Rattle.script.specs.declared.Writing.TheVariants.{Header, IntegerFrame, Integer, Opening}
 use Rattle.record.specs.declared.Record.{Record}
 use Rattle.control.specs.declared.Kept.{Kept}
 use Rattle.connection.specs.declared.doors.Doors.{Doors}
@@ -72,14 +74,11 @@ start_line number = head_text number 0 0 ++ (ascii "-" ++ line_feed)
 unfoldable pub written_line : (number count : ℕ) (buffer : List ℕ) → List ℕ
 written_line number count buffer = head_text number 0 0 ++ ascii "written" ++ blank count ++ ascii " " ++ hex_word buffer ++ line_feed
 
--- which write a letter means
-unfoldable pub pick_write : Bool → Write → Write → Write
-pick_write true a b = a
-pick_write false a b = b
-
-unfoldable pub write_of : (letter a b room : ℕ) → Write
-write_of letter a b room =
-    pick_write (eqb letter 87) (write_header room a b) (pick_write (eqb letter 73) (write_integer_frame room a b) (pick_write (eqb letter 78) (write_integer room a) (write_opening room)))
+unfoldable pub write_of : Writing → (a b room : ℕ) → Write
+write_of Header a b room = write_header room a b
+write_of IntegerFrame a b room = write_integer_frame room a b
+write_of Integer a b room = write_integer room a
+write_of Opening a b room = write_opening room
 
 unfoldable pub write_line : Write → (before : List ℕ) → List ℕ
 write_line (refused number) before = written_line number 0 (left_in (refused number) before)

@@ -1,5 +1,5 @@
 -- WHAT A LINE LEAVES AND PRINTS: the lent call that its letter means, and the line of what the call answered. Assumes nothing.
-use Rattle.std.specs.Prelude.{Option, Some, None, Bool, eqb, ℕ, ◌+◌, zero, suc, ◌≤◌, ◌<◌, ◌≡◌, refl, List, [], ◌∷◌, true, false, length, take, replicate}
+use Rattle.std.specs.Prelude.{Option, Some, None, Bool, eqb, ℕ, ◌+◌, zero, suc, ◌≤◌, ◌<◌, ◌≡◌, refl, List, [], ◌∷◌, true, false, length, take, replicate, unwrap_or}
 use Rattle.std.proofs.Common.{ap, subst, ◌∙◌, arith}
 use Rattle.std.proofs.lemmas.List.{length-replicate}
 use Rattle.std.proofs.lemmas.Bool.{eqb-true, eqb-false}
@@ -16,6 +16,8 @@ use Rattle.connection.specs.declared.Written.{Written}
 use Rattle.calls.specs.Lent.{Stepped, Started, SaidGoaway}
 use Rattle.script.specs.Words.{LineAt}
 use Rattle.script.specs.declared.Line.{Line}
+use Rattle.script.specs.declared.Verb.{Verb}
+use Rattle.script.specs.declared.Writing.{Writing}
 use Rattle.replaying.specs.Lines.{start_line, report_line, written_line, write_of, write_line, read_line, state_line, bad_line, long_line}
 use Rattle.replaying.specs.Puts.{Puts}
 use Rattle.replaying.specs.declared.Pair.{Pair}
@@ -49,27 +51,31 @@ abbrev pub filled : ℕ → List ℕ
 filled n = replicate n 170
 
 pub data Writes (p : Pair) (l : Line) (q : Pair) (text : List ℕ) : Type 0 where
-  our_goaway : l.letter ≡ 71 → Says p l.a (filled l.room) q text → Writes p l q text
-  other_write : (l.letter ≡ 71 → ⊥) → q ≡ p → text ≡ write_line (write_of l.letter l.a l.b l.room) (filled l.room) → Writes p l q text
+  our_goaway : l.verb ≡ Verb.Goaway → Says p l.a (filled l.room) q text → Writes p l q text
+  other_write : (w : Writing) → l.verb ≡ Verb.Write w → q ≡ p → text ≡ write_line (write_of w l.a l.b l.room) (filled l.room) → Writes p l q text
 
--- THE CALL OF A LINE: S, O, F, H, E, R, V, D, and the writes
+-- how many free records a line is lent; 24: the kept row
+abbrev pub row_of : Line → ℕ
+row_of l = unwrap_or l.row 24
+
+-- THE CALL OF A LINE
 pub data Plays (p : Pair) (l : Line) (piece : List ℕ) (q : Pair) (text : List ℕ) : Type 0 where
-  starts : l.letter ≡ 83 → Starts p l.row q text → Plays p l piece q text
-  opens : l.letter ≡ 79 → Steps p l.row Call.Open l.a l.b piece q text → Plays p l piece q text
-  feeds : l.letter ≡ 70 → Steps p l.row (Call.On Own.Feed) l.a l.b piece q text → Plays p l piece q text
-  gives : l.letter ≡ 72 → Steps p l.row (Call.On Own.Give) l.a l.b piece q text → Plays p l piece q text
-  ends : l.letter ≡ 69 → Steps p l.row (Call.On Own.End) l.a l.b piece q text → Plays p l piece q text
-  resets : l.letter ≡ 82 → Steps p l.row (Call.On Own.Reset) l.a l.b piece q text → Plays p l piece q text
-  reads : l.letter ≡ 86 → q ≡ p → text ≡ read_line (integer 0 piece) → Plays p l piece q text
-  shows : l.letter ≡ 68 → q ≡ p → text ≡ state_line p.conn (kept p) → Plays p l piece q text
+  starts : l.verb ≡ Verb.Start → Starts p (row_of l) q text → Plays p l piece q text
+  opens : l.verb ≡ Verb.Open → Steps p (row_of l) Call.Open l.a l.b piece q text → Plays p l piece q text
+  feeds : l.verb ≡ Verb.Feed → Steps p (row_of l) (Call.On Own.Feed) l.a l.b piece q text → Plays p l piece q text
+  gives : l.verb ≡ Verb.Give → Steps p (row_of l) (Call.On Own.Give) l.a l.b piece q text → Plays p l piece q text
+  ends : l.verb ≡ Verb.End → Steps p (row_of l) (Call.On Own.End) l.a l.b piece q text → Plays p l piece q text
+  resets : l.verb ≡ Verb.Reset → Steps p (row_of l) (Call.On Own.Reset) l.a l.b piece q text → Plays p l piece q text
+  reads : l.verb ≡ Verb.Value → q ≡ p → text ≡ read_line (integer 0 piece) → Plays p l piece q text
+  shows : l.verb ≡ Verb.State → q ≡ p → text ≡ state_line p.conn (kept p) → Plays p l piece q text
   writes : Writes p l q text → Plays p l piece q text
 
 -- A LINE OF A RUN: the script is too long, or at its end; the line is no call; or its call is made
 pub data Runs (script : List ℕ) (at : ℕ) (p : Pair) (before after : List ℕ) (r : Option Step) (text : List ℕ) : Type 0 where
   too_long : 1048576 < length script → r ≡ None → text ≡ long_line → Runs script at p before after r text
   at_end : length script ≤ at → r ≡ None → text ≡ [] → Runs script at p before after r text
-  bad : (l : Line) → LineAt at before l after → l.letter ≡ 0 → r ≡ None → text ≡ bad_line → Runs script at p before after r text
-  plays : (l : Line) (q : Pair) → LineAt at before l after → 0 < l.letter → Plays p l (take l.count after) q text → r ≡ Some (record { pair = q; at = l.next }) → Runs script at p before after r text
+  bad : LineAt at before None after → r ≡ None → text ≡ bad_line → Runs script at p before after r text
+  plays : (l : Line) (q : Pair) → LineAt at before (Some l) after → Plays p l (take l.count after) q text → r ≡ Some (record { pair = q; at = l.next }) → Runs script at p before after r text
 
 -- a text that says so is put from a place of the room on
 pub record Lined (Tells : List ℕ → Type 0) (room : List ℕ) (to : ℕ) (after : Text) : Type 0 where
@@ -137,12 +143,12 @@ module _ (p : Pair) (l : Line) (b : List ℕ) (h : l.room ≤ 64) (e : b ≡ rep
   in_filled : take l.room b ≡ filled l.room
   in_filled = ap (take l.room) e ∙ take_replicate l.room 64 170 h
 
-  pub goaway_in : {q : Pair} {room : List ℕ} {to : ℕ} {after : Text} → l.letter ≡ 71 → Lined (Says p l.a (take l.room b) q) room to after → Lined (Writes p l q) room to after
+  pub goaway_in : {q : Pair} {room : List ℕ} {to : ℕ} {after : Text} → l.verb ≡ Verb.Goaway → Lined (Says p l.a (take l.room b) q) room to after → Lined (Writes p l q) room to after
   goaway_in {q} g s = told (λ t y. our_goaway g (subst (λ x. Says p l.a x q t) in_filled y)) s
 
-  pub write_in : {room : List ℕ} {to most : ℕ} {after : Text} → (l.letter ≡ 71 → ⊥) → Puts room to (write_line (write_of l.letter l.a l.b (length (take l.room b))) (take l.room b)) most after.room after.length
+  pub write_in : {room : List ℕ} {to most : ℕ} {after : Text} {w : Writing} → l.verb ≡ Verb.Write w → Puts room to (write_line (write_of w l.a l.b (length (take l.room b))) (take l.room b)) most after.room after.length
       → Lined (Writes p l p) room to after
-  write_in w y =
+  write_in v y =
       let t = in_filled in
       let k = length-replicate {A = ℕ} l.room 170 in
-      lined (other_write w refl (rw (t, k) refl)) y
+      lined (other_write _ v refl (rw (t, k) refl)) y

@@ -1,7 +1,7 @@
 // The lines of `replay`: a script's calls made one by one, and a line printed for each.
 #![tactic(auto)]
 
-ghost use Rattle.std.specs.Prelude.{◌≡◌, ◌+◌, ◌*◌, ◌<◌, ◌≤◌, [], ◌∷◌, ◌++◌, length, take, replicate};
+ghost use Rattle.std.specs.Prelude.{◌≡◌, ◌+◌, ◌*◌, ◌<◌, ◌≤◌, [], ◌∷◌, ◌++◌, length, take, replicate, IfSome};
 ghost use Rattle.rules.specs.Integers.{integer};
 ghost use Rattle.varint.specs.Write.{Meets};
 ghost use Rattle.listing.specs.Text.{decimal};
@@ -16,7 +16,7 @@ use connection::{Call, Connection, Own, Report};
 use control::Kept;
 use listing::Text;
 use record::Record;
-use script::Line;
+use script::{Line, Verb, Writing};
 use varint::{Whole, Wrote};
 
 // A longer script is not played.
@@ -352,22 +352,22 @@ fn told_goaway(text: &mut Text, pair: Pair, id: u64, buffer: &mut [u8]) -> Pair
 }
 
 // The other writes.
-fn wrote(letter: u8, a: u64, b: u64, buffer: &mut [u8]) -> Wrote
-    ensures { Meets (write_of letter a b (length buffer.old)) buffer.old result buffer.new }
+fn wrote(writing: Writing, a: u64, b: u64, buffer: &mut [u8]) -> Wrote
+    ensures { Meets (write_of writing a b (length buffer.old)) buffer.old result buffer.new }
 {
-    match letter {
-        b'W' => wire::write_header(a, b, buffer),
-        b'I' => wire::write_integer_frame(a, b, buffer),
-        b'N' => varint::write(a, buffer),
-        _ => wire::write_opening(buffer),
+    match writing {
+        Writing::Header => wire::write_header(a, b, buffer),
+        Writing::IntegerFrame => wire::write_integer_frame(a, b, buffer),
+        Writing::Integer => varint::write(a, buffer),
+        Writing::Opening => wire::write_opening(buffer),
     }
 }
 
-fn written(text: &mut Text, letter: u8, a: u64, b: u64, buffer: &mut [u8])
+fn written(text: &mut Text, writing: Writing, a: u64, b: u64, buffer: &mut [u8])
     requires { HasLine text.old × (length buffer.old ≤ 64) }
-    ensures { Adds text.old (write_line (write_of letter a b (length buffer.old)) buffer.old) 221 text.new }
+    ensures { Adds text.old (write_line (write_of writing a b (length buffer.old)) buffer.old) 221 text.new }
 {
-    match wrote(letter, a, b, buffer) {
+    match wrote(writing, a, b, buffer) {
         Wrote::Refused(code) => written_line(text, code, 0, buffer),
         Wrote::Count(count) => written_line(text, 0, count as u64, buffer),
     }
@@ -380,17 +380,21 @@ fn filled() -> [u8; BUFFER]
     [170; BUFFER]
 }
 
-// A write into a buffer.
-fn buffered(text: &mut Text, pair: Pair, l: Line) -> Pair
-    requires { HasLine text.old × (l.room ≤ 64) }
+// A GOAWAY, and a write, into a buffer of the line's size.
+fn goaway(text: &mut Text, pair: Pair, l: Line) -> Pair
+    requires { HasLine text.old × (l.room ≤ 64) × (l.verb ≡ Verb.Goaway) }
     ensures { Prints (Writes pair l result) text.old text.new }
 {
     let mut buffer = filled();
-    if l.letter == b'G' {
-        return told_goaway(text, pair, l.a, &mut buffer[..l.room]);
-    }
-    written(text, l.letter, l.a, l.b, &mut buffer[..l.room]);
-    pair
+    told_goaway(text, pair, l.a, &mut buffer[..l.room])
+}
+
+fn buffered(text: &mut Text, pair: Pair, l: Line, writing: Writing)
+    requires { HasLine text.old × (l.room ≤ 64) × (l.verb ≡ Verb.Write writing) }
+    ensures { Prints (Writes pair l pair) text.old text.new }
+{
+    let mut buffer = filled();
+    written(text, writing, l.a, l.b, &mut buffer[..l.room]);
 }
 
 fn value(text: &mut Text, bytes: &[u8])
@@ -405,25 +409,30 @@ fn value(text: &mut Text, bytes: &[u8])
 
 // The call of a line, and what the pair is behind it.
 fn play(text: &mut Text, pair: Pair, l: Line, piece: &[u8]) -> Pair
-    requires { HasLine text.old × (l.row ≤ 32) × (l.room ≤ 64) }
+    requires { HasLine text.old × IfSome l.row (λ n. n ≤ 32) × (l.room ≤ 64) }
     ensures { Prints (Plays pair l piece.now result) text.old text.new }
 {
-    match l.letter {
-        b'S' => started(text, pair, l.row),
-        b'O' => streamed(text, pair, l.row, Call::Open, l.a, l.b, piece),
-        b'F' => streamed(text, pair, l.row, Call::On(Own::Feed), l.a, l.b, piece),
-        b'H' => streamed(text, pair, l.row, Call::On(Own::Give), l.a, l.b, piece),
-        b'E' => streamed(text, pair, l.row, Call::On(Own::End), l.a, l.b, piece),
-        b'R' => streamed(text, pair, l.row, Call::On(Own::Reset), l.a, l.b, piece),
-        b'V' => {
+    let row = l.row.unwrap_or(KEPT as u64);
+    match l.verb {
+        Verb::Start => started(text, pair, row),
+        Verb::Open => streamed(text, pair, row, Call::Open, l.a, l.b, piece),
+        Verb::Feed => streamed(text, pair, row, Call::On(Own::Feed), l.a, l.b, piece),
+        Verb::Give => streamed(text, pair, row, Call::On(Own::Give), l.a, l.b, piece),
+        Verb::End => streamed(text, pair, row, Call::On(Own::End), l.a, l.b, piece),
+        Verb::Reset => streamed(text, pair, row, Call::On(Own::Reset), l.a, l.b, piece),
+        Verb::Value => {
             value(text, piece);
             pair
         }
-        b'D' => {
+        Verb::State => {
             state_line(text, pair.conn, pair.rows);
             pair
         }
-        _ => buffered(text, pair, l),
+        Verb::Goaway => goaway(text, pair, l),
+        Verb::Write(writing) => {
+            buffered(text, pair, l, writing);
+            pair
+        }
     }
 }
 
@@ -456,11 +465,10 @@ pub fn next(script: &[u8], step: Step, scratch: &mut [u8], text: &mut Text) -> O
     if script.len() <= step.at {
         return None;
     }
-    let l = script::line_at(script, step.at, scratch);
-    if l.letter == 0 {
+    let Some(l) = script::line_at(script, step.at, scratch) else {
         text.put(b"bad line\n");
         return None;
-    }
+    };
     Some(Step {
         pair: play(text, step.pair, l, &scratch[..l.count]),
         at: l.next,

@@ -2,7 +2,6 @@
 #![tactic(auto)]
 
 use control::settings::{Judged, SectionSize, Settings, Single};
-use fields::Record;
 use section::{HeaderAnswer, Stated, TrailerAnswer};
 use std::io;
 use varint::{Whole, Wrote};
@@ -270,13 +269,13 @@ fn place(rt: &impl Print, at: usize) -> io::Result<()> {
 fn line(rt: &impl Print, block: &[u8], at: usize) -> io::Result<()> {
     place(rt, at)?;
     match fields::line_at(block, at) {
-        Record::End => text(rt, b"end\n"),
-        Record::Unreadable => text(rt, b"unreadable\n"),
-        Record::Line { name, value, next } => shown(
+        Ok(None) => text(rt, b"end\n"),
+        Err(_) => text(rt, b"unreadable\n"),
+        Ok(Some(line)) => shown(
             rt,
-            &block[name..value],
-            &block[value..next],
-            next,
+            &block[line.name..line.value],
+            &block[line.value..line.next],
+            line.next,
         ),
     }
 }

@@ -3,12 +3,7 @@ use Rattle.std.specs.Prelude.{ℕ, suc, ◌+◌, ◌*◌, ◌-◌, ◌≤◌, �
 use Rattle.std.proofs.Common.{ap, sym, ◌∙◌, add-one, arith, length-drop, take-suc, take-suc-set, get_or-drop, lt-ltb, le-ltb}
 use Rattle.listing.specs.Text.{decimal}
 use Rattle.listing.specs.Put.{one_digit, last_digit}
-use Rattle.script.specs.Words.{hex_digit, hexes, hex_word, between, Spelt, NumberAt, Decoded, BytesAt, no_line, EndedAs, LineAt}
-use Rattle.script.specs.declared.Number.{Number}
-use Rattle.script.specs.declared.Number.TheVariants.{Is}
-use Rattle.script.specs.declared.Bytes.{Bytes}
-use Rattle.script.specs.declared.Bytes.TheVariants.{Are}
-use Rattle.script.specs.declared.Line.{Line}
+use Rattle.script.specs.Words.{hex_digit, hexes, hex_word, between}
 
 -- ---- digits
 
@@ -75,26 +70,3 @@ no_bytes s at = let z : at - at ≡ 0 = omega arith in rw z refl
 pub dash : (s : List ℕ) (at : ℕ) → at < length s → get_or s at 0 ≡ 45 → between s at (at + 1) ≡ hex_word []
 unfolding hex_word
 dash s at h e = let z : at - at ≡ 0 = omega arith in one_more s at at (omega arith) h ∙ rw (z, e) refl
-
--- ---- lines
-
-pub nothing_at : {at : ℕ} {before after : List ℕ} {r : Line} → r ≡ no_line → length after ≡ length before → LineAt at before r after
-nothing_at e s = rw e (record { same = s; room = omega arith; count = omega arith; row = omega arith; on = λ h. absurd (omega arith) })
-
-pub ended_at : {at : ℕ} {before after : List ℕ} {l r : Line} → EndedAs l r → at ≤ l.next → l.room ≤ 64 → l.count ≤ length after → length after ≡ length before → LineAt at before r after
-ended_at e a b c s =
-    let p = e.room in
-    let q = e.count in
-    record { same = s; room = omega arith; count = omega arith; row = e.row; on = λ h. let n = e.on h in omega arith }
-
--- a line from an earlier place
-pub from_at : {at to : ℕ} {before after : List ℕ} {r : Line} → LineAt to before r after → at ≤ to → LineAt at before r after
-from_at l h = record { same = l.same; room = l.room; count = l.count; row = l.row; on = λ g. let n = l.on g in omega arith }
-
--- ---- an answer by its case
-
-pub spelt_out : {s : List ℕ} {at value next : ℕ} {r : Number} → NumberAt s at r → r ≡ Is value next → Spelt s at value next
-spelt_out n e = rw e at n
-
-pub decoded : {s before after : List ℕ} {at count next : ℕ} {r : Bytes} → BytesAt s at before r after → r ≡ Are count next → Decoded s at count next after
-decoded b e = let d = b.is in rw e at d

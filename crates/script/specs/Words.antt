@@ -1,25 +1,19 @@
 -- The words of a script's line, and what is known of a line that was read. Assumes nothing.
-use Rattle.std.specs.Prelude.{ℕ, ◌+◌, ◌-◌, ◌≤◌, ◌<◌, ◌/◌, ◌%◌, ◌≡◌, List, [], ◌∷◌, true, false, ltb, length, take, drop}
+use Rattle.std.specs.Prelude.{ℕ, ◌+◌, ◌-◌, ◌≤◌, ◌<◌, ◌/◌, ◌%◌, ◌≡◌, List, [], ◌∷◌, true, false, ltb, length, take, drop, Option, IfSome}
 use Rattle.listing.specs.Text.{decimal}
-use Rattle.script.specs.declared.Number.{Number}
-use Rattle.script.specs.declared.Number.TheVariants.{Is, Nothing}
-use Rattle.script.specs.declared.Bytes.{Bytes}
-use Rattle.script.specs.declared.Bytes.TheVariants.{Are, Nothing as Unspelt}
-use Rattle.script.specs.declared.Values.{Values}
+use Rattle.script.specs.declared.Word.{Word}
 use Rattle.script.specs.declared.Line.{Line}
 
--- a byte as a decimal digit; 10: it is none
-pub record DigitIs (b r : ℕ) : Type 0 where
-  pub most : r ≤ 10
-  pub is : r < 10 → b ≡ 48 + r
+-- a byte as a decimal digit
+abbrev pub DigitIs : (b : ℕ) → Option ℕ → Type 0
+DigitIs b r = IfSome r (λ d. (d < 10) × (b ≡ 48 + d))
 
 -- a hexadecimal digit
 unfoldable pub hex_digit : ℕ → ℕ
 hex_digit n = elim (ltb n 10) [ true ↦ 48 + n | false ↦ 87 + n ]
 
-pub record HalfIs (b r : ℕ) : Type 0 where
-  pub most : r ≤ 16
-  pub is : r < 16 → b ≡ hex_digit r
+abbrev pub HalfIs : (b : ℕ) → Option ℕ → Type 0
+HalfIs b r = IfSome r (λ d. (d < 16) × (b ≡ hex_digit d))
 
 -- bytes, two digits each
 unfoldable pub hexes : List ℕ → List ℕ
@@ -40,9 +34,8 @@ pub record Spelt (s : List ℕ) (at value next : ℕ) : Type 0 where
   pub within : next ≤ length s
   pub word : between s at next ≡ decimal value
 
-abbrev pub NumberAt : List ℕ → (at : ℕ) → Number → Type 0
-NumberAt s at (Is value next) = Spelt s at value next
-NumberAt s at Nothing = Unit {0}
+abbrev pub NumberAt : List ℕ → (at : ℕ) → Option (Word ℕ) → Type 0
+NumberAt s at r = IfSome r (λ w. Spelt s at w.value w.next)
 
 pub record Decoded (s : List ℕ) (at count next : ℕ) (after : List ℕ) : Type 0 where
   pub on : at < next
@@ -50,31 +43,27 @@ pub record Decoded (s : List ℕ) (at count next : ℕ) (after : List ℕ) : Typ
   pub fits : count ≤ length after
   pub word : between s at next ≡ hex_word (take count after)
 
-abbrev pub Decodes : List ℕ → (at : ℕ) → Bytes → (after : List ℕ) → Type 0
-Decodes s at (Are count next) after = Decoded s at count next after
-Decodes s at Unspelt after = Unit {0}
-
-pub record BytesAt (s : List ℕ) (at : ℕ) (before : List ℕ) (r : Bytes) (after : List ℕ) : Type 0 where
+pub record BytesAt (s : List ℕ) (at : ℕ) (before : List ℕ) (r : Option (Word ℕ)) (after : List ℕ) : Type 0 where
   pub same : length after ≡ length before
-  pub is : Decodes s at r after
+  pub is : IfSome r (λ w. Decoded s at w.value w.next after)
 
-pub record ValuesAt (s : List ℕ) (at : ℕ) (r : Values) : Type 0 where
-  pub on : at ≤ r.next
-  pub within : r.next ≤ length s
+-- a place of the list behind another
+abbrev pub Leads : List ℕ → (at next : ℕ) → Type 0
+Leads s at next = (at ≤ next) × (next ≤ length s)
 
-abbrev pub no_line : Line
-no_line = record { letter = 0; row = 24; a = 0; b = 0; room = 0; count = 0; next = 0 }
+abbrev pub Behind : List ℕ → (at : ℕ) → Option ℕ → Type 0
+Behind s at r = IfSome r (λ next. (next ≡ at + 1) × (next ≤ length s))
 
-pub record EndedAs (l r : Line) : Type 0 where
-  pub row : r.row ≤ 32
-  pub room : r.room ≤ l.room
-  pub count : r.count ≤ l.count
-  pub on : 0 < r.letter → r.next ≡ l.next + 1
+abbrev pub ValuesAt : List ℕ → (at : ℕ) → Option (Word (List ℕ)) → Type 0
+ValuesAt s at r = IfSome r (λ w. Leads s at w.next)
 
 -- what is known of a line that was read: it leads on, its buffer has 64 bytes at most, and its bytes lie within the scratch room
-pub record LineAt (at : ℕ) (before : List ℕ) (r : Line) (after : List ℕ) : Type 0 where
+pub record Holds (at : ℕ) (l : Line) (after : List ℕ) : Type 0 where
+  pub room : l.room ≤ 64
+  pub count : l.count ≤ length after
+  pub row : IfSome l.row (λ n. n ≤ 32)
+  pub on : at < l.next
+
+pub record LineAt (at : ℕ) (before : List ℕ) (r : Option Line) (after : List ℕ) : Type 0 where
   pub same : length after ≡ length before
-  pub room : r.room ≤ 64
-  pub count : r.count ≤ length after
-  pub row : r.row ≤ 32
-  pub on : 0 < r.letter → at < r.next
+  pub line : IfSome r (λ l. Holds at l after)

@@ -1,246 +1,196 @@
 // The script of `replay`: a call a line, its words separated by one space; numbers in decimal, bytes in hexadecimal.
 #![tactic(auto)]
 
-ghost use Rattle.std.specs.Prelude.{◌≡◌, ◌+◌, ◌*◌, ◌<◌, ◌≤◌, length};
-ghost use Rattle.script.specs.Words.{DigitIs, HalfIs, NumberAt, BytesAt, ValuesAt, no_line, EndedAs, LineAt};
+ghost use Rattle.std.specs.Prelude.{◌≡◌, ◌+◌, ◌≤◌, length, IfSome};
+ghost use Rattle.script.specs.Words.{DigitIs, HalfIs, NumberAt, BytesAt, ValuesAt, Behind, LineAt};
 
 // ---- words
 
-#[derive(Clone, Copy)]
-pub enum Number {
-    Is { value: u64, next: usize },
-    Nothing,
+// What a word means, and where it ends.
+#[derive(Clone, Copy, Debug, PartialEq, Eq)]
+struct Word<T> {
+    value: T,
+    next: usize,
 }
 
-#[derive(Clone, Copy)]
-pub enum Bytes {
-    Are { count: usize, next: usize },
-    Nothing,
-}
-
-fn wide(x: u8) -> u64
-    ensures { result ≡ x }
-{
-    x as u64
-}
-
-// What a decimal digit means; 10: the byte is none.
-fn digit(b: u8) -> u64
+// What a decimal digit means.
+fn digit(b: u8) -> Option<u8>
     ensures { DigitIs b result }
 {
-    let x = wide(b);
-    if x < 48 {
-        return 10;
+    match b {
+        b'0'..=b'9' => Some(b - b'0'),
+        _ => None,
     }
-    if 57 < x {
-        return 10;
-    }
-    x - 48
 }
 
-// What a hexadecimal digit means; 16: the byte is none.
-fn half(b: u8) -> u64
+// What a hexadecimal digit means.
+fn half(b: u8) -> Option<u8>
     ensures { HalfIs b result }
 {
-    let x = wide(b);
-    if x < 48 {
-        return 16;
+    match b {
+        b'0'..=b'9' => Some(b - b'0'),
+        b'a'..=b'f' => Some(b - b'a' + 10),
+        _ => None,
     }
-    if x < 58 {
-        return x - 48;
-    }
-    if x < 97 {
-        return 16;
-    }
-    if 102 < x {
-        return 16;
-    }
-    x - 87
 }
 
 // The number at a place: every digit that is there. None has a leading zero, or is above 2^64-1.
-fn number_at(s: &[u8], at: usize) -> Number
+fn number_at(s: &[u8], at: usize) -> Option<Word<u64>>
     ensures { NumberAt s.now at result }
 {
-    if s.len() <= at {
-        return Number::Nothing;
-    }
-    let first = digit(s[at]);
-    if 9 < first {
-        return Number::Nothing;
-    }
+    let first = digit(*s.get(at)?)?;
+    let mut value = u64::from(first);
+    let mut next = at + 1;
     if first == 0 {
-        return Number::Is {
-            value: 0,
-            next: at + 1,
+        return Some(Word { value, next });
+    }
+    while next < s.len() {
+        let Some(more) = digit(s[next]) else {
+            break;
         };
+        value = value.checked_mul(10)?.checked_add(u64::from(more))?;
+        next += 1;
     }
-    let mut value = first;
-    let mut i = at + 1;
-    while i < s.len() {
-        let d = digit(s[i]);
-        if 9 < d {
-            return Number::Is { value, next: i };
-        }
-        if 1844674407370955161 < value {
-            return Number::Nothing;
-        }
-        if 18446744073709551615 - value * 10 < d {
-            return Number::Nothing;
-        }
-        value = value * 10 + d;
-        i += 1;
-    }
-    Number::Is { value, next: i }
+    Some(Word { value, next })
 }
 
-// A byte of two digits, each below 16.
-fn byte(high: u64, low: u64) -> u8
-    requires { (high < 16) × (low < 16) }
-    ensures { result ≡ 16 * high + low }
-{
-    (16 * high + low) as u8
-}
-
-// The bytes at a place, two digits each, stored from the start of the room on; `-` for none.
-fn bytes_at(s: &[u8], at: usize, room: &mut [u8]) -> Bytes
+// How many bytes are at a place, two digits each, stored from the start of the room on; `-` for none.
+fn bytes_at(s: &[u8], at: usize, room: &mut [u8]) -> Option<Word<usize>>
     ensures { BytesAt s.now at room.old result room.new }
 {
-    if s.len() <= at {
-        return Bytes::Nothing;
-    }
-    if s[at] == b'-' {
-        return Bytes::Are {
-            count: 0,
+    if *s.get(at)? == b'-' {
+        return Some(Word {
+            value: 0,
             next: at + 1,
-        };
+        });
     }
-    let mut n = 0;
-    let mut i = at;
-    while i < s.len() {
-        let high = half(s[i]);
-        if 15 < high {
+    let mut count = 0;
+    let mut next = at;
+    while next < s.len() {
+        let Some(high) = half(s[next]) else {
             break;
+        };
+        let low = half(*s.get(next + 1)?)?;
+        if room.len() <= count {
+            return None;
         }
-        if s.len() - i < 2 {
-            return Bytes::Nothing;
-        }
-        let low = half(s[i + 1]);
-        if 15 < low {
-            return Bytes::Nothing;
-        }
-        if room.len() <= n {
-            return Bytes::Nothing;
-        }
-        room[n] = byte(high, low);
-        n += 1;
-        i += 2;
+        room[count] = 16 * high + low;
+        count += 1;
+        next += 2;
     }
-    if n == 0 {
-        return Bytes::Nothing;
+    if count == 0 {
+        return None;
     }
-    Bytes::Are { count: n, next: i }
+    Some(Word { value: count, next })
 }
 
 // ---- a line
 
-// A blank, and a number behind it.
-fn spaced(s: &[u8], at: usize) -> Number
-    ensures { NumberAt s.now (at + 1) result }
+// The place behind a blank.
+fn behind_blank(s: &[u8], at: usize) -> Option<usize>
+    ensures { Behind s.now at result }
 {
-    if s.len() <= at {
-        return Number::Nothing;
+    if *s.get(at)? == b' ' {
+        Some(at + 1)
+    } else {
+        None
     }
-    if s[at] != b' ' {
-        return Number::Nothing;
-    }
-    number_at(s, at + 1)
 }
 
-// A blank, and bytes behind it.
-fn spelt(s: &[u8], at: usize, room: &mut [u8]) -> Bytes
-    ensures { BytesAt s.now (at + 1) room.old result room.new }
-{
-    if s.len() <= at {
-        return Bytes::Nothing;
-    }
-    if s[at] != b' ' {
-        return Bytes::Nothing;
-    }
-    bytes_at(s, at + 1, room)
-}
-
-// Up to three numbers. ok 0: they are not all there.
-#[derive(Clone, Copy)]
-struct Values {
-    ok: u64,
-    a: [u64; 3],
-    next: usize,
-}
-
-fn values_at(s: &[u8], at: usize, k: usize) -> Values
-    requires { (k ≤ 3) × (at ≤ length s.now) }
+// Up to three numbers, each behind a blank.
+fn values_at(s: &[u8], at: usize, count: usize) -> Option<Word<[u64; 3]>>
+    requires { at ≤ length s.now }
     ensures { ValuesAt s.now at result }
 {
-    let mut a = [0u64; 3];
-    let mut j = 0;
-    let mut i = at;
-    while j < k {
-        match spaced(s, i) {
-            Number::Nothing => {
-                return Values { ok: 0, a, next: i };
-            }
-            Number::Is { value, next } => {
-                a[j] = value;
-                i = next;
-            }
+    let mut value = [0; 3];
+    let mut next = at;
+    for slot in value.iter_mut().take(count) {
+        let word = number_at(s, behind_blank(s, next)?)?;
+        *slot = word.value;
+        next = word.next;
+    }
+    Some(Word { value, next })
+}
+
+// What is written into a buffer.
+#[derive(Clone, Copy, Debug, PartialEq, Eq)]
+pub enum Writing {
+    Header,
+    IntegerFrame,
+    Integer,
+    Opening,
+}
+
+// What a line asks for: a call, a state or an integer to be shown, or a write into a buffer.
+#[derive(Clone, Copy, Debug, PartialEq, Eq)]
+pub enum Verb {
+    Start,
+    Open,
+    Feed,
+    Give,
+    End,
+    Reset,
+    State,
+    Value,
+    Goaway,
+    Write(Writing),
+}
+
+impl Verb {
+    fn of(letter: u8) -> Option<Verb> {
+        match letter {
+            b'S' => Some(Verb::Start),
+            b'O' => Some(Verb::Open),
+            b'F' => Some(Verb::Feed),
+            b'H' => Some(Verb::Give),
+            b'E' => Some(Verb::End),
+            b'R' => Some(Verb::Reset),
+            b'D' => Some(Verb::State),
+            b'V' => Some(Verb::Value),
+            b'G' => Some(Verb::Goaway),
+            b'W' => Some(Verb::Write(Writing::Header)),
+            b'I' => Some(Verb::Write(Writing::IntegerFrame)),
+            b'N' => Some(Verb::Write(Writing::Integer)),
+            b'C' => Some(Verb::Write(Writing::Opening)),
+            _ => None,
         }
-        j += 1;
     }
-    Values { ok: 1, a, next: i }
-}
 
-// How many numbers a call has; 4: the letter is no call.
-fn numbers(letter: u8) -> usize {
-    match letter {
-        b'S' | b'D' | b'V' => 0,
-        b'O' | b'H' | b'E' | b'R' | b'C' => 1,
-        b'F' | b'G' | b'N' => 2,
-        b'W' | b'I' => 3,
-        _ => 4,
+    // How many numbers come behind the letter.
+    fn numbers(self) -> usize {
+        match self {
+            Verb::Start | Verb::State | Verb::Value => 0,
+            Verb::Open | Verb::Give | Verb::End | Verb::Reset | Verb::Write(Writing::Opening) => 1,
+            Verb::Feed | Verb::Goaway | Verb::Write(Writing::Integer) => 2,
+            Verb::Write(Writing::Header | Writing::IntegerFrame) => 3,
+        }
     }
-}
 
-// Whether bytes come behind the numbers.
-fn has_bytes(letter: u8) -> bool {
-    match letter {
-        b'F' | b'H' | b'V' => true,
-        _ => false,
+    // Whether bytes come behind the numbers.
+    fn has_bytes(self) -> bool {
+        matches!(self, Verb::Feed | Verb::Give | Verb::Value)
     }
-}
 
-// Whether the last number is the size of a buffer, at most 64.
-fn has_room(letter: u8) -> bool {
-    match letter {
-        b'G' | b'W' | b'I' | b'N' | b'C' => true,
-        _ => false,
+    // Whether the last number is the size of a buffer, at most 64.
+    fn has_room(self) -> bool {
+        matches!(self, Verb::Goaway | Verb::Write(_))
     }
-}
 
-// Whether the call is lent a row.
-fn has_row(letter: u8) -> bool {
-    match letter {
-        b'S' | b'O' | b'F' | b'H' | b'E' | b'R' => true,
-        _ => false,
+    // Whether the call is lent a row.
+    fn has_row(self) -> bool {
+        matches!(
+            self,
+            Verb::Start | Verb::Open | Verb::Feed | Verb::Give | Verb::End | Verb::Reset
+        )
     }
 }
 
-// The call that a line holds. letter 0: none. row: how many free records are lent in place of the kept row; 24: the kept row is.
-// a and b: its first numbers. room: the size of a buffer. count: how many bytes are at the start of the scratch room. next: where the next line begins.
-#[derive(Clone, Copy)]
+// What a line holds. row: how many free records are lent in place of the kept row. a and b: its first numbers. room: the size of a buffer.
+// count: how many bytes are at the start of the scratch room. next: where the next line begins.
+#[derive(Clone, Copy, Debug, PartialEq, Eq)]
 pub struct Line {
-    pub letter: u8,
-    pub row: u64,
+    pub verb: Verb,
+    pub row: Option<u64>,
     pub a: u64,
     pub b: u64,
     pub room: usize,
@@ -248,149 +198,79 @@ pub struct Line {
     pub next: usize,
 }
 
-fn none() -> Line
-    ensures { result ≡ no_line }
+// The place behind a line's end.
+fn behind_end(s: &[u8], at: usize) -> Option<usize>
+    requires { at ≤ length s.now }
+    ensures { IfSome result (λ next. next ≡ at + 1) }
 {
-    Line {
-        letter: 0,
-        row: 24,
-        a: 0,
-        b: 0,
-        room: 0,
-        count: 0,
-        next: 0,
-    }
-}
-
-// The size of the buffer, the last of k numbers.
-fn room_of(letter: u8, k: usize, a: [u64; 3]) -> u64 {
-    if has_room(letter) {
-        if k == 1 {
-            a[0]
-        } else if k == 2 {
-            a[1]
-        } else {
-            a[2]
-        }
-    } else {
-        0
-    }
-}
-
-fn ends(s: &[u8], at: usize) -> bool {
-    if s.len() <= at {
-        return true;
-    }
-    if s[at] == b'\n' { true } else { false }
-}
-
-// The line's words go up to its `next`: its end has to be there.
-fn ended(s: &[u8], l: Line) -> Line
-    requires { (l.next ≤ length s.now) × (l.row ≤ 32) }
-    ensures { EndedAs l result }
-{
-    if ends(s, l.next) {
-        Line {
-            letter: l.letter,
-            row: l.row,
-            a: l.a,
-            b: l.b,
-            room: l.room,
-            count: l.count,
-            next: l.next + 1,
-        }
-    } else {
-        none()
+    match s.get(at) {
+        None | Some(b'\n') => Some(at + 1),
+        Some(_) => None,
     }
 }
 
 // The call at a place, up to the line's end.
-fn call(s: &[u8], at: usize, row: u64, scratch: &mut [u8]) -> Line
-    requires { row ≤ 32 }
+fn call(s: &[u8], at: usize, row: Option<u64>, scratch: &mut [u8]) -> Option<Line>
+    requires { IfSome row (λ n. n ≤ 32) }
     ensures { LineAt at scratch.old result scratch.new }
 {
-    if s.len() <= at {
-        return none();
-    }
-    let letter = s[at];
-    let k = numbers(letter);
-    if 3 < k {
-        return none();
-    }
-    let v = values_at(s, at + 1, k);
-    if v.ok == 0 {
-        return none();
-    }
-    let a = v.a;
-    let room = room_of(letter, k, a);
-    if 64 < room {
-        return none();
-    }
-    if has_bytes(letter) {
-        match spelt(s, v.next, scratch) {
-            Bytes::Nothing => none(),
-            Bytes::Are { count, next } => ended(
-                s,
-                Line {
-                    letter,
-                    row,
-                    a: a[0],
-                    b: a[1],
-                    room: room as usize,
-                    count,
-                    next,
-                },
-            ),
+    let verb = Verb::of(*s.get(at)?)?;
+    let count = verb.numbers();
+    let numbers = values_at(s, at + 1, count)?;
+    let [a, b, last] = numbers.value;
+    let room = if verb.has_room() {
+        match count {
+            1 => a,
+            2 => b,
+            _ => last,
         }
     } else {
-        ended(
-            s,
-            Line {
-                letter,
-                row,
-                a: a[0],
-                b: a[1],
-                room: room as usize,
-                count: 0,
-                next: v.next,
-            },
-        )
+        0
+    };
+    if 64 < room {
+        return None;
     }
+    let bytes = if verb.has_bytes() {
+        bytes_at(s, behind_blank(s, numbers.next)?, scratch)?
+    } else {
+        Word {
+            value: 0,
+            next: numbers.next,
+        }
+    };
+    Some(Line {
+        verb,
+        row,
+        a,
+        b,
+        room: room as usize,
+        count: bytes.value,
+        next: behind_end(s, bytes.next)?,
+    })
 }
 
 // The same, lent a row of n free records, n from 0 to 32 and not 24.
-fn lent(s: &[u8], at: usize, n: u64, scratch: &mut [u8]) -> Line
+fn lent(s: &[u8], at: usize, n: u64, scratch: &mut [u8]) -> Option<Line>
     ensures { LineAt at scratch.old result scratch.new }
 {
-    if 32 < n {
-        return none();
+    if 32 < n || n == 24 {
+        return None;
     }
-    if n == 24 {
-        return none();
+    let line = call(s, behind_blank(s, at)?, Some(n), scratch)?;
+    if line.verb.has_row() {
+        Some(line)
+    } else {
+        None
     }
-    if s.len() <= at {
-        return none();
-    }
-    if s[at] != b' ' {
-        return none();
-    }
-    let l = call(s, at + 1, n, scratch);
-    if has_row(l.letter) { l } else { none() }
 }
 
 // The line at a place.
-pub fn line_at(s: &[u8], at: usize, scratch: &mut [u8]) -> Line
+pub fn line_at(s: &[u8], at: usize, scratch: &mut [u8]) -> Option<Line>
     ensures { LineAt at scratch.old result scratch.new }
 {
-    if s.len() <= at {
-        return none();
+    if *s.get(at)? != b'L' {
+        return call(s, at, None, scratch);
     }
-    if s[at] == b'L' {
-        match spaced(s, at + 1) {
-            Number::Nothing => none(),
-            Number::Is { value, next } => lent(s, next, value, scratch),
-        }
-    } else {
-        call(s, at, 24, scratch)
-    }
+    let free = number_at(s, behind_blank(s, at + 1)?)?;
+    lent(s, free.next, free.value, scratch)
 }

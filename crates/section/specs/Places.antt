@@ -1,6 +1,6 @@
 -- The lines of a block are where they say; so what was collected of a name has its value. Assumes nothing.
 use Prim.Native.Nat.{ℕ, zero, suc, ◌-◌, ◌≤◌, ◌<◌}
-use Rattle.std.specs.Prelude.{◌≡◌, Bool, true, false, cond, get_or}
+use Rattle.std.specs.Prelude.{◌≡◌, Bool, true, false, cond, get_or, Ok, Err, Some, None}
 use Rattle.std.proofs.Math.Path.{refl, sym}
 use Rattle.std.proofs.Common.{ap, ◌∙◌, subst}
 use mathlib.Core.List.{List, [], ◌∷◌}
@@ -9,9 +9,8 @@ use native.Mathlib.Omega.{arith}
 use Rattle.std.proofs.Math.ListN.{length}
 use Rattle.rules.specs.Block.{Line, Section}
 use Rattle.rules.specs.Section.{named, value_of, method_of, holds}
-use Rattle.fields.specs.declared.Record.{Record}
-use Rattle.fields.specs.declared.Record.TheVariants as variant
-use Rattle.fields.specs.Walk.{part, record_at, line_of, by_record, walk, walk_from, held}
+use Rattle.fields.specs.declared.Line as code
+use Rattle.fields.specs.Walk.{Record, part, record_at, line_of, by_record, walk, walk_from, held}
 use Rattle.fields.specs.Lines.{placed}
 use Rattle.section.specs.declared.Facts.{Facts}
 use Rattle.section.specs.Names.{name_at}
@@ -27,25 +26,25 @@ module _ (block : List ℕ) where
   AllSit [] = Unit {0}
   AllSit (l ∷ s) = Sits block l × AllSit s
 
-  pub line_from : (number at name value next : ℕ) → record_at block at ≡ variant.Line name value next → value_from (line_of block number at name value next) ≡ value
-  line_from number at name value next e =
-      let p = placed block at name value next e in
-      let n : length (part name value block) ≡ value - name = length_part block name value (omega arith) in
+  pub line_from : (number at : ℕ) (r : code.Line) → record_at block at ≡ Ok (Some r) → value_from (line_of block number at r.name r.value r.next) ≡ r.value
+  line_from number at r e =
+      let p = placed block at r e in
+      let n : length (part r.name r.value block) ≡ r.value - r.name = length_part block r.name r.value (omega arith) in
       omega arith
 
-  pub line_to : (number at name value next : ℕ) → record_at block at ≡ variant.Line name value next → value_to (line_of block number at name value next) ≡ next
-  line_to number at name value next e =
-      let p = placed block at name value next e in
-      let n : length (part name value block) ≡ value - name = length_part block name value (omega arith) in
-      let v : length (part value next block) ≡ next - value = length_part block value next (omega arith) in
+  pub line_to : (number at : ℕ) (r : code.Line) → record_at block at ≡ Ok (Some r) → value_to (line_of block number at r.name r.value r.next) ≡ r.next
+  line_to number at r e =
+      let p = placed block at r e in
+      let n : length (part r.name r.value block) ≡ r.value - r.name = length_part block r.name r.value (omega arith) in
+      let v : length (part r.value r.next block) ≡ r.next - r.value = length_part block r.value r.next (omega arith) in
       omega arith
 
-  sits : (number at name value next : ℕ) → record_at block at ≡ variant.Line name value next → Sits block (line_of block number at name value next)
-  sits number at name value next e =
-      let p = placed block at name value next e in
-      let t : value_to (line_of block number at name value next) ≡ next = line_to number at name value next e in
+  sits : (number at : ℕ) (r : code.Line) → record_at block at ≡ Ok (Some r) → Sits block (line_of block number at r.name r.value r.next)
+  sits number at r e =
+      let p = placed block at r e in
+      let t : value_to (line_of block number at r.name r.value r.next) ≡ r.next = line_to number at r e in
       record {
-        bytes = ap (λ (x : ℕ). part x (value_to (line_of block number at name value next)) block) (line_from number at name value next e) ∙ ap (λ (x : ℕ). part value x block) t;
+        bytes = ap (λ (x : ℕ). part x (value_to (line_of block number at r.name r.value r.next)) block) (line_from number at r e) ∙ ap (λ (x : ℕ). part r.value x block) t;
         within = omega arith;
       }
 
@@ -56,9 +55,9 @@ module _ (block : List ℕ) where
     where
       go : (r : Record) → record_at block at ≡ r → ((next : ℕ) → AllSit (walk [] [] ◌∷◌ fuel (suc number) next block))
           → AllSit (by_record [] [] (λ name value next. line_of block number at name value next ∷ walk [] [] ◌∷◌ fuel (suc number) next block) r)
-      go variant.End e ih = tt
-      go variant.Unreadable e ih = tt
-      go (variant.Line name value next) e ih = (sits number at name value next e, ih next)
+      go (Ok None) e ih = tt
+      go (Err u) e ih = tt
+      go (Ok (Some l)) e ih = (sits number at l e, ih l.next)
 
   pub all_sit : AllSit (held block)
   unfolding walk_from

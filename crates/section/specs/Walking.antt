@@ -1,12 +1,12 @@
 -- The one walk by places: what it holds at a place is what the rules say of the lines before it. Assumes nothing.
 use Prim.Native.Nat.{ℕ, suc, ◌+◌, ◌-◌, ◌≤◌, ◌<◌, ◌^◌}
-use Rattle.std.specs.Prelude.{◌≡◌, refl, List, [], ◌∷◌, ◌++◌, Bool, true, false}
+use Rattle.std.specs.Prelude.{◌≡◌, refl, List, [], ◌∷◌, ◌++◌, Bool, true, false, Ok, Some, None}
 use Rattle.std.proofs.Math.Path.{sym, ap}
 use Rattle.std.proofs.Common.{◌∙◌, append-nil, append_assoc, arith}
 use Rattle.std.proofs.Math.ListN.{length}
 use Rattle.rules.specs.Block.{Line, Section, lines}
-use Rattle.fields.specs.declared.Record.TheVariants as variant
-use Rattle.fields.specs.Walk.{part, record_at, line_of, section_from, held, is_readable, told_from}
+use Rattle.fields.specs.declared.Line as code
+use Rattle.fields.specs.Walk.{no_record, part, record_at, line_of, section_from, held, is_readable, told_from}
 use Rattle.fields.specs.Decimal.{capped_le}
 use Rattle.fields.specs.Lines.{placed, walk_end, walk_flaw, walk_line, is_told, told_next, readable_is}
 use Rattle.section.specs.declared.Facts.{Facts}
@@ -43,42 +43,42 @@ module _ (block : List ℕ) (at : ℕ) (f : Facts) (w : Walking block at f) wher
     facts = w.facts ∙ ap facts_of (sym (w.all ∙ ap (λ (s : Section). w.done ++ s) none ∙ append-nil w.done));
   }
 
-  pub ended : record_at block at ≡ variant.End → Walks block (record { readable = true; facts = f })
+  pub ended : record_at block at ≡ Ok None → Walks block (record { readable = true; facts = f })
   ended e = last true (w.told ∙ ap is_told (walk_end _ _ _ block w.number at e)) (walk_end _ _ _ block w.number at e)
 
-  pub flawed : record_at block at ≡ variant.Unreadable → Walks block (record { readable = false; facts = f })
+  pub flawed : record_at block at ≡ no_record → Walks block (record { readable = false; facts = f })
   flawed e = last false (w.told ∙ ap is_told (walk_flaw _ _ _ block w.number at e)) (walk_flaw _ _ _ block w.number at e)
 
-  module _ (name value next : ℕ) (e : record_at block at ≡ variant.Line name value next) where
+  module _ (r : code.Line) (e : record_at block at ≡ Ok (Some r)) where
     -- the size so far, with the line's, has room
-    pub fits : length block < 2 ^ 63 → f.size + (length (part name value block) + length (part value next block) + 32) < 2 ^ 64
+    pub fits : length block < 2 ^ 63 → f.size + (length (part r.name r.value block) + length (part r.value r.next block) + 32) < 2 ^ 64
     fits room =
-        let p = placed block at name value next e in
-        let n : length (part name value block) ≡ value - name = length_part block name value (omega arith) in
-        let v : length (part value next block) ≡ next - value = length_part block value next (omega arith) in
+        let p = placed block at r e in
+        let n : length (part r.name r.value block) ≡ r.value - r.name = length_part block r.name r.value (omega arith) in
+        let v : length (part r.value r.next block) ≡ r.next - r.value = length_part block r.value r.next (omega arith) in
         let s = w.small in
         omega arith
 
     abbrev here : Line
-    here = line_of block w.number at name value next
+    here = line_of block w.number at r.name r.value r.next
 
-    goes_facts : line_step f (part name value block) (part value next block) value next ≡ facts_of (w.done ++ (here ∷ []))
+    goes_facts : line_step f (part r.name r.value block) (part r.value r.next block) r.value r.next ≡ facts_of (w.done ++ (here ∷ []))
     goes_facts =
-        ap (λ (g : Facts). line_step g (part name value block) (part value next block) value next) w.facts
-        ∙ ap (λ (x : ℕ). line_step (facts_of w.done) (part name value block) (part value next block) x next) (sym (line_from block w.number at name value next e))
-        ∙ ap (λ (x : ℕ). line_step (facts_of w.done) (part name value block) (part value next block) (value_from here) x) (sym (line_to block w.number at name value next e))
+        ap (λ (g : Facts). line_step g (part r.name r.value block) (part r.value r.next block) r.value r.next) w.facts
+        ∙ ap (λ (x : ℕ). line_step (facts_of w.done) (part r.name r.value block) (part r.value r.next block) x r.next) (sym (line_from block w.number at r e))
+        ∙ ap (λ (x : ℕ). line_step (facts_of w.done) (part r.name r.value block) (part r.value r.next block) (value_from here) x) (sym (line_to block w.number at r e))
         ∙ step_is w.done here
 
-    pub goes : (g : Facts) → g ≡ line_step f (part name value block) (part value next block) value next → Walking block next g
+    pub goes : (g : Facts) → g ≡ line_step f (part r.name r.value block) (part r.value r.next block) r.value r.next → Walking block r.next g
     unfolding line_step
     goes g q = record {
       number = suc w.number;
-      told = w.told ∙ told_next block w.number at name value next e;
+      told = w.told ∙ told_next block w.number at r e;
       done = w.done ++ (here ∷ []);
       all =
-          w.all ∙ ap (λ (s : Section). w.done ++ s) (walk_line _ _ _ block w.number at name value next e)
-          ∙ sym (append_assoc w.done (here ∷ []) (section_from block (suc w.number) next));
+          w.all ∙ ap (λ (s : Section). w.done ++ s) (walk_line _ _ _ block w.number at r e)
+          ∙ sym (append_assoc w.done (here ∷ []) (section_from block (suc w.number) r.next));
       facts = q ∙ goes_facts;
-      small = let z = ap (λ (h : Facts). h.size) q in omega (arith, z, capped_le (f.size + (length (part name value block) + length (part value next block) + 32)));
-      within = (placed block at name value next e).within;
+      small = let z = ap (λ (h : Facts). h.size) q in omega (arith, z, capped_le (f.size + (length (part r.name r.value block) + length (part r.value r.next block) + 32)));
+      within = (placed block at r e).within;
     }

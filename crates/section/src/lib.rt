@@ -2,13 +2,12 @@
 // checks that are broken the lowest in document 01's order is the reason.
 #![tactic(auto)]
 
-ghost use Rattle.std.specs.Prelude.{◌≡◌, not, ◌||◌, ◌&&◌, [], ◌+◌, ◌<◌, ◌^◌, T, length};
+ghost use Rattle.std.specs.Prelude.{◌≡◌, not, ◌||◌, ◌&&◌, [], ◌+◌, ◌<◌, ◌^◌, length};
 ghost use Rattle.rules.specs.Text.{all};
 ghost use Rattle.rules.specs.Block.{lines};
 ghost use Rattle.rules.specs.Numbers.{code_number};
 ghost use Rattle.rules.specs.Section.{is_empty, code_of};
 ghost use Rattle.fields.specs.Bytes.{is_in};
-ghost use Rattle.fields.specs.Table.{all_right};
 ghost use Rattle.fields.specs.Walk.{held};
 ghost use Rattle.fields.specs.Decimal.{capped};
 ghost use Rattle.section.specs.Checks.{reason_at, lower_of, lowest};
@@ -17,7 +16,7 @@ ghost use Rattle.section.specs.Facts.{no_facts, kept_of, keep_at, known_by, plai
 ghost use Rattle.section.specs.Judging.{header_row, by_places, is_http, is_path, sends_content, by_request, by_authority, by_trailers, stated_by};
 ghost use Rattle.section.specs.Answer.{stated_of, header_answer, trailer_answer};
 
-use fields::{Class, Record};
+use fields::{Class, Table};
 
 // ---- reasons
 
@@ -232,18 +231,16 @@ fn known_line(f: Facts, k: usize, from: usize, to: usize) -> Facts
 }
 
 // Empty, or with a byte outside a class.
-fn not_all<'a>(table: &'a [u8; 256], v: &'a [u8], class: Class) -> bool
-    requires { T (all_right table.now) }
+fn not_all<'a>(table: &'a Table, v: &'a [u8], class: Class) -> bool
     ensures { result ≡ (is_empty v.now || not (all (is_in class) v.now)) }
 {
     if v.len() == 0 {
         return true;
     }
-    fields::any_outside(table, v, class)
+    table.any_outside(v, class)
 }
 
-fn method_line<'a>(f: Facts, table: &'a [u8; 256], value: &'a [u8], from: usize, to: usize) -> Facts
-    requires { T (all_right table.now) }
+fn method_line<'a>(f: Facts, table: &'a Table, value: &'a [u8], from: usize, to: usize) -> Facts
     ensures { result ≡ note_by method f value.now from to }
 {
     let mut g = known_line(f, METHOD, from, to);
@@ -285,8 +282,7 @@ fn kept_number(there: usize, old: u64, new: u64) -> u64
     old
 }
 
-fn length_line<'a>(f: Facts, table: &'a [u8; 256], value: &'a [u8], from: usize, to: usize) -> Facts
-    requires { T (all_right table.now) }
+fn length_line<'a>(f: Facts, table: &'a Table, value: &'a [u8], from: usize, to: usize) -> Facts
     ensures { result ≡ note_by content_length f value.now from to }
 {
     let there = f.to[LENGTH];
@@ -330,13 +326,13 @@ fn unknown_line(f: Facts) -> Facts
 
 fn noted<'a>(
     f: Facts,
-    table: &'a [u8; 256],
+    table: &'a Table,
     k: usize,
     value: &'a [u8],
     from: usize,
     to: usize,
 ) -> Facts
-    requires { (k < 10) × T (all_right table.now) }
+    requires { k < 10 }
     ensures { result ≡ note_by k f value.now from to }
 {
     match k {
@@ -366,17 +362,17 @@ fn held_below(size: usize) -> usize
 // A line more.
 fn with_line<'a>(
     f: Facts,
-    table: &'a [u8; 256],
+    table: &'a Table,
     name: &'a [u8],
     value: &'a [u8],
     from: usize,
     to: usize,
 ) -> Facts
-    requires { (f.size + (length name.now + length value.now + 32) < 2 ^ 64) × T (all_right table.now) }
+    requires { f.size + (length name.now + length value.now + 32) < 2 ^ 64 }
     ensures { result ≡ line_step f name.now value.now from to }
 {
     let size = held_below(f.size + (name.len() + value.len() + 32));
-    let bad = fields::bad_line(table, name, value);
+    let bad = table.bad_line(name, value);
     let mut g = noted(f, table, name_of(name), value, from, to);
     let first = lower(g.first, rules::reasons::BAD_BYTES, bad);
     g.size = size;
@@ -399,28 +395,28 @@ fn walk_lines(block: &[u8]) -> Walked
     let mut f = nothing();
     loop {
         match fields::line_at(block, at) {
-            Record::End => {
+            Ok(None) => {
                 return Walked {
                     readable: true,
                     facts: f,
                 };
             }
-            Record::Unreadable => {
+            Err(_) => {
                 return Walked {
                     readable: false,
                     facts: f,
                 };
             }
-            Record::Line { name, value, next } => {
+            Ok(Some(line)) => {
                 f = with_line(
                     f,
                     &table,
-                    &block[name..value],
-                    &block[value..next],
-                    value,
-                    next,
+                    &block[line.name..line.value],
+                    &block[line.value..line.next],
+                    line.value,
+                    line.next,
                 );
-                at = next;
+                at = line.next;
             }
         }
     }

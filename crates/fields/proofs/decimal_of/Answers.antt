@@ -1,27 +1,16 @@
--- `fields::decimal_of` meets its contract: the invariant: the digits from `i` on, behind the total, give the value, but for the cap. Assumes nothing.
-use Prim.Native.Nat.{◌≤◌, ◌^◌}
-use mathlib.Core.Path.{refl, sym, ap, ◌∙◌}
+-- `fields::decimal_of` meets its contract: capping at each digit changes nothing in the end. Assumes nothing.
+use Prim.Native.Nat.{◌+◌, ◌*◌, ◌-◌}
+use mathlib.Core.Path.{◌∙◌}
 use native.Mathlib.Omega.{arith}
-use borrow.Author.Rules.{rules}
+use Rattle.std.proofs.Common.{rules, tests}
+use Rattle.std.proofs.lemmas.Iterator.{YieldsList-from_slice}
+use Rattle.std.proofs.lemmas.Iterator.Consumers.{fold_from_yields_List}
 use Rattle.rules.specs.Section.{decimal}
-use Rattle.fields.specs.Decimal.{capped, capped_self, capped_le, capped_on, decimal_here, decimal_none}
+use Rattle.fields.specs.Decimal.{capped, capped_fold}
 use Rattle.fields.proofs.decimal_of.Goals as goal
 
-pub loop-i-init : goal.loop-i-init
-unfolding decimal
-loop-i-init c = (search rules, search rules, refl)
-
-pub overflow_add-i : goal.overflow_add-i
-overflow_add-i c = omega arith
-
-pub loop-i-smaller : goal.loop-i-smaller
-loop-i-smaller c = omega arith
-
-pub loop-i-preserved : goal.loop-i-preserved
-loop-i-preserved c = let l = c.loop-i in
-    let w = c.with_digit-total.ensures in
-    let le : c.with_digit-total.result ≤ 2 ^ 62 = rw w (capped_le _) in
-    (search rules, le, l.invariant.2 ∙ ap capped (decimal_here l.total _ l.i c.loop-i-test.true) ∙ sym (capped_on _ _) ∙ simp w)
-
 pub returns : goal.returns
-returns c = let l = c.loop-i in sym (l.invariant.2 ∙ ap capped (decimal_none l.total _ l.i c.loop-i-test.false) ∙ capped_self l.total l.invariant.1)
+unfolding decimal
+returns c =
+    fold_from_yields_List _ (λ total b. capped (total * 10 + (b - 0x30))) 0 _ c.fold.ensures.ran (YieldsList-from_slice c.args.v.now cc) (λ a x b q k. search (rules, tests))
+    ∙ capped_fold 0 c.args.v.now (omega arith)

@@ -1,15 +1,11 @@
--- `fields::with_digit` meets its contract: by whether the number with the digit stays below the cap. Assumes nothing.
-use Prim.Native.Nat.{ℕ, ◌+◌, ◌*◌}
-use mathlib.Core.Path.{sym, ap, ◌∙◌}
+-- `fields::with_digit` meets its contract: what is past 64 bits is past the cap. Assumes nothing.
+use Prim.Native.Nat.{◌+◌, ◌*◌, ◌-◌, ◌^◌, min}
+use mathlib.Core.Path.{◌≡◌, ◌∙◌}
 use native.Mathlib.Omega.{arith}
-use Rattle.fields.specs.Decimal.{capped_below, capped_above}
+use Rattle.fields.specs.Decimal.{capped_min}
 use Rattle.fields.proofs.with_digit.Goals as goal
 
-pub returns-then-total : goal.returns-then-total
-returns-then-total c = sym (capped_above _ (omega arith))
-
-pub returns-then-next-lt-ABOVE : goal.returns-then-next-lt-ABOVE
-returns-then-next-lt-ABOVE c = ap (λ (d : ℕ). c.args.total * 10 + d) c.digit_of.ensures ∙ sym (capped_below _ (omega arith))
-
-pub returns-else-next-lt-ABOVE : goal.returns-else-next-lt-ABOVE
-returns-else-next-lt-ABOVE c = sym (capped_above _ (omega arith))
+pub returns : goal.returns
+returns c =
+    let e : c.min.result ≡ min (c.args.total * 10 + (c.args.b - 0x30)) (2 ^ 62) = omega arith in
+    e ∙ capped_min _

@@ -10,14 +10,16 @@ pub returns-then-script-gt-LIMIT : goal.returns-then-script-gt-LIMIT
 unfolding ascii
 returns-then-script-gt-LIMIT c = stops refl refl (record { text = long_line; tells = too_long c.if-script-gt-LIMIT.true refl refl; put = rw (c.clear.ensures.0, c.clear.ensures.1) at c.put.ensures })
 
-pub returns-then-l-eq0 : goal.returns-then-l-eq0
+pub returns-in_default : goal.returns-in_default
 unfolding ascii
-returns-then-l-eq0 c = stops refl c.line_at-l.ensures.same (record { text = bad_line; tells = bad c.line_at-l.result c.line_at-l.ensures c.if-l-eq0.true refl refl; put = rw (c.clear.ensures.0, c.clear.ensures.1) at c.put-then-l-eq0.ensures })
+returns-in_default c = stops refl c.line_at.ensures.same (record { text = bad_line; tells = bad (rw c.in_default.is at c.line_at.ensures) refl refl; put = rw (c.clear.ensures.0, c.clear.ensures.1) at c.put-in_default.ensures })
 
 pub returns : goal.returns
-returns c = record {
-  same = c.line_at-l.ensures.same;
-  line = told (λ t s. plays c.line_at-l.result c.play.result c.line_at-l.ensures (omega (arith, c.if-l-eq0.false)) s refl) (rw (c.clear.ensures.0, c.clear.ensures.1) at c.play.ensures);
-  inside = λ on h. omega arith;
-  leads = λ on h. leads_to (c.line_at-l.ensures.on (omega (arith, c.if-l-eq0.false))) h;
-}
+returns c =
+    let l = c.in-Some.ensures.line in
+    record {
+      same = c.line_at.ensures.same;
+      line = told (λ t s. plays c.in-Some.l c.play.result (rw c.in-Some.is at c.line_at.ensures) s refl) (rw (c.clear.ensures.0, c.clear.ensures.1) at c.play.ensures);
+      inside = λ on h. omega arith;
+      leads = λ on h. leads_to l.on h;
+    }

@@ -1,21 +1,27 @@
--- `replaying::play` meets its contract: a call for each letter. Assumes nothing.
-use Rattle.replaying.specs.Plays.{starts, opens, feeds, gives, ends, resets, told}
+-- `replaying::play` meets its contract: a call for each verb. Assumes nothing.
+use Rattle.replaying.specs.Plays.{starts, opens, feeds, gives, ends, resets, writes, told}
 use Rattle.replaying.proofs.play.Goals as goal
 
-pub returns-in-83 : goal.returns-in-83
-returns-in-83 c = told (λ t s. starts c.in-83.is s) c.started.ensures
+pub returns-in-Start : goal.returns-in-Start
+returns-in-Start c = told (λ t s. starts c.in-Start.is s) (rw c.unwrap_or-row.ensures at c.started.ensures)
 
-pub returns-in-79 : goal.returns-in-79
-returns-in-79 c = told (λ t s. opens c.in-79.is s) c.streamed.ensures
+pub returns-in-Open : goal.returns-in-Open
+returns-in-Open c = told (λ t s. opens c.in-Open.is s) (rw c.unwrap_or-row.ensures at c.streamed.ensures)
 
-pub returns-in-70 : goal.returns-in-70
-returns-in-70 c = told (λ t s. feeds c.in-70.is s) c.streamed-in-70.ensures
+pub returns-in-Feed : goal.returns-in-Feed
+returns-in-Feed c = told (λ t s. feeds c.in-Feed.is s) (rw c.unwrap_or-row.ensures at c.streamed-in-Feed.ensures)
 
-pub returns-in-72 : goal.returns-in-72
-returns-in-72 c = told (λ t s. gives c.in-72.is s) c.streamed-in-72.ensures
+pub returns-in-Give : goal.returns-in-Give
+returns-in-Give c = told (λ t s. gives c.in-Give.is s) (rw c.unwrap_or-row.ensures at c.streamed-in-Give.ensures)
 
-pub returns-in-69 : goal.returns-in-69
-returns-in-69 c = told (λ t s. ends c.in-69.is s) c.streamed-in-69.ensures
+pub returns-in-End : goal.returns-in-End
+returns-in-End c = told (λ t s. ends c.in-End.is s) (rw c.unwrap_or-row.ensures at c.streamed-in-End.ensures)
 
-pub returns-in-82 : goal.returns-in-82
-returns-in-82 c = told (λ t s. resets c.in-82.is s) c.streamed-in-82.ensures
+pub returns-in-Reset : goal.returns-in-Reset
+returns-in-Reset c = told (λ t s. resets c.in-Reset.is s) (rw c.unwrap_or-row.ensures at c.streamed-in-Reset.ensures)
+
+pub returns-in-Goaway : goal.returns-in-Goaway
+returns-in-Goaway c = told (λ t s. writes s) c.goaway.ensures
+
+pub returns-in-Write : goal.returns-in-Write
+returns-in-Write c = told (λ t s. writes s) c.buffered.ensures

@@ -5,8 +5,9 @@ use mathlib.Core.Path.{◌≡◌}
 use Rattle.script.specs.Words.{between, hexes}
 use Rattle.script.proofs.bytes_at.Given as goal
 
-abbrev pub invariant-loop-i : goal.invariant-loop-i
-invariant-loop-i l = (l.at ≤ l.i) × (l.i ≤ length l.s) × (l.n ≤ length l.room) × (length l.room ≡ length l.initial.room) × (l.i ≡ l.at + (l.n + l.n)) × (between l.s l.at l.i ≡ hexes (take l.n l.room))
+abbrev pub invariant-loop-next : goal.invariant-loop-next
+invariant-loop-next l =
+    (l.at ≤ l.next) × (l.next ≤ length l.s) × (l.count ≤ length l.room) × (length l.room ≡ length l.initial.room) × (l.next ≡ l.at + (l.count + l.count)) × (between l.s l.at l.next ≡ hexes (take l.count l.room))
 
-abbrev pub decreases-loop-i : goal.decreases-loop-i
-decreases-loop-i l = length l.s - l.i
+abbrev pub decreases-loop-next : goal.decreases-loop-next
+decreases-loop-next l = length l.s - l.next

@@ -6,8 +6,8 @@ use Rattle.listing.specs.Text.{decimal}
 use Rattle.script.specs.Words.{between}
 use Rattle.script.proofs.number_at.Given as goal
 
-abbrev pub invariant-loop-i : goal.invariant-loop-i
-invariant-loop-i l = (l.at < l.i) × (l.i ≤ length l.s) × (0 < l.value) × (l.value ≤ 18446744073709551615) × (between l.s l.at l.i ≡ decimal l.value)
+abbrev pub invariant-loop-next : goal.invariant-loop-next
+invariant-loop-next l = (l.at < l.next) × (l.next ≤ length l.s) × (0 < l.value) × (between l.s l.at l.next ≡ decimal l.value)
 
-abbrev pub decreases-loop-i : goal.decreases-loop-i
-decreases-loop-i l = length l.s - l.i
+abbrev pub decreases-loop-next : goal.decreases-loop-next
+decreases-loop-next l = length l.s - l.next

@@ -1,10 +1,7 @@
 -- `script::values_at` meets its contract: each number leads on. Assumes nothing.
-use Prim.Native.Nat.{◌≤◌, ◌-◌}
 use lib.ListN.{length}
+use Prim.Native.Nat.{◌≤◌}
 use Rattle.script.proofs.values_at.Given as goal
 
-abbrev pub invariant-loop-j : goal.invariant-loop-j
-invariant-loop-j l = (l.j ≤ l.k) × (l.at ≤ l.i) × (l.i ≤ length l.s)
-
-abbrev pub decreases-loop-j : goal.decreases-loop-j
-decreases-loop-j l = l.k - l.j
+abbrev pub invariant-loop-slot : goal.invariant-loop-slot
+invariant-loop-slot l = (l.at ≤ l.next) × (l.next ≤ length l.s)

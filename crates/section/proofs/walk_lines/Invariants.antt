@@ -4,8 +4,8 @@ use lib.ListN.{length}
 use Rattle.section.specs.Walking.{Walking}
 use Rattle.section.proofs.walk_lines.Given as goal
 
-abbrev pub invariant-loop-name : goal.invariant-loop-name
-invariant-loop-name l = Walking l.block l.at l.f
+abbrev pub invariant-loop-line : goal.invariant-loop-line
+invariant-loop-line l = Walking l.block l.at l.f
 
-abbrev pub decreases-loop-name : goal.decreases-loop-name
-decreases-loop-name l = length l.block - l.at
+abbrev pub decreases-loop-line : goal.decreases-loop-line
+decreases-loop-line l = length l.block - l.at

@@ -7,10 +7,10 @@ use native.Mathlib.Omega.{arith}
 use Rattle.section.proofs.with_line.Goals as goal
 
 pub bad_line-bad-requires : goal.bad_line-bad-requires
-bad_line-bad-requires c = let p = c.requires in (p.1, (let l = p.0 in omega arith))
+bad_line-bad-requires c = let l = c.requires in omega arith
 
 pub noted-g-requires : goal.noted-g-requires
-noted-g-requires c = (subst (λ (k : ℕ). k < 10) (sym c.name_of.ensures) (ten _), c.requires.1)
+noted-g-requires c = subst (λ (k : ℕ). k < 10) (sym c.name_of.ensures) (ten _)
 
 pub returns : goal.returns
 unfolding line_step

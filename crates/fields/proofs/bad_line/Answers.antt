@@ -1,7 +1,0 @@
--- `fields::bad_line` meets its contract. Assumes nothing.
-use mathlib.Core.Path.{◌∙◌, ap}
-use Rattle.fields.specs.Spots.{is_some, line_bad}
-use Rattle.fields.proofs.bad_line.Goals as goal
-
-pub returns : goal.returns
-returns c = c.is_somewhere.ensures ∙ ap is_some c.line_spot.ensures ∙ line_bad 0 _ _
