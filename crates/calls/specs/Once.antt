@@ -16,9 +16,10 @@ use Rattle.connection.specs.declared.Written.{Written}
 use Rattle.connection.specs.Whose.{found_one}
 use Rattle.connection.specs.Halves.{with_doors}
 use Rattle.connection.specs.Turned.{numbered, unaltered, Turned, other_row, dead, opens, not_open, request, one_way, begun_of, swept_of}
-use Rattle.connection.specs.Ways.{begun_fresh, swept_free}
+use Rattle.connection.proofs.Ways.{begun_fresh, swept_free}
 use Rattle.connection.specs.One.{one_turn, one_goaway}
-use Rattle.connection.specs.Pair.{Paired, kept_pair, goaway_pair, start_pair}
+use Rattle.connection.specs.Pair.{Paired, kept_pair, goaway_pair}
+use Rattle.connection.proofs.Pair.{start_pair}
 use Rattle.calls.specs.Promises.{Started, Stepped, SaidGoaway, WroteInto}
 use Rattle.calls.specs.Rows.{set_past, set_other}
 

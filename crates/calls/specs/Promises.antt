@@ -3,8 +3,6 @@
 use Rattle.std.specs.Prelude.{◌≡◌, ℕ, List, [], map, length, set}
 use Rattle.rules.specs.Writer.{Write, write_header, write_integer_frame, write_opening}
 use Rattle.varint.specs.Write.{wrote_of, left_in}
-use Rattle.varint.specs.declared.Wrote.{Wrote}
-use Rattle.varint.specs.declared.Wrote.TheVariants.{Refused, Count}
 use Rattle.record.specs.declared.Record.{Record}
 use Rattle.connection.specs.declared.Call.{Call}
 use Rattle.connection.specs.declared.Own.{Own}
@@ -12,11 +10,11 @@ use Rattle.connection.specs.declared.Connection.{Connection}
 use Rattle.connection.specs.declared.Report.{Report}
 use Rattle.connection.specs.declared.Found.{Found}
 use Rattle.connection.specs.declared.Turn.{Turn}
-use Rattle.connection.specs.declared.Gone.{Gone}
 use Rattle.connection.specs.declared.Written.{Written}
 use Rattle.connection.specs.Whose.{FoundIn}
 use Rattle.connection.specs.Halves.{with_doors}
-use Rattle.connection.specs.Turned.{Turned, begun_of, swept_of, GoesAway}
+use Rattle.connection.specs.Turned.{Turned, begun_of, swept_of, Gone, GoesAway}
+pub use Rattle.connection.specs.Turned.{written_of}
 
 -- ---- `eistulko_start`: the connection is begun, and every record swept
 
@@ -67,11 +65,6 @@ pub record SaidGoaway (c : Connection) (id : ℕ) (room : List ℕ) (c' : Connec
   pub answered : w ≡ gone.written
 
 -- ---- the other writes: lent the room alone, the answer and the room that is left are those of a write
-
--- the answer as a host reads it: a refusal's number, or 0 and how many bytes are written
-abbrev pub written_of : Wrote → Written
-written_of (Refused number) = record { number = number; count = 0 }
-written_of (Count n) = record { number = 0; count = n }
 
 pub record WroteInto (w : Write) (room : List ℕ) (r : Written) (room' : List ℕ) : Type 0 where
   pub answered : r ≡ written_of (wrote_of w)

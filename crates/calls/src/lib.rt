@@ -2,18 +2,16 @@
 // One record is found, stepped by value and stored back; the others are not touched.
 #![tactic(auto)]
 
-ghost use Rattle.std.specs.Prelude.{◌≡◌, map, length, set, get_or};
-ghost use Rattle.record.specs.Row.{free_record};
-ghost use Rattle.record.specs.Sound.{cells_in};
-ghost use Rattle.record.specs.Body.{content_in};
+ghost use Rattle.std.specs.Prelude.{◌≡◌, map, length, set};
 ghost use Rattle.connection.specs.Turned.{turn, Turned, swept_of};
 ghost use Rattle.calls.specs.Layout.{connection_size, record_size, report_size, written_size};
 ghost use Rattle.calls.specs.Lent.{FirstIn, found_at};
+ghost use Rattle.varint.specs.Write.{answer_of};
 ghost use Rattle.calls.specs.Promises.{Started, Stepped, Opened, Fed, Given, Ended, Reset, SaidGoaway, written_of, WroteHeader, WroteIntegerFrame, WroteOpening};
 
-use connection::{Brief, Call, Connection, Found, Own, Report, Written};
+use connection::{Ask, Brief, Call, Connection, Found, Own, Report, Written};
 use record::Record;
-use varint::Wrote;
+use rules::codes::House;
 
 // ---- the row
 
@@ -21,29 +19,19 @@ use varint::Wrote;
 fn find(row: &[Record], call: Call, id: u64) -> usize
     ensures { FirstIn call id row.now result }
 {
-    let mut i = 0;
-    while i < row.len() {
-        if connection::wanted(call, id, row[i]) {
-            break;
-        }
-        i = i + 1;
-    }
-    i
+    row.iter()
+        .position(|r| connection::wanted(call, id, *r))
+        .unwrap_or(row.len())
 }
 
 // What is at a place of the row: past the end a free record.
 fn found_at(row: &[Record], at: usize) -> Found
     ensures { result ≡ found_at row.now at }
 {
-    let r = if at < row.len() {
-        row[at]
-    } else {
-        record::free()
-    };
     Found {
         len: row.len(),
         at,
-        row: r,
+        row: row.get(at).copied().unwrap_or(record::free()),
     }
 }
 
@@ -51,19 +39,9 @@ fn found_at(row: &[Record], at: usize) -> Found
 fn store(row: &mut [Record], i: usize, r: Record)
     ensures { row.new ≡ set row.old i r }
 {
+    // No get_mut: std says nothing of what it leaves of the slice.
     if i < row.len() {
         row[i] = r;
-    }
-}
-
-// The same of what content alters of a record.
-fn store_content(row: &mut [Record], i: usize, r: Record)
-    ensures { row.new ≡ set row.old i (content_in (get_or row.old i free_record) (cells_in r)) }
-{
-    if i < row.len() {
-        row[i].acc = r.acc;
-        row[i].mode = r.mode;
-        row[i].sum = r.sum;
     }
 }
 
@@ -71,65 +49,52 @@ fn store_content(row: &mut [Record], i: usize, r: Record)
 fn empty(row: &mut [Record])
     ensures { row.new ≡ map (swept_of (length row.old)) row.old }
 {
-    let mut i = 0;
-    while i < row.len() {
-        row[i] = connection::swept(row.len(), row[i]);
-        i = i + 1;
+    let len = row.len();
+    for r in row.iter_mut() {
+        *r = connection::swept(len, *r);
     }
 }
 
 // ---- a call on one stream
 
 // A call on the record that was found: what it leaves of the connection and of the record. The side is read and stored for a one-way stream alone.
-fn settle(conn: &mut Connection, f: Found, call: Call, id: u64, allow: u64, piece: &[u8]) -> Brief
-    ensures { Turned conn.old f call id allow piece.now (turn conn.new result.row result.report) }
+fn settle(conn: &mut Connection, f: Found, ask: Ask) -> Brief
+    ensures { Turned conn.old f ask.entry.call ask.entry.id ask.entry.allow ask.entry.piece.now (turn conn.new result.row result.report) }
 {
-    let n = connection::answer(conn.doors, f, call, id, allow, piece);
-    if n.aside {
-        let t = connection::decide(*conn, f, call, id, allow, piece);
-        *conn = t.conn;
-        return Brief {
-            row: t.row,
-            report: t.report,
-        };
-    }
-    conn.doors = n.doors;
-    Brief {
-        row: n.row,
-        report: n.report,
+    match connection::answer(conn.doors, f, ask) {
+        Some(near) => {
+            conn.doors = near.doors;
+            Brief {
+                row: near.row,
+                report: near.report,
+            }
+        }
+        None => {
+            let turn = connection::decide(*conn, f, ask);
+            *conn = turn.conn;
+            Brief {
+                row: turn.row,
+                report: turn.report,
+            }
+        }
     }
 }
 
 // A call on what is at a place of the row, where the search of it stopped.
-fn step_at(
-    conn: &mut Connection,
-    row: &mut [Record],
-    at: usize,
-    call: Call,
-    id: u64,
-    allow: u64,
-    piece: &[u8],
-) -> Report
-    ensures { FirstIn call id row.old at → Stepped conn.old row.old call id allow piece.now conn.new row.new result }
+fn step_at(conn: &mut Connection, row: &mut [Record], at: usize, ask: Ask) -> Report
+    ensures { FirstIn ask.entry.call ask.entry.id row.old at → Stepped conn.old row.old ask.entry.call ask.entry.id ask.entry.allow ask.entry.piece.now conn.new row.new result }
 {
-    let f = found_at(&*row, at);
-    let b = settle(conn, f, call, id, allow, piece);
+    let f = found_at(row, at);
+    let b = settle(conn, f, ask);
     store(row, at, b.row);
     b.report
 }
 
-pub fn step(
-    conn: &mut Connection,
-    row: &mut [Record],
-    call: Call,
-    id: u64,
-    allow: u64,
-    piece: &[u8],
-) -> Report
-    ensures { Stepped conn.old row.old call id allow piece.now conn.new row.new result }
+pub fn step(conn: &mut Connection, row: &mut [Record], ask: Ask) -> Report
+    ensures { Stepped conn.old row.old ask.entry.call ask.entry.id ask.entry.allow ask.entry.piece.now conn.new row.new result }
 {
-    let at = find(&*row, call, id);
-    step_at(conn, row, at, call, id, allow, piece)
+    let at = find(row, ask.call, ask.id);
+    step_at(conn, row, at, ask)
 }
 
 // ---- what a host calls
@@ -137,16 +102,29 @@ pub fn step(
 pub fn eistulko_start(conn: &mut Connection, row: &mut [Record]) -> u64
     ensures { Started conn.old row.old conn.new row.new result }
 {
-    let b = connection::begin(*conn, row.len());
-    *conn = b.conn;
     empty(row);
-    b.number
+    match connection::begin(row.len()) {
+        Ok(begun) => {
+            *conn = begun;
+            rules::ACCEPTED
+        }
+        Err(house) => house.number(),
+    }
 }
 
 pub fn eistulko_open(conn: &mut Connection, row: &mut [Record], id: u64) -> Report
     ensures { Opened conn.old row.old id conn.new row.new result }
 {
-    step(conn, row, Call::Open, id, 0, b"")
+    step(
+        conn,
+        row,
+        Ask {
+            call: Call::Open,
+            id,
+            allow: 0,
+            piece: b"",
+        },
+    )
 }
 
 pub fn eistulko_feed(
@@ -158,59 +136,84 @@ pub fn eistulko_feed(
 ) -> Report
     ensures { Fed conn.old row.old id piece.now allow conn.new row.new result }
 {
-    if row.len() == 24 {
-        let at = find(&*row, Call::On(Own::Feed), id);
-        let f = found_at(&*row, at);
-        let b = connection::brisk(conn.doors.code, f, allow, piece);
-        if b.report.number == 0 {
-            store_content(row, at, b.row);
-            return b.report;
+    let ask = Ask {
+        call: Call::On(Own::Feed),
+        id,
+        allow,
+        piece,
+    };
+    // Speed (docs/PERFORMANCE.md): a row of a known length is searched without a loop, and content's report stays in registers beside the calls' one.
+    let report = if row.len() == connection::ROW {
+        let at = find(row, ask.call, id);
+        let found = found_at(row, at);
+        if let Some(content) = connection::brisk(conn.doors.code, found, allow, piece) {
+            store(row, at, content.row);
+            return content.report;
         }
-        let t = step_at(conn, row, at, Call::On(Own::Feed), id, allow, piece);
-        return t;
-    }
-    let t = step(conn, row, Call::On(Own::Feed), id, allow, piece);
-    t
+        step_at(conn, row, at, ask)
+    } else {
+        step(conn, row, ask)
+    };
+    report
 }
 
 pub fn eistulko_give(conn: &mut Connection, row: &mut [Record], id: u64, block: &[u8]) -> Report
     ensures { Given conn.old row.old id block.now conn.new row.new result }
 {
-    step(conn, row, Call::On(Own::Give), id, 0, block)
+    step(
+        conn,
+        row,
+        Ask {
+            call: Call::On(Own::Give),
+            id,
+            allow: 0,
+            piece: block,
+        },
+    )
 }
 
 pub fn eistulko_end(conn: &mut Connection, row: &mut [Record], id: u64) -> Report
     ensures { Ended conn.old row.old id conn.new row.new result }
 {
-    step(conn, row, Call::On(Own::End), id, 0, b"")
+    step(
+        conn,
+        row,
+        Ask {
+            call: Call::On(Own::End),
+            id,
+            allow: 0,
+            piece: b"",
+        },
+    )
 }
 
 pub fn eistulko_reset(conn: &mut Connection, row: &mut [Record], id: u64) -> Report
     ensures { Reset conn.old row.old id conn.new row.new result }
 {
-    step(conn, row, Call::On(Own::Reset), id, 0, b"")
+    step(
+        conn,
+        row,
+        Ask {
+            call: Call::On(Own::Reset),
+            id,
+            allow: 0,
+            piece: b"",
+        },
+    )
 }
 
 pub fn eistulko_goaway(conn: &mut Connection, id: u64, room: &mut [u8]) -> Written
     ensures { SaidGoaway conn.old id room.old conn.new room.new result }
 {
-    let g = connection::say_goaway(conn.doors, id, room);
-    conn.doors = g.doors;
-    g.written
+    connection::say_goaway(&mut conn.doors, id, room)
 }
 
 // ---- the other writes: lent the room alone, for they depend on no record
 
-fn told(w: Wrote) -> Written
-    ensures { result ≡ written_of w }
+fn told(answer: Result<usize, House>) -> Written
+    ensures { result ≡ written_of (answer_of answer) }
 {
-    match w {
-        Wrote::Refused(number) => Written { number, count: 0 },
-        Wrote::Count(n) => Written {
-            number: 0,
-            count: n as u64,
-        },
-    }
+    Written::from(answer.map_err(House::number))
 }
 
 pub fn eistulko_write_header(ftype: u64, len: u64, room: &mut [u8]) -> Written
@@ -236,23 +239,23 @@ pub fn eistulko_write_opening(room: &mut [u8]) -> Written
 pub fn eistulko_connection_size() -> usize
     ensures { result ≡ connection_size }
 {
-    400
+    size_of::<Connection>()
 }
 
 pub fn eistulko_record_size() -> usize
     ensures { result ≡ record_size }
 {
-    48
+    size_of::<Record>()
 }
 
 pub fn eistulko_report_size() -> usize
     ensures { result ≡ report_size }
 {
-    56
+    size_of::<Report>()
 }
 
 pub fn eistulko_written_size() -> usize
     ensures { result ≡ written_size }
 {
-    16
+    size_of::<Written>()
 }

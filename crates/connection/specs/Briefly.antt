@@ -1,8 +1,7 @@
 -- A FEED OF CONTENT: it is answered from the connection's code alone, the same for every connection of that code. Assumes nothing.
-use Rattle.std.specs.Prelude.{◌≡◌, refl, ℕ, ◌<◌, List}
+use Rattle.std.specs.Prelude.{◌≡◌, refl, ℕ, ◌<◌, List, Option, Some, IfSome}
 use Rattle.std.proofs.Common.{ap, ◌∙◌, arith}
 use Rattle.record.specs.Kinds.{REQUEST}
-use Rattle.rules.specs.Numbers.{NOT-OPEN}
 use Rattle.record.specs.Sound.{cells_in}
 use Rattle.record.specs.Body.{content_in}
 use Rattle.requests.specs.declared.Reply.{Reply}
@@ -14,27 +13,31 @@ use Rattle.connection.specs.declared.Found.{Found}
 use Rattle.connection.specs.declared.Report.{Report}
 use Rattle.connection.specs.declared.Brief.{Brief}
 use Rattle.connection.specs.Faults.{kept_small}
-use Rattle.connection.specs.Turned.{told, numbered, turn, Turned}
+use Rattle.connection.specs.Turned.{request_report, turn, Turned}
 use Rattle.connection.specs.Ways.{asks_feed, on_request}
 
 -- WHAT CONTENT LEAVES OF THE CONNECTION: all as it is
 abbrev pub content_leaves : Connection → Brief → Connection
 content_leaves c b = c
 
--- with number 0 it is what the call answers; any other number says nothing
-pub record Briefly (code : ℕ) (f : Found) (allow : ℕ) (piece : List ℕ) (b : Brief) : Type 0 where
-  pub turns : b.report.number ≡ 0 → (c : Connection) (id : ℕ) → c.doors.code ≡ code → Turned c f (Call.On Own.Feed) id allow piece (turn (content_leaves c b) b.row b.report)
-  pub alters : b.report.number ≡ 0 → b.row ≡ content_in f.row (cells_in b.row)  -- three numbers of the record
+-- what there is of it is what the call answers, accepted; none says nothing
+pub record Content (code : ℕ) (f : Found) (allow : ℕ) (piece : List ℕ) (b : Brief) : Type 0 where
+  pub accepted : b.report.number ≡ 0
+  pub turns : (c : Connection) (id : ℕ) → c.doors.code ≡ code → Turned c f (Call.On Own.Feed) id allow piece (turn (content_leaves c b) b.row b.report)
+  pub alters : b.row ≡ content_in f.row (cells_in b.row)  -- three numbers of the record
+
+pub record Briefly (code : ℕ) (f : Found) (allow : ℕ) (piece : List ℕ) (o : Option Brief) : Type 0 where
+  pub content : IfSome o (Content code f allow piece)
 
 module _ {code : ℕ} {f : Found} {allow : ℕ} {piece : List ℕ} where
-  pub briefly_not : {b : Brief} → b.report ≡ numbered NOT-OPEN → Briefly code f allow piece b
-  briefly_not {b} q = let y : b.report.number ≡ NOT-OPEN = ap (λ (x : Report). x.number) q in record { turns = λ z. absurd (omega arith); alters = λ z. absurd (omega arith) }
-
   pub briefly_so : f.len ≡ 24 → code ≡ 0 → f.at < 24 → f.row.kind ≡ REQUEST → {a : Reply} → (a.number ≡ 0 → Keeps f.row (fed_as f.row allow piece) a × (a.row ≡ content_in f.row (cells_in a.row)))
-      → Briefly code f allow piece (record { row = a.row; report = told a.number a.event a.start a.len a.used a.heads 0 })
-  briefly_so l z w k {a} keeps = record {
-    turns = λ y c id e.
-        on_request id allow (record { long = l; alive = e ∙ z }) refl w {a = a} k (asks_feed f.row allow piece refl (keeps y).0)
-        (ap (λ x. turn x a.row (told a.number a.event a.start a.len a.used a.heads 0)) (kept_small c a.number (omega arith)));
-    alters = λ y. (keeps y).1;
+      → a.number ≡ 0 → {r : Report} → r ≡ request_report a → Briefly code f allow piece (Some (record { row = a.row; report = r }))
+  briefly_so l z w k {a} keeps y {r} q = record {
+    content = record {
+      accepted = ap (λ (x : Report). x.number) q ∙ y;
+      turns = λ c id e.
+          on_request id allow (record { long = l; alive = e ∙ z }) refl w {a = a} k (asks_feed f.row allow piece refl (keeps y).0)
+          (ap (turn c a.row) q ∙ ap (λ x. turn x a.row (request_report a)) (kept_small c a.number (omega arith)));
+      alters = (keeps y).1;
+    };
   }

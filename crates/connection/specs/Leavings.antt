@@ -1,6 +1,5 @@
 -- What a call leaves of a record: the same, a free one, or one of the same stream. Assumes nothing.
 use Rattle.std.proofs.Math.Path.{◌≡◌, refl}
-use Rattle.std.proofs.Common.{ap, ◌∙◌}
 use Prim.Native.Nat.{ℕ, zero, suc, ◌%◌, ◌≤◌, ◌<◌, ◌^◌}
 use native.Mathlib.Omega.{arith}
 use mathlib.Core.List.{List, [], ◌∷◌}
@@ -30,8 +29,7 @@ use Rattle.record.specs.Tests.{bare_shape, sane_with}
 use Rattle.requests.specs.declared.Reply.{Reply}
 use Rattle.requests.specs.Reply as reply
 use Rattle.requests.specs.Reply.{freed_if}
-use Rattle.oneway.specs.declared.Seen.{Seen}
-use Rattle.oneway.specs.Types.{types_of, kind_number, once_of, kind_control, kind_push, kind_encoder, kind_decoder, kind_other}
+use Rattle.oneway.specs.Types.{types_of, control_first}
 use Rattle.oneway.specs.Stands.{one_state_at}
 use Rattle.oneway.specs.Closed.{closes}
 use Rattle.oneway.specs.declared.calls.Side.{Side}
@@ -154,24 +152,6 @@ standing id in_skipped = others refl (omega arith) (λ e. omega arith)
 
 -- ---- a control stream comes once
 
-once_else : (n k : ℕ) → (k ≡ 3 → ⊥) → once_of n k ≡ 3 → ⊥
-unfolding once_of
-once_else zero k h e = h e
-once_else (suc n) k h e = omega arith
-
-once_none : (n : ℕ) → once_of n 3 ≡ 3 → n ≡ 0
-unfolding once_of
-once_none zero e = refl
-once_none (suc n) e = absurd (omega arith)
-
-control_first : (s : Seen) (t : ℕ) → kind_number (type_rule (types_of s.control s.encoder s.decoder) t) ≡ 3 → s.control ≡ 0
-control_first s zero e = once_none s.control (kind_control 0 s refl refl ∙ e)
-control_first s (suc zero) e = let z = kind_push 1 s refl ∙ e in absurd (omega arith)
-control_first s (suc (suc zero)) e = absurd (once_else s.encoder 4 (λ x. omega arith) (kind_encoder 2 s refl refl ∙ e))
-control_first s (suc (suc (suc zero))) e = absurd (once_else s.decoder 5 (λ x. omega arith) (kind_decoder 3 s refl refl ∙ e))
-control_first s (suc (suc (suc (suc t)))) e =
-    let z = kind_other (suc (suc (suc (suc t)))) s (λ x. omega arith) (λ x. omega arith) (λ x. omega arith) (λ x. omega arith) ∙ e in absurd (omega arith)
-
 module _ (control encoder decoder allow : ℕ) where
   abbrev seen : List ℕ
   seen = types_of control encoder decoder
@@ -182,9 +162,9 @@ module _ (control encoder decoder allow : ℕ) where
   qpack_else q (b ∷ bs) e = let z : ◌≡◌ {A = ℕ} 0 1 = cc in omega arith
 
   by_type : (t : ℕ) (y : Typed) → type_rule seen t ≡ y → (piece : List ℕ) {x : State Control} → (one.typed_feed allow y piece).after ≡ one.lives (in_control x) → control ≡ 0
-  unfolding one.typed_feed one.kind_feed one.halt kind_number
+  unfolding one.typed_feed one.kind_feed one.halt
   by_type t (refuse code) q piece e = let z : ◌≡◌ {A = ℕ} 0 1 = cc in absurd (omega arith)
-  by_type t (is a_control) q piece e = control_first (record { control = control; encoder = encoder; decoder = decoder }) t (ap kind_number q)
+  by_type t (is a_control) q piece e = control_first (record { control = control; encoder = encoder; decoder = decoder }) t q
   by_type t (is (a_qpack k)) q piece e = absurd (qpack_else k piece e)
   by_type t (is skipped) q piece e = let z : ◌≡◌ {A = ℕ} 0 1 = cc in absurd (omega arith)
 

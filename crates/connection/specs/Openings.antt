@@ -1,9 +1,13 @@
 -- Opening a stream (document 01, "Calls and the host's memory"): the answer, and the IDs that are spent. Assumes nothing.
-use Rattle.std.specs.Prelude.{◌≡◌, ℕ, zero, suc, ◌+◌, ◌%◌, ◌^◌, ◌≤◌, ◌<◌, Bool, true, false, eqb, leb}
+use Rattle.std.specs.Prelude.{◌≡◌, ℕ, zero, suc, ◌+◌, ◌%◌, ◌^◌, ◌≤◌, ◌<◌, Bool, true, false, eqb, leb, Option as Maybe, Some, None, MatchOption}
 use Rattle.std.proofs.Math.Path.{refl, sym, ap}
 use Rattle.std.proofs.Common.{◌∙◌}
+use Rattle.std.proofs.Math.Option.{none-ne-some, some-injective}
 use borrow.Author.Tests.{eq-eqb, ne_eqb, le-leb, lt-leb}
 use Rattle.rules.specs.Numbers.{REQUEST-REJECTED}
+use Rattle.wire.specs.declared.ids.StreamId.{StreamId}
+use Rattle.wire.specs.Goaway.{sent_of}
+use Rattle.connection.specs.Goaway.{sent_as}
 use Rattle.connection.specs.declared.doors.Doors.{Doors}
 use Rattle.connection.specs.declared.doors.Opening.{Opening}
 
@@ -69,6 +73,14 @@ pub barred_some : (n g id : ℕ) → (n ≡ 0 → ⊥) → leb g id ≡ barred_a
 unfolding barred_at
 barred_some zero g id z = absurd (z refl)
 barred_some (suc n) g id z = refl
+
+-- asked by the ID of our GOAWAY, if there is one
+pub barred_by : (s : Maybe StreamId) (n g id : ℕ) {b : Bool} → sent_of s ≡ sent_as n g → MatchOption s (b ≡ false) (λ x. b ≡ leb x.0 id) → b ≡ barred_at n g id
+unfolding barred_at sent_of sent_as
+barred_by None zero g id e m = m
+barred_by None (suc n) g id e m = absurd (none-ne-some _ e)
+barred_by (Some x) zero g id e m = absurd (none-ne-some _ (sym e))
+barred_by (Some x) (suc n) g id e m = m ∙ ap (λ y. leb y id) (some-injective _ _ e)
 
 module _ (free : ℕ) (next d : Doors) {r : Opening} where
   pub none_free : free ≡ 0 → r ≡ refusal 3 d → r ≡ admitted_as free next d

@@ -1,10 +1,9 @@
 -- THE PAIR'S INVARIANT: what a connection and a row that had the same start have in common, and that every call keeps it. Assumes nothing.
 use Rattle.std.proofs.Math.Path.{◌≡◌, sym, ap}
-use Rattle.std.specs.Prelude.{refl, ℕ, zero, suc, ◌%◌, ◌≤◌, ◌<◌, List, [], ◌∷◌, map, Bool, true, false, ◌⊎◌, length, get_or, set}
+use Rattle.std.specs.Prelude.{refl, ℕ, zero, suc, ◌%◌, ◌≤◌, ◌<◌, List, Bool, true, false, ◌⊎◌, length, get_or, set}
 use Rattle.std.proofs.Common.{◌∙◌, inl, inr, length-set, get_or-set_same, get_or-set_other}
 use Rattle.std.proofs.Math.Decide.{ℕ_discrete, dec_lt}
 use native.Mathlib.Omega.{arith}
-use Rattle.std.proofs.lemmas.List.{length-map}
 use Rattle.std.proofs.Math.Seq.{set_out}
 use Rattle.rules.specs.Message.{opening}
 use Rattle.rules.specs.Control.{Control}
@@ -34,12 +33,11 @@ use Rattle.connection.specs.declared.Own.{Own}
 use Rattle.connection.specs.declared.Connection.{Connection}
 use Rattle.connection.specs.declared.Found.{Found}
 use Rattle.connection.specs.declared.Turn.{Turn}
-use Rattle.connection.specs.declared.Gone.{Gone}
 use Rattle.connection.specs.Whose.{Vacant, Belongs, FoundIn, wanted_belongs}
 use Rattle.connection.specs.Halves.{stream_id, doors_in, with_doors, side_in, with_side}
 use Rattle.connection.specs.Faults.{keeps, kept_if, code_kept_in}
-use Rattle.connection.specs.Turned.{unaltered, first_as, taken_by, free_at, request_as, one_way_as, StaysOn, Turned, other_row, dead, opens, not_open, request, one_way, begun_of, swept_of, GoesAway}
-use Rattle.connection.specs.Ways.{begun_fresh, swept_free, taken_none}
+use Rattle.connection.specs.Turned.{unaltered, first_as, taken_by, free_at, request_as, one_way_as, StaysOn, Turned, other_row, dead, opens, not_open, request, one_way, Gone, GoesAway}
+use Rattle.connection.specs.Ways.{taken_none}
 use Rattle.connection.specs.Leavings as left
 use Rattle.connection.specs.Leavings.{Left, request_left, Heeded, one_way_left, Standing, controls, others, standing, control_once, control_kind, begins_heeding}
 
@@ -349,20 +347,3 @@ gone_later c id (wrote bytes) = record { requests = omega arith; oneways = omega
 
 pub goaway_pair : {c : Connection} {rows : List Record} {id : ℕ} {before after : List ℕ} {r : Gone} → GoesAway c.doors id before r after → Paired c rows → Paired (with_doors c r.doors) rows
 goaway_pair {c} {id = id} {before = before} g p = rw g.is (rw g.sends.answers (later_pair (gone_later c id (write_of c.doors.code (doors_in c) id (length before))) p))
-
--- start
-all_free : (n : ℕ) → n ≡ 24 → (rows : List Record) (i : ℕ) → at (map (swept_of n) rows) i ≡ free_record
-all_free n e [] i = refl
-all_free n e (r ∷ rows) zero = sym (swept_free n r e refl)
-all_free n e (r ∷ rows) (suc i) = all_free n e rows i
-
--- IT HOLDS AFTER A START
-pub start_pair : (c : Connection) (rows : List Record) → length rows ≡ 24 → Paired (begun_of c (length rows)).conn (map (swept_of (length rows)) rows)
-start_pair c rows e = rw (← begun_fresh c (length rows) e refl) (record {
-  long = length-map rows (swept_of (length rows)) ∙ e;
-  known = λ i. inl (all_free (length rows) e rows i);
-  spent = λ i. rw (all_free (length rows) e rows i) (record { request = λ z. absurd (omega arith); one_way = λ z. absurd (omega arith) });
-  distinct = λ i j a b h. absurd (a (ap (λ x. x.kind) (all_free (length rows) e rows i)));
-  control = λ i z h. (let y = ap (λ x. x.kind) (all_free (length rows) e rows i) in omega arith);
-  single = λ i j z h. (let y = ap (λ x. x.kind) (all_free (length rows) e rows i) in absurd (omega arith));
-})

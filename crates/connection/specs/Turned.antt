@@ -1,7 +1,10 @@
 -- What each call makes of a connection and the record that was found (document 01, "Calls and the host's memory"), in document 01's order.
 -- Assumes nothing.
-use Rattle.std.specs.Prelude.{◌≡◌, ℕ, zero, suc, ◌%◌, ◌<◌, List, true, false, ◌⊎◌, eqb, ltb}
-use Rattle.rules.specs.Numbers.{NOT-OPEN, OTHER-ROW}
+use Rattle.std.specs.Prelude.{◌≡◌, ℕ, zero, suc, ◌%◌, ◌<◌, List, true, false, ◌⊎◌, eqb, ltb, Result, Ok, Err}
+use Rattle.rules.specs.Numbers.{NOT-OPEN, OTHER-ROW, house_number}
+use Rattle.rules.specs.Named.{house_of}
+use Rattle.rules.specs.declared.codes.House.{House}
+use Rattle.rules.specs.declared.codes.House.TheVariants.{OtherRow}
 use Rattle.rules.specs.Message.{Message, opening}
 use Rattle.meaning.specs.Machine.{State, between, fresh}
 use Rattle.meaning.specs.OneWayFeed.{OneState, in_stream_type}
@@ -11,9 +14,8 @@ use Rattle.requests.specs.declared.Reply.{Reply}
 use Rattle.requests.specs.Reply.{Open, state_in, fed_as, given_as, ended_as, reset_as, Answered}
 use Rattle.connection.specs.declared.doors.Doors.{Doors}
 use Rattle.connection.specs.declared.doors.Opening.{Opening}
-use Rattle.connection.specs.declared.doors.Goaway.{Goaway}
 use Rattle.connection.specs.Openings.{fresh_doors, opened_of}
-use Rattle.connection.specs.Goaway.{Sends}
+use Rattle.connection.specs.Goaway.{Goaway, Sends}
 use Rattle.oneway.specs.declared.calls.Side.{Side}
 use Rattle.oneway.specs.declared.calls.Heard.{Heard}
 use Rattle.oneway.specs.Mirror.{fresh_side}
@@ -25,8 +27,7 @@ use Rattle.connection.specs.declared.Report.{Report}
 use Rattle.connection.specs.declared.Found.{Found}
 use Rattle.connection.specs.declared.Near.{Near}
 use Rattle.connection.specs.declared.Turn.{Turn}
-use Rattle.connection.specs.declared.Begun.{Begun}
-use Rattle.connection.specs.declared.Gone.{Gone}
+use Rattle.connection.specs.declared.Written.{Written}
 use Rattle.connection.specs.Whose.{Vacant}
 use Rattle.connection.specs.Halves.{stream_id, both, side_in}
 use Rattle.connection.specs.Faults.{code_in}
@@ -47,7 +48,7 @@ turn c r p = record { conn = c; row = r; report = p }
 
 -- what leaves the side as it is, beside any
 abbrev pub near : Doors → Record → Report → Near
-near d r p = record { aside = false; doors = d; row = r; report = p }
+near d r p = record { doors = d; row = r; report = p }
 
 abbrev pub beside : Side → Near → Turn
 beside s n = turn (both n.doors s) n.row n.report
@@ -107,8 +108,11 @@ pub record Asks (r : Record) (own : Own) (allow : ℕ) (piece : List ℕ) (a : R
   pub answers : Answered r (request_as own allow piece r) a
   pub stays : a.number ≡ 0 → Open a.row ⊎ Vacant a.row
 
+abbrev pub request_report : Reply → Report
+request_report a = told a.number a.event a.start a.len a.used a.heads 0
+
 abbrev pub replies : Doors → Reply → Near
-replies d a = near (code_in d a.number) a.row (told a.number a.event a.start a.len a.used a.heads 0)
+replies d a = near (code_in d a.number) a.row (request_report a)
 
 abbrev pub replied : Connection → Reply → Turn
 replied c a = beside c.side (replies c.doors a)
@@ -125,8 +129,11 @@ pub record Hears (r : Record) (d : Side) (own : Own) (allow : ℕ) (piece : List
   pub answers : HeardAs r d (one_way_as own allow piece r d) a
   pub stays : Heeds r → StaysOn own allow piece r d a
 
+abbrev pub one_way_report : Heard → Report
+one_way_report a = told a.number a.event a.start a.len a.used a.heads a.value
+
 abbrev pub overhears : Doors → Heard → Turn
-overhears d a = turn (both (code_in d a.number) a.side) a.row (told a.number a.event a.start a.len a.used a.heads a.value)
+overhears d a = turn (both (code_in d a.number) a.side) a.row (one_way_report a)
 
 abbrev pub overheard : Connection → Heard → Turn
 overheard c a = overhears c.doors a
@@ -156,8 +163,21 @@ pub data Turned (c : Connection) (f : Found) (call : Call) (id allow : ℕ) (pie
 
 -- ---- start
 
-unfoldable pub begun_of : Connection → (len : ℕ) → Begun
-begun_of c len = elim (eqb len 24) [ true ↦ record { number = 0; conn = fresh_connection } | false ↦ record { number = 9; conn = c } ]
+-- a fresh connection; 9 on another row
+unfoldable pub started_of : (len : ℕ) → Result Connection House
+started_of len = elim (eqb len 24) [ true ↦ Ok fresh_connection | false ↦ Err OtherRow ]
+
+-- what it answers, and what it leaves: a refusal leaves the connection that it was lent
+pub record Begun : Type 0 where
+  pub number : ℕ
+  pub conn : Connection
+
+abbrev pub begun_as : Connection → Result Connection House → Begun
+begun_as c (Ok d) = record { number = 0; conn = d }
+begun_as c (Err h) = record { number = house_number (house_of h); conn = c }
+
+abbrev pub begun_of : Connection → (len : ℕ) → Begun
+begun_of c len = begun_as c (started_of len)
 
 -- what start frees: every record
 abbrev pub vacated : Record → Record
@@ -167,6 +187,19 @@ unfoldable pub swept_of : (len : ℕ) → Record → Record
 swept_of len r = elim (eqb len 24) [ true ↦ vacated r | false ↦ r ]
 
 -- ---- our GOAWAY
+
+-- the answer as a host reads it: a refusal's number, or 0 and how many bytes are written
+abbrev pub written_of : Result ℕ ℕ → Written
+written_of (Err number) = record { number = number; count = 0 }
+written_of (Ok n) = record { number = 0; count = n }
+
+-- what it leaves, and what it answers
+pub record Gone : Type 0 where
+  pub doors : Doors
+  pub written : Written
+
+abbrev pub gone : Doors → Written → Gone
+gone d w = record { doors = d; written = w }
 
 abbrev pub gone_by : Goaway → Gone
 gone_by g = record { doors = g.doors; written = record { number = g.number; count = g.count } }

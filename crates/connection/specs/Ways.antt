@@ -2,9 +2,9 @@
 use Rattle.std.proofs.Math.Path.{◌≡◌, refl, ap}
 use Rattle.std.proofs.Common.{sym, ◌∙◌, arith}
 use Prim.Native.Nat.{ℕ, zero, suc, ◌%◌, ◌≤◌, ◌<◌}
-use Rattle.std.specs.Prelude.{List, ◌⊎◌}
+use Rattle.std.specs.Prelude.{List, ◌⊎◌, Result, Ok, Err}
 use Rattle.std.proofs.Math.Logic.{inl, inr}
-use borrow.Author.Tests.{eq-eqb, ne_eqb, lt-ltb, le-ltb}
+use borrow.Author.Tests.{lt-ltb, le-ltb}
 use Rattle.rules.specs.Reading.{Verdict, whole, fault, waits}
 use Rattle.rules.specs.Message.{Message}
 use Rattle.rules.specs.Request.{document}
@@ -16,16 +16,15 @@ use Rattle.meaning.specs.OneWayFeed.{OneState}
 use Rattle.varint.specs.ByByte.{part_of}
 use Rattle.record.specs.Kinds.{REQUEST, UNTYPED}
 use Rattle.record.specs.declared.Record.{Record}
-use Rattle.record.specs.Row.{phase_of, stated_in, is_stated, length_of, sum_in, numbers_of, place_in, record_at, one_way_record, no_cells, free_record}
+use Rattle.record.specs.Row.{phase_of, stated_in, is_stated, length_of, sum_in, numbers_of, place_in, record_at, one_way_record, no_cells}
 use Rattle.requests.specs.declared.Reply.{Reply}
 use Rattle.requests.specs.Reply.{Open, state_in, fed_as, given_as, ended_as, ended_by, reset_as, frees, freed_if, Answered, shut, opened, Keeps}
 use Rattle.connection.specs.declared.doors.Doors.{Doors}
 use Rattle.connection.specs.declared.doors.Opening.{Opening}
-use Rattle.connection.specs.declared.doors.Goaway.{Goaway}
 use Rattle.connection.specs.Openings.{opened_of}
 use Rattle.connection.specs.OpeningWays as doors
 use Rattle.connection.specs.OpeningWays.{Went, barred, a_request, a_one_way, went}
-use Rattle.connection.specs.Goaway.{Sends}
+use Rattle.connection.specs.Goaway.{Goaway, Sends, sent_so, SendsAs}
 use Rattle.oneway.specs.declared.calls.Side.{Side}
 use Rattle.oneway.specs.declared.calls.Heard.{Heard}
 use Rattle.oneway.specs.Heard as side
@@ -36,29 +35,11 @@ use Rattle.connection.specs.declared.Connection.{Connection}
 use Rattle.connection.specs.declared.Report.{Report}
 use Rattle.connection.specs.declared.Found.{Found}
 use Rattle.connection.specs.declared.Turn.{Turn}
+use Rattle.connection.specs.declared.Written.{Written}
 use Rattle.connection.specs.Whose.{Vacant}
 use Rattle.connection.specs.Halves.{stream_id, doors_in, side_in}
 use Rattle.connection.specs.Faults.{kept_small}
-use Rattle.connection.specs.Turned.{fresh_connection, numbered, turn, near, unaltered, first_as, first_record, taken_by, free_at, lets_in, let_in, opens_at, opened_at, by_own, request_as, Asks, replied, one_way_as, Hears, overheard, Alive, Turned, not_open, request, one_way, begun_of, swept_of, gone_by, GoesAway}
-
--- ---- start
-
-pub begun_fresh : (c : Connection) (len : ℕ) {d : Connection} → len ≡ 24 → d ≡ fresh_connection → record { number = 0; conn = d } ≡ begun_of c len
-unfolding begun_of
-begun_fresh c len e q = let x = eq-eqb len 24 e in ap (λ y. record { number = 0; conn = y }) q ∙ rw (x, begun_of) refl
-
-pub begun_other : (c : Connection) (len : ℕ) → (len ≡ 24 → ⊥) → record { number = 9; conn = c } ≡ begun_of c len
-unfolding begun_of
-begun_other c len n = let x = ne_eqb len 24 n in rw (x, begun_of) refl
-
-module _ (len : ℕ) (r : Record) {q : Record} where
-  pub swept_free : len ≡ 24 → q ≡ free_record → q ≡ swept_of len r
-  unfolding swept_of
-  swept_free e f = let x = eq-eqb len 24 e in f ∙ rw (x, swept_of) refl
-
-  pub swept_other : (len ≡ 24 → ⊥) → q ≡ r → q ≡ swept_of len r
-  unfolding swept_of
-  swept_other n f = let x = ne_eqb len 24 n in f ∙ rw (x, swept_of) refl
+use Rattle.connection.specs.Turned.{numbered, turn, near, unaltered, first_as, first_record, taken_by, free_at, lets_in, let_in, opens_at, opened_at, by_own, request_as, Asks, replied, one_way_as, Hears, overheard, Alive, Turned, not_open, request, one_way, written_of, gone, gone_by, GoesAway}
 
 -- ---- an opening
 
@@ -168,6 +149,10 @@ module _ (r : Record) (d : Side) (allow : ℕ) (piece : List ℕ) {own : Own} {a
   unfolding by_own
   hears_reset e = hears_other (rw e refl) (rw e refl)
 
+  pub hears_close : (own ≡ Own.End) ⊎ (own ≡ Own.Reset) → HeardAs r d (closed_here r d) a → Hears r d own allow piece a
+  hears_close (inl e) = hears_end e
+  hears_close (inr e) = hears_reset e
+
 module _ {c : Connection} {f : Found} {call : Call} {own : Own} (id allow : ℕ) {piece : List ℕ} {t : Turn} (live : Alive c.doors f) (n : call ≡ Call.On own) where
   pub past_row : 24 ≤ f.at → t ≡ unaltered NOT-OPEN c f → Turned c f call id allow piece t
   past_row l q = not_open live n (λ w x. absurd (omega arith)) q
@@ -202,3 +187,10 @@ module _ {c : Connection} {f : Found} {call : Call} {own : Own} (id allow : ℕ)
 
 pub goes_so : {d : Doors} {id : ℕ} {before after : List ℕ} {g : Goaway} → Sends d (stream_id id) before g after → GoesAway d id before (gone_by g) after
 goes_so {g = g} s = record { sent = g; sends = s; is = refl }
+
+gone_so : (r : Result ℕ ℕ) (next : Doors) → gone next (written_of r) ≡ gone_by (sent_so r next)
+gone_so (Ok k) next = refl
+gone_so (Err n) next = refl
+
+pub goes_as : {d next : Doors} {id : ℕ} {before after : List ℕ} {r : Result ℕ ℕ} {w : Written} → SendsAs d (stream_id id) before r next after → w ≡ written_of r → GoesAway d id before (gone next w) after
+goes_as {next = next} {r = r} s e = record { sent = sent_so r next; sends = s.sends; is = ap (gone next) e ∙ gone_so r next }

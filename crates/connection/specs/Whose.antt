@@ -1,7 +1,8 @@
 -- Which record of the row a call is about, and what a search of the row finds. Assumes nothing.
-use Rattle.std.specs.Prelude.{◌≡◌, ℕ, ◌≤◌, ◌<◌, List, Bool, length, get_or}
+use Rattle.std.specs.Prelude.{◌≡◌, ℕ, ◌≤◌, ◌<◌, List, Bool, not, eqb, length, get_or}
 use Rattle.std.proofs.Common.{sym, ap, ◌∙◌, arith}
-use Rattle.std.proofs.Math.Decide.{dec_lt}
+use Rattle.std.proofs.Math.Decide.{ℕ_discrete, dec_lt}
+use borrow.Author.Tests.{eq-eqb, ne_eqb}
 use Rattle.record.specs.Kinds.{FREE}
 use Rattle.record.specs.declared.Record.{Record}
 use Rattle.record.specs.Row.{free_record}
@@ -82,3 +83,10 @@ module _ (id : ℕ) (r : Record) {call : Call} where
 
     pub wanted_other : (r.id ≡ id → ⊥) → Decides (Wanted call id r) Bool.false
     wanted_other k = refuses (λ w. k (wanted_belongs w).own)
+
+    pub wanted_taken : r.id ≡ id → Decides (Wanted call id r) (not (eqb r.kind FREE))
+    wanted_taken e = by (ℕ_discrete r.kind FREE)
+      where
+        by : Dec (r.kind ≡ FREE) → Decides (Wanted call id r) (not (eqb r.kind FREE))
+        by (yes k) = let x = eq-eqb r.kind FREE k in rw x (wanted_free k)
+        by (no k) = let x = ne_eqb r.kind FREE k in rw x (wanted_own k e)

@@ -1,29 +1,16 @@
 -- Calls worked by hand, each at an input where a wrong program shows. Assumes nothing.
-use Rattle.std.specs.Prelude.{◌≡◌, refl, ℕ, List, [], ◌∷◌, map}
+use Rattle.std.specs.Prelude.{refl, ℕ, List, [], ◌∷◌}
 use Rattle.std.proofs.Common.{arith}
-use Rattle.rules.specs.Text.{is_one_of, lookup}
-use Rattle.rules.specs.Integers.{extra}
-use Rattle.rules.specs.Integers as integers
-use Rattle.rules.specs.Reading.{header_section, ended}
-use Rattle.rules.specs.Message.{Message, opening, carries, tally, ends}
-use Rattle.rules.specs.Request.{column, kind_of, code_of, data_rule, rule_for, rule, end_of_ended}
+use Rattle.rules.specs.Reading.{header_section}
+use Rattle.rules.specs.Message.{Message, opening}
 use Rattle.rules.specs.Control.{unset}
-use Rattle.rules.specs.OneWay.{encoder, once, type_rule}
-use Rattle.rules.specs.Numbers.{number_of, rows as answers, named_in, named as answer-named, house_leaves, leaves, STREAM-CREATION-ERROR, CLOSED-CRITICAL-STREAM, FRAME-UNEXPECTED, REQUEST-REJECTED, REQUEST-INCOMPLETE}
-use Rattle.rules.specs.Writer as writer
-use Rattle.meaning.specs.Machine.{State, fresh, due, between, after, fed, typed, finish}
-use Rattle.meaning.specs.Feed.{halt, also, onward, over_event, behind_header, feed}
-use Rattle.meaning.specs.OneWayFeed as one
+use Rattle.rules.specs.OneWay.{encoder}
+use Rattle.rules.specs.Numbers.{STREAM-CREATION-ERROR, CLOSED-CRITICAL-STREAM, FRAME-UNEXPECTED, REQUEST-REJECTED, REQUEST-INCOMPLETE}
+use Rattle.meaning.specs.Machine.{State, fresh, due, between}
 use Rattle.meaning.specs.OneWayFeed.{OneState, in_stream_type, in_control, in_qpack}
 use Rattle.record.specs.declared.Record.{Record}
-use Rattle.record.specs.Row.{place_in, request_record, one_way_record, free_record}
-use Rattle.requests.specs.Reply.{frees, freed_if, said_by, unless_due, ended_by}
-use Rattle.connection.specs.Openings as doors
-use Rattle.connection.specs.Goaway.{sent_as, sending_of, write_of}
-use Rattle.oneway.specs.Types.{came, types_of}
-use Rattle.oneway.specs.Closed.{closes}
-use Rattle.oneway.specs.Mirror.{sofar_in, kept_numbers, side_after}
-use Rattle.oneway.specs.Heard as heard
+use Rattle.record.specs.Row.{request_record, one_way_record, free_record}
+use Rattle.connection.specs.Goaway.{sending_of, write_of}
 use Rattle.connection.specs.declared.Call.{Call}
 use Rattle.connection.specs.declared.Own.{Own}
 use Rattle.connection.specs.declared.Own.TheVariants.{Feed, Give, End, Reset}
@@ -31,8 +18,8 @@ use Rattle.connection.specs.declared.Connection.{Connection}
 use Rattle.connection.specs.declared.Found.{Found}
 use Rattle.connection.specs.declared.Turn.{Turn}
 use Rattle.connection.specs.Halves.{stream_id, doors_in, with_doors, side_in, with_side}
-use Rattle.connection.specs.Faults.{keeps, kept_if, with_code}
-use Rattle.connection.specs.Turned.{fresh_connection, told, numbered, turn, first_as, taken_by, free_at, opened_at, by_own, request_as, replied, one_way_as, overheard, Turned, other_row, dead, begun_of, swept_of, gone_by}
+use Rattle.connection.specs.Faults.{with_code}
+use Rattle.connection.specs.Turned.{fresh_connection, told, numbered, turn, opened_at, request_as, replied, one_way_as, overheard, Turned, other_row, dead, begun_of, swept_of, gone_by}
 
 pub record Row : Type 0 where
   pub asked : Turn
@@ -107,10 +94,6 @@ rows =
     ∷ row (goes (gone 0 8) 4 2) (turn (gone 0 8) free_record (numbered 7))  -- keeps as sent what had no room
     ∷ row (goes (gone 0 8) 12 2) (turn (gone 0 8) free_record (numbered 8))  -- gives 7 before 8
     ∷ []
-
-pub worked : map (λ (r : Row). r.asked) rows ≡ map (λ (r : Row). r.says) rows
-unfolding rows one_way_record is_one_of lookup extra ended carries tally ends column kind_of code_of data_rule rule_for rule end_of_ended once type_rule number_of answers named_in answer-named house_leaves leaves after fed typed finish halt also onward over_event behind_header feed one.controlled one.of_control one.halt one.also one.qpack_feed one.kind_feed one.typed_feed one.type_feed one.feed place_in frees freed_if said_by unless_due ended_by doors.barred_at doors.admitted_as doors.request_of doors.one_way_of doors.kind_of doors.alive_of sent_as sending_of write_of writer.into writer.both writer.frame_header_bytes writer.integer_frame writer.is_higher writer.bad_goaway writer.write_integer_frame writer.write_goaway integers.rows integers.low integers.in_row integers.in_first integers.written integers.largest came types_of closes sofar_in kept_numbers side_after heard.said_by heard.frame_event heard.frame_value heard.type_number heard.closed_by keeps kept_if first_as taken_by free_at by_own begun_of swept_of
-worked = refl
 
 -- 9 before the code of a dead connection; that code before all else
 abbrev fallen : Connection

@@ -1,12 +1,13 @@
 // Which streams a connection lets in (document 01, "Calls and the host's memory"), by value.
 ghost use Rattle.std.specs.Prelude.{◌≡◌, ◌<◌, ◌^◌};
 ghost use Rattle.wire.specs.Goaway.{sent_of};
-ghost use Rattle.connection.specs.Goaway.{sent_in, gone_away, Sends};
+ghost use Rattle.connection.specs.Goaway.{sent_in, SendsAs};
 ghost use Rattle.connection.specs.Openings.{fresh_doors, refusal, barred_at, next_request, next_one_way, admitted_as, request_of, one_way_of, opened_of};
 
-use varint::Wrote;
-use wire::Sent;
 use wire::ids::StreamId;
+
+// A stream's ID is below 2^62.
+const IDS: u64 = 1 << 62;
 
 // code: of the connection fault, 0 while there was none. requests and oneways: the lowest ID of each kind that was not opened yet.
 // goaways 0: we sent no GOAWAY; goaway: the last one's.
@@ -18,6 +19,26 @@ pub struct Doors {
     pub oneways: u64,
     pub goaways: u64,
     pub goaway: StreamId,
+}
+
+impl Doors {
+    // The ID of the last GOAWAY that we sent. The flag and the value beside it are the C interface's; they are read here alone.
+    fn sent(&self) -> Option<StreamId>
+        ensures { sent_of result ≡ sent_in self.now }
+    {
+        if self.goaways == 0 {
+            None
+        } else {
+            Some(self.goaway)
+        }
+    }
+
+    // Our GOAWAY bars requests from its ID upward.
+    fn bars(&self, id: StreamId) -> bool
+        ensures { result ≡ barred_at self.now.goaways self.now.goaway.0 id.0 }
+    {
+        self.sent().is_some_and(|bar| bar <= id)
+    }
 }
 
 // No stream was opened yet.
@@ -33,7 +54,7 @@ pub fn fresh() -> Doors
     }
 }
 
-// number 0: accepted.
+// number 0: accepted. No Result: 0x010b, too, spends the ID, so each number comes with doors.
 #[derive(Clone, Copy)]
 pub struct Opening {
     pub number: u64,
@@ -46,34 +67,25 @@ fn refused(number: u64, d: Doors) -> Opening
     Opening { number, doors: d }
 }
 
-// Our GOAWAY bars requests from its ID upward.
-fn barred(d: Doors, id: StreamId) -> bool
-    ensures { result ≡ barred_at d.goaways d.goaway.0 id.0 }
-{
-    let bar = d.goaway;
-    if d.goaways == 0 {
-        return false;
-    }
-    bar.0 <= id.0
-}
-
 // The ID is spent.
 fn next_request(d: Doors) -> Doors
     requires { d.requests < 2 ^ 62 }
     ensures { result ≡ next_request d }
 {
-    let mut next = d;
-    next.requests = d.requests + 4;
-    next
+    Doors {
+        requests: d.requests + 4,
+        ..d
+    }
 }
 
 fn next_one_way(d: Doors) -> Doors
     requires { d.oneways < 2 ^ 62 }
     ensures { result ≡ next_one_way d }
 {
-    let mut next = d;
-    next.oneways = d.oneways + 4;
-    next
+    Doors {
+        oneways: d.oneways + 4,
+        ..d
+    }
 }
 
 // A record must be free; free is how many are.
@@ -84,7 +96,7 @@ fn admitted(free: u64, next: Doors, d: Doors) -> Opening
         refused(rules::NO_RECORD, d)
     } else {
         Opening {
-            number: 0,
+            number: rules::ACCEPTED,
             doors: next,
         }
     }
@@ -97,7 +109,7 @@ fn open_request(d: Doors, id: StreamId, free: u64) -> Opening
     if id.0 != d.requests {
         return refused(rules::NOT_NEXT, d);
     }
-    if barred(d, id) {
+    if d.bars(id) {
         Opening {
             number: rules::REQUEST_REJECTED,
             doors: next_request(d),
@@ -124,69 +136,31 @@ pub fn open(d: Doors, id: StreamId, free: u64) -> Opening
     if d.code != 0 {
         return refused(d.code, d);
     }
-    if 4611686018427387904 <= id.0 {
+    if IDS <= id.0 {
         return refused(rules::NOT_NEXT, d);
     }
-    if id.0 % 4 == 0 {
-        return open_request(d, id, free);
+    match id.0 % 4 {
+        0 => open_request(d, id, free),
+        2 => open_one_way(d, id, free),
+        _ => refused(rules::NOT_NEXT, d),
     }
-    if id.0 % 4 == 2 {
-        return open_one_way(d, id, free);
-    }
-    refused(rules::NOT_NEXT, d)
 }
 
 // ---- our GOAWAY
 
-// number 0: accepted, and count bytes are written.
-#[derive(Clone, Copy)]
-pub struct Goaway {
-    pub number: u64,
-    pub count: usize,
-    pub doors: Doors,
-}
-
-fn sent(d: Doors) -> Sent
-    ensures { sent_of result ≡ sent_in d }
-{
-    let goaway = d.goaway;
-    if d.goaways == 0 {
-        Sent::Nothing
-    } else {
-        Sent::Up(goaway)
-    }
-}
-
-fn gone_away(d: Doors, id: StreamId) -> Doors
-    ensures { result ≡ gone_away d id }
-{
-    let mut after = d;
-    after.goaways = 1;
-    after.goaway = id;
-    after
-}
-
-// We send a GOAWAY of this ID: dead connection, 8, 7.
-pub fn send_goaway(d: Doors, id: StreamId, room: &mut [u8]) -> Goaway
-    ensures { Sends d id room.old result room.new }
+// We send a GOAWAY of this ID: dead connection, 8, 7. A refusal, by its number, leaves the doors as they were.
+pub fn send_goaway(d: &mut Doors, id: StreamId, room: &mut [u8]) -> Result<usize, u64>
+    ensures { SendsAs d.old id room.old result d.new room.new }
 {
     if d.code != 0 {
-        return Goaway {
-            number: d.code,
-            count: 0,
-            doors: d,
-        };
+        return Err(d.code);
     }
-    match wire::write_goaway(sent(d), id, room) {
-        Wrote::Refused(number) => Goaway {
-            number,
-            count: 0,
-            doors: d,
-        },
-        Wrote::Count(count) => Goaway {
-            number: 0,
-            count,
-            doors: gone_away(d, id),
-        },
+    match wire::write_goaway(d.sent(), id, room) {
+        Ok(count) => {
+            d.goaways = 1;
+            d.goaway = id;
+            Ok(count)
+        }
+        Err(refusal) => Err(refusal.number()),
     }
 }

@@ -9,7 +9,7 @@ ghost use Rattle.connection.specs.Whose.{Wanted};
 ghost use Rattle.record.specs.Row.{record_at, no_cells};
 ghost use Rattle.rules.specs.Numbers.{leaves, named};
 ghost use Rattle.connection.specs.Faults.{keeps, code_in};
-ghost use Rattle.connection.specs.Turned.{fresh_connection, numbered, stays, first_record, taken_by, free_at, opens_at, Asks, replies, beside, Hears, overhears, Turned, begun_of, swept_of, GoesAway};
+ghost use Rattle.connection.specs.Turned.{fresh_connection, numbered, stays, first_record, taken_by, free_at, opens_at, Asks, replies, beside, Hears, overhears, Turned, started_of, swept_of, gone, GoesAway};
 ghost use Rattle.connection.specs.Nearly.{Nearly};
 ghost use Rattle.connection.specs.Briefly.{Briefly};
 
@@ -17,6 +17,7 @@ use doors::Doors;
 use oneway::calls::{Heard, Side};
 use record::Record;
 use requests::Reply;
+use rules::codes::House;
 use wire::ids::StreamId;
 
 // A call on one stream: an opening, or a call on a stream that was opened.
@@ -34,6 +35,18 @@ pub enum Own {
     End,
     Reset,
 }
+
+// A call as a host asks it: of which stream, how many frame headers may be read, and the bytes that come with it.
+#[derive(Clone, Copy)]
+pub struct Ask<'a> {
+    pub call: Call,
+    pub id: u64,
+    pub allow: u64,
+    pub piece: &'a [u8],
+}
+
+// How many records a host's row has.
+pub const ROW: usize = 24;
 
 // What a host lends for a connection: integers alone, and each value means something. doors: what every call looks at. side: what only a one-way
 // stream's call does. A code, a flag or a count that no start of ours left has a meaning too (docs/DECISIONS.md, N14).
@@ -59,6 +72,44 @@ pub struct Report {
     pub value: u64,
 }
 
+impl From<Reply> for Report {
+    ghost use Rattle.std.specs.Prelude.{◌≡◌};
+    ghost use Rattle.connection.specs.Turned.{request_report};
+
+    ghost from_gives = { λ a r. r ≡ request_report a };
+
+    fn from(a: Reply) -> Report {
+        Report {
+            number: a.number,
+            event: a.event,
+            start: a.start as u64,
+            len: a.len,
+            used: a.used as u64,
+            heads: a.heads,
+            value: 0,
+        }
+    }
+}
+
+impl From<Heard> for Report {
+    ghost use Rattle.std.specs.Prelude.{◌≡◌};
+    ghost use Rattle.connection.specs.Turned.{one_way_report};
+
+    ghost from_gives = { λ a r. r ≡ one_way_report a };
+
+    fn from(a: Heard) -> Report {
+        Report {
+            number: a.number,
+            event: a.event,
+            start: a.start as u64,
+            len: a.len,
+            used: a.used as u64,
+            heads: a.heads,
+            value: a.value,
+        }
+    }
+}
+
 // What a search of the row found: how many records it has, where the wanted one is (that many, if it is nowhere), and the record.
 #[derive(Clone, Copy)]
 pub struct Found {
@@ -67,10 +118,9 @@ pub struct Found {
     pub row: Record,
 }
 
-// What a call leaves of the doors and of the record, and what it answers, beside any side. aside: the side is asked, and nothing is said yet.
+// What a call leaves of the doors and of the record, and what it answers, beside any side.
 #[derive(Clone, Copy)]
 pub struct Near {
-    pub aside: bool,
     pub doors: Doors,
     pub row: Record,
     pub report: Report,
@@ -84,12 +134,6 @@ pub struct Turn {
     pub report: Report,
 }
 
-#[derive(Clone, Copy)]
-pub struct Begun {
-    pub number: u64,
-    pub conn: Connection,
-}
-
 // number 0: accepted, and count bytes are written.
 #[repr(C)]
 #[derive(Clone, Copy)]
@@ -98,10 +142,21 @@ pub struct Written {
     pub count: u64,
 }
 
-#[derive(Clone, Copy)]
-pub struct Gone {
-    pub doors: Doors,
-    pub written: Written,
+impl From<Result<usize, u64>> for Written {
+    ghost use Rattle.std.specs.Prelude.{◌≡◌};
+    ghost use Rattle.connection.specs.Turned.{written_of};
+
+    ghost from_gives = { λ a w. w ≡ written_of a };
+
+    fn from(answer: Result<usize, u64>) -> Written {
+        match answer {
+            Ok(count) => Written {
+                number: rules::ACCEPTED,
+                count: count as u64,
+            },
+            Err(number) => Written { number, count: 0 },
+        }
+    }
 }
 
 pub fn fresh() -> Connection
@@ -132,11 +187,9 @@ fn numbered_report(number: u64) -> Report
 fn refused(number: u64, d: Doors, f: Found) -> Near
     ensures { result ≡ stays number d f }
 {
-    let row = f.row;
     Near {
-        aside: false,
         doors: d,
-        row,
+        row: f.row,
         report: numbered_report(number),
     }
 }
@@ -163,11 +216,10 @@ fn code_kept(d: Doors, number: u64) -> Doors
     ensures { result ≡ code_in d number }
 {
     if keeps_code(number) {
-        let mut dead = d;
-        dead.code = number;
-        return dead;
+        Doors { code: number, ..d }
+    } else {
+        d
     }
-    d
 }
 
 // ---- the row
@@ -178,16 +230,7 @@ pub fn wanted(call: Call, id: u64, r: Record) -> bool
 {
     match call {
         Call::Open => record::is_free(r),
-        Call::On(_) => {
-            if r.id != id {
-                return false;
-            }
-            if r.kind == record::FREE_KIND {
-                false
-            } else {
-                true
-            }
-        }
+        Call::On(_) => r.id == id && r.kind != record::FREE_KIND,
     }
 }
 
@@ -199,17 +242,8 @@ fn begun_row(kind: u8, id: u64) -> Record
 {
     Record {
         id,
-        acc: 0,
-        ftype: 0,
-        stated: 0,
-        sum: 0,
         kind,
-        mode: 0,
-        due: 0,
-        phase: 0,
-        has: 0,
-        owner: 0,
-        room: 0,
+        ..record::free()
     }
 }
 
@@ -217,10 +251,10 @@ fn begun_row(kind: u8, id: u64) -> Record
 fn first_record(id: StreamId) -> Record
     ensures { result ≡ first_record id.0 }
 {
-    if id.0 % 4 == 0 {
-        begun_row(1, id.0)
+    if wire::ids::is_request(id) {
+        begun_row(record::REQUEST_KIND, id.0)
     } else {
-        begun_row(2, id.0)
+        begun_row(record::UNTYPED as u8, id.0)
     }
 }
 
@@ -228,39 +262,40 @@ fn first_record(id: StreamId) -> Record
 fn taken_by(number: u64, id: StreamId, r: Record) -> Record
     ensures { result ≡ taken_by number id.0 r }
 {
-    if number == 0 { first_record(id) } else { r }
+    if number == rules::ACCEPTED {
+        first_record(id)
+    } else {
+        r
+    }
 }
 
 // How many free records a search for one has found.
 fn free_at(at: usize) -> u64
     ensures { result ≡ free_at at }
 {
-    if at < 24 { 1 } else { 0 }
+    u64::from(at < ROW)
 }
 
 fn open_stream(d: Doors, f: Found, id: StreamId) -> Near
     ensures { result ≡ opens_at d f id.0 }
 {
-    let row = f.row;
-    let o = doors::open(d, id, free_at(f.at));
-    let doors = o.doors;
+    let opening = doors::open(d, id, free_at(f.at));
     Near {
-        aside: false,
-        doors,
-        row: taken_by(o.number, id, row),
-        report: numbered_report(o.number),
+        doors: opening.doors,
+        row: taken_by(opening.number, id, f.row),
+        report: numbered_report(opening.number),
     }
 }
 
 // ---- a call on an open stream
 
 // What a request answers, and what that makes of doors and record: a connection fault's code is kept.
-fn ask(r: Record, own: Own, allow: u64, piece: &[u8]) -> Reply
-    ensures { Asks r own allow piece.now result }
+fn answer_request(r: Record, own: Own, ask: Ask) -> Reply
+    ensures { Asks r own ask.entry.allow ask.entry.piece.now result }
 {
     match own {
-        Own::Feed => requests::feed(r, piece, allow),
-        Own::Give => requests::give(r, piece),
+        Own::Feed => requests::feed(r, ask.piece, ask.allow),
+        Own::Give => requests::give(r, ask.piece),
         Own::End => requests::end(r),
         Own::Reset => requests::reset(r),
     }
@@ -269,86 +304,56 @@ fn ask(r: Record, own: Own, allow: u64, piece: &[u8]) -> Reply
 fn reply_turn(d: Doors, a: Reply) -> Near
     ensures { result ≡ replies d a }
 {
-    let row = a.row;
     Near {
-        aside: false,
         doors: code_kept(d, a.number),
-        row,
-        report: Report {
-            number: a.number,
-            event: a.event,
-            start: a.start as u64,
-            len: a.len,
-            used: a.used as u64,
-            heads: a.heads,
-            value: 0,
-        },
+        row: a.row,
+        report: Report::from(a),
     }
 }
 
 // What a one-way stream answers, and what that makes of both: it alters its side of the connection too.
-fn heed(r: Record, d: Side, own: Own, allow: u64, piece: &[u8]) -> Heard
-    ensures { Hears r d own allow piece.now result }
+fn answer_one_way(r: Record, side: Side, own: Own, ask: Ask) -> Heard
+    ensures { Hears r side own ask.entry.allow ask.entry.piece.now result }
 {
     match own {
-        Own::Feed => oneway::calls::feed(r, d, piece, allow),
-        Own::Give => oneway::calls::give(r, d),
-        Own::End => oneway::calls::close(r, d),
-        Own::Reset => oneway::calls::close(r, d),
+        Own::Feed => oneway::calls::feed(r, side, ask.piece, ask.allow),
+        Own::Give => oneway::calls::give(r, side),
+        Own::End | Own::Reset => oneway::calls::close(r, side),
     }
 }
 
 fn heard_turn(d: Doors, a: Heard) -> Turn
     ensures { result ≡ overhears d a }
 {
-    let row = a.row;
-    let side = a.side;
     Turn {
         conn: Connection {
             doors: code_kept(d, a.number),
-            side,
+            side: a.side,
         },
-        row,
-        report: Report {
-            number: a.number,
-            event: a.event,
-            start: a.start as u64,
-            len: a.len,
-            used: a.used as u64,
-            heads: a.heads,
-            value: a.value,
-        },
+        row: a.row,
+        report: Report::from(a),
     }
 }
 
-// A call on one stream, as far as the doors decide it.
-pub fn answer(d: Doors, f: Found, call: Call, id: u64, allow: u64, piece: &[u8]) -> Near
-    ensures { Nearly d f call id allow piece.now result }
+// A call on one stream, as far as the doors decide it: none, if the side is asked.
+pub fn answer(d: Doors, f: Found, ask: Ask) -> Option<Near>
+    ensures { Nearly d f ask.entry.call ask.entry.id ask.entry.allow ask.entry.piece.now result }
 {
-    if f.len != 24 {
-        return refused(rules::OTHER_ROW, d, f);
+    if f.len != ROW {
+        return Some(refused(rules::OTHER_ROW, d, f));
     }
     if d.code != 0 {
-        return refused(d.code, d, f);
+        return Some(refused(d.code, d, f));
     }
-    match call {
-        Call::Open => open_stream(d, f, StreamId(id)),
-        Call::On(own) => {
-            if 24 <= f.at {
-                return refused(rules::NOT_OPEN, d, f);
-            }
-            let row = f.row;
-            // 1 to a record that is not an open stream's, here and aside.
-            if row.kind == record::REQUEST_KIND {
-                return reply_turn(d, ask(row, own, allow, piece));
-            }
-            Near {
-                aside: true,
-                doors: d,
-                row,
-                report: numbered_report(0),
-            }
-        }
+    match ask.call {
+        Call::Open => Some(open_stream(d, f, StreamId(ask.id))),
+        Call::On(_) if ROW <= f.at => Some(refused(rules::NOT_OPEN, d, f)),
+        // 1 to a record that is not an open stream's, here and aside.
+        Call::On(own) if f.row.kind == record::REQUEST_KIND => Some(reply_turn(
+            d,
+            answer_request(f.row, own, ask),
+        )),
+        Call::On(_) => None,
     }
 }
 
@@ -356,32 +361,24 @@ pub fn answer(d: Doors, f: Found, call: Call, id: u64, allow: u64, piece: &[u8])
 fn near_turn(side: Side, n: Near) -> Turn
     ensures { result ≡ beside side n }
 {
-    let doors = n.doors;
-    let row = n.row;
-    let report = n.report;
     Turn {
-        conn: Connection { doors, side },
-        row,
-        report,
+        conn: Connection {
+            doors: n.doors,
+            side,
+        },
+        row: n.row,
+        report: n.report,
     }
 }
 
 // A call on one stream.
-pub fn decide(c: Connection, f: Found, call: Call, id: u64, allow: u64, piece: &[u8]) -> Turn
-    ensures { Turned c f call id allow piece.now result }
+pub fn decide(c: Connection, f: Found, ask: Ask) -> Turn
+    ensures { Turned c f ask.entry.call ask.entry.id ask.entry.allow ask.entry.piece.now result }
 {
-    let d = c.doors;
-    let side = c.side;
-    let row = f.row;
-    let n = answer(d, f, call, id, allow, piece);
-    match call {
-        Call::Open => near_turn(side, n),
-        Call::On(own) => {
-            if n.aside {
-                return heard_turn(d, heed(row, side, own, allow, piece));
-            }
-            near_turn(side, n)
-        }
+    match (answer(c.doors, f, ask), ask.call) {
+        (Some(near), _) => near_turn(c.side, near),
+        (None, Call::On(own)) => heard_turn(c.doors, answer_one_way(f.row, c.side, own, ask)),
+        (None, Call::Open) => unreachable!(),
     }
 }
 
@@ -392,55 +389,32 @@ pub struct Brief {
     pub report: Report,
 }
 
-// A feed, if it is content of a request: number 0, and the connection stays as it is. With any other number the answer says nothing.
-pub fn brisk(code: u64, f: Found, allow: u64, piece: &[u8]) -> Brief
+// A feed, if it is content of a request: accepted, and the connection stays as it is.
+pub fn brisk(code: u64, f: Found, allow: u64, piece: &[u8]) -> Option<Brief>
     ensures { Briefly code f allow piece.now result }
 {
-    let row = f.row;
-    if f.len == 24 {
-        if code == 0 {
-            if f.at < 24 {
-                if row.kind == record::REQUEST_KIND {
-                    let a = requests::brisk(row, piece, allow);
-                    let q = a.row;
-                    return Brief {
-                        row: q,
-                        report: Report {
-                            number: a.number,
-                            event: a.event,
-                            start: a.start as u64,
-                            len: a.len,
-                            used: a.used as u64,
-                            heads: a.heads,
-                            value: 0,
-                        },
-                    };
-                }
-            }
+    if f.len == ROW && code == 0 && f.at < ROW && f.row.kind == record::REQUEST_KIND {
+        let a = requests::brisk(f.row, piece, allow);
+        if a.number == rules::ACCEPTED {
+            return Some(Brief {
+                row: a.row,
+                report: Report::from(a),
+            });
         }
     }
-    Brief {
-        row,
-        report: numbered_report(rules::NOT_OPEN),
-    }
+    None
 }
 
 // ---- start
 
-// Start, lent a row of this length.
-pub fn begin(c: Connection, len: usize) -> Begun
-    ensures { result ≡ begun_of c len }
+// Start, lent a row of this length: a refusal leaves the connection as it was.
+pub fn begin(len: usize) -> Result<Connection, House>
+    ensures { result ≡ started_of len }
 {
-    if len == 24 {
-        Begun {
-            number: 0,
-            conn: fresh(),
-        }
+    if len == ROW {
+        Ok(fresh())
     } else {
-        Begun {
-            number: rules::OTHER_ROW,
-            conn: c,
-        }
+        Err(House::OtherRow)
     }
 }
 
@@ -448,22 +422,14 @@ pub fn begin(c: Connection, len: usize) -> Begun
 pub fn swept(len: usize, r: Record) -> Record
     ensures { result ≡ swept_of len r }
 {
-    if len == 24 { record::free() } else { r }
+    if len == ROW { record::free() } else { r }
 }
 
 // ---- our GOAWAY
 
 // We send a GOAWAY of this ID into the room.
-pub fn say_goaway(d: Doors, id: u64, room: &mut [u8]) -> Gone
-    ensures { GoesAway d id room.old result room.new }
+pub fn say_goaway(d: &mut Doors, id: u64, room: &mut [u8]) -> Written
+    ensures { GoesAway d.old id room.old (gone d.new result) room.new }
 {
-    let g = doors::send_goaway(d, StreamId(id), room);
-    let doors = g.doors;
-    Gone {
-        doors,
-        written: Written {
-            number: g.number,
-            count: g.count as u64,
-        },
-    }
+    Written::from(doors::send_goaway(d, StreamId(id), room))
 }

@@ -1,5 +1,5 @@
 -- A control stream's complete payload judged, in numbers: the answer. Assumes nothing.
-use Rattle.std.specs.Prelude.{◌≡◌, List, Bool, true, false, ltb}
+use Rattle.std.specs.Prelude.{◌≡◌, List, Bool, true, false, ltb, Option as Maybe, Some, None, Result, Ok, Err, is_some, unwrap_or}
 use Rattle.std.proofs.Math.Path.{refl, ap}
 use Rattle.std.proofs.Common.{sym, ◌∙◌, lt-ltb, le-ltb}
 use Prim.Native.Nat.{ℕ, zero, suc, ◌<◌, ◌≤◌}
@@ -8,14 +8,12 @@ use Rattle.rules.specs.Numbers.{FRAME-UNEXPECTED, FRAME-ERROR, ID-ERROR}
 use Rattle.rules.specs.Integers.{integer}
 use Rattle.rules.specs.Control.{Settings, settings_of, only}
 use Rattle.wire.specs.declared.ids.PushId.{PushId}
-use Rattle.control.specs.declared.settings.SectionSize.TheVariants.{Unlimited, AtMost}
 use Rattle.control.specs.declared.settings.Settings as kept-settings
-use Rattle.control.specs.declared.settings.Judged.{Judged}
-use Rattle.control.specs.declared.settings.Judged.TheVariants as judgement
-use Rattle.control.specs.declared.settings.Single.{Single}
-use Rattle.control.specs.declared.settings.Single.TheVariants as single
+use Rattle.rules.specs.declared.codes.Code.{Code}
+use Rattle.rules.specs.Numbers.{code_number}
+use Rattle.rules.specs.Named.{code_of}
 use Rattle.meaning.specs.NumberLaws.{Numbered, stops, goes, numbered}
-use Rattle.control.specs.Answers.{settings_is, judged_is, single_is}
+use Rattle.control.specs.Answers.{size_is, settings_is, judged_is, single_is}
 use Rattle.control.specs.declared.Kept.{Kept}
 use Rattle.control.specs.declared.Verdict.{Verdict}
 
@@ -119,20 +117,24 @@ judged_of which k payload = payload_of k.set which k payload
 
 -- ---- laws: a law for each way out
 
-pub size_unlimited : (s : kept-settings.Settings) {r : Kept} → s.size ≡ Unlimited → r ≡ settled 0 0 s.capacity s.blocked → r ≡ settings_kept (settings_is s)
-unfolding limits_of
-size_unlimited s e f = f ∙ rw e refl
+-- 1 where something is there
+abbrev pub one_if : Bool → ℕ
+one_if true = 1
+one_if false = 0
 
-pub size_limited : (s : kept-settings.Settings) {r : Kept} {n : ℕ} → s.size ≡ AtMost n → r ≡ settled 1 n s.capacity s.blocked → r ≡ settings_kept (settings_is s)
-unfolding limits_of
-size_limited s e f = f ∙ rw e refl
+pub kept_is : (s : kept-settings.Settings) {limited : ℕ} → limited ≡ one_if (is_some s.size) → settled limited (unwrap_or s.size 0) s.capacity s.blocked ≡ settings_kept (settings_is s)
+kept_is s e = rw e (by s.size)
+  where
+    by : (o : Maybe ℕ) → settled (one_if (is_some o)) (unwrap_or o 0) s.capacity s.blocked ≡ limits_of (size_is o) s.capacity s.blocked
+    by None = unfold limits_of in refl
+    by (Some n) = unfold limits_of in refl
 
-module _ (k : Kept) (payload : List ℕ) (a : Judged) (met : judged_is a ≡ numbered (settings_of payload)) where
-  pub settings_refused : {number : ℕ} {r : Verdict} → a ≡ judgement.Refused number → r ≡ refusal number k → r ≡ settings_verdict k (numbered (settings_of payload))
+module _ (k : Kept) (payload : List ℕ) (a : Result kept-settings.Settings Code) (met : judged_is a ≡ numbered (settings_of payload)) where
+  pub settings_refused : {c : Code} {r : Verdict} → a ≡ Err c → r ≡ refusal (code_number (code_of c)) k → r ≡ settings_verdict k (numbered (settings_of payload))
   unfolding settings_verdict
   settings_refused e f = f ∙ ap (λ x. settings_verdict k (judged_is x)) (sym e) ∙ ap (settings_verdict k) met
 
-  pub settings_kept_lem : {s : kept-settings.Settings} {q : Kept} → a ≡ judgement.Kept s → q ≡ settings_kept (settings_is s)
+  pub settings_kept_lem : {s : kept-settings.Settings} {q : Kept} → a ≡ Ok s → q ≡ settings_kept (settings_is s)
       → ◌≡◌ {A = Verdict} (record { number = 0; event = 8; id = push_id 0; kept = q }) (settings_verdict k (numbered (settings_of payload)))
   unfolding settings_verdict
   settings_kept_lem e f = ap (λ x. record { number = 0; event = 8; id = push_id 0; kept = x }) f ∙ ap (λ x. settings_verdict k (judged_is x)) (sym e) ∙ ap (settings_verdict k) met
@@ -210,12 +212,12 @@ module _ (k : Kept) (id : PushId) {r : Verdict} where
   id_cancel (suc (suc (suc (suc (suc (suc (suc (suc (suc (suc zero)))))))))) a b d f = absurd (b refl)
   id_cancel (suc (suc (suc (suc (suc (suc (suc (suc (suc (suc (suc n))))))))))) a b d f = f
 
-module _ (which : ℕ) (k : Kept) (payload : List ℕ) (a : Single) (met : single_is a ≡ only (integer 0 payload)) {r : Verdict} where
-  pub integer_not : a ≡ single.Not → r ≡ refusal FRAME-ERROR k → r ≡ integer_of which k (only (integer 0 payload))
+module _ (which : ℕ) (k : Kept) (payload : List ℕ) (a : Maybe ℕ) (met : single_is a ≡ only (integer 0 payload)) {r : Verdict} where
+  pub integer_not : a ≡ None → r ≡ refusal FRAME-ERROR k → r ≡ integer_of which k (only (integer 0 payload))
   unfolding integer_of
   integer_not e f = f ∙ ap (λ x. integer_of which k (single_is x)) (sym e) ∙ ap (integer_of which k) met
 
-  pub integer_is : {v : ℕ} → a ≡ single.Is v → r ≡ id_of which k (push_id v) → r ≡ integer_of which k (only (integer 0 payload))
+  pub integer_is : {v : ℕ} → a ≡ Some v → r ≡ id_of which k (push_id v) → r ≡ integer_of which k (only (integer 0 payload))
   unfolding integer_of
   integer_is e f = f ∙ ap (λ x. integer_of which k (single_is x)) (sym e) ∙ ap (integer_of which k) met
 

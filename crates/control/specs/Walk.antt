@@ -1,14 +1,13 @@
 -- What the walk over a SETTINGS payload goes by: its pairs, looking again at those passed, and what is kept so far. Assumes nothing.
-use Rattle.std.specs.Prelude.{◌≡◌, ℕ, List, [], ◌∷◌, Bool, true, false, ◌||◌, eqb, length, drop}
-use Rattle.std.proofs.Math.Option.{Option, none, some}
+use Rattle.std.specs.Prelude.{◌≡◌, ℕ, List, [], ◌∷◌, Bool, ◌||◌, length, drop, Option as Maybe, Some, None, Result}
 use Rattle.rules.specs.Text.{is_one_of}
 use Rattle.rules.specs.Integers.{cut, got, integer}
 use Rattle.rules.specs.Reading.{Next}
 use Rattle.rules.specs.Control.{Settings, pairs}
 use Rattle.meaning.specs.NumberLaws.{numbered}
-use Rattle.control.specs.declared.settings.Judged.{Judged}
-use Rattle.control.specs.declared.settings.Found.{Found}
-use Rattle.control.specs.declared.settings.Found.TheVariants as found
+use Rattle.rules.specs.declared.codes.Code.{Code}
+use Rattle.control.specs.declared.settings.Pair.{Pair}
+use Rattle.control.specs.declared.settings.Settings as kept
 use Rattle.control.specs.Answers.{judged_is}
 
 -- ---- pairs of a payload l
@@ -23,9 +22,9 @@ pub data IsCut (l : List ℕ) (at : ℕ) : Type 0 where
   identifier_cut : integer at (drop at l) ≡ cut → IsCut l at
   value_cut : {identifier middle : ℕ} → integer at (drop at l) ≡ got identifier middle (drop middle l) → integer middle (drop middle l) ≡ cut → IsCut l at
 
-abbrev pub FoundAt : List ℕ → (at : ℕ) → Found → Type 0
-FoundAt l at (found.Pair i v to) = IsPair l at i v to
-FoundAt l at found.Cut = IsCut l at
+abbrev pub FoundAt : List ℕ → (at : ℕ) → Maybe Pair → Type 0
+FoundAt l at (Some p) = IsPair l at p.identifier p.value p.shorter
+FoundAt l at None = IsCut l at
 
 -- ---- those passed
 
@@ -38,23 +37,6 @@ pub data Passed (l : List ℕ) : (from until : ℕ) → (before after : List ℕ
 abbrev pub Looked : List ℕ → (from until sought : ℕ) → Bool → Type 0
 Looked l from until i r = (before after : List ℕ) → Passed l from until before after → is_one_of after i ≡ (r || is_one_of before i)
 
--- ---- what is kept so far, as numbers
-
-abbrev pub sized : Bool → ℕ → Option ℕ
-sized true n = some n
-sized false n = none
-
-abbrev pub made : (limited : Bool) → (size capacity blocked : ℕ) → Settings
-made limited n c b = record { section_size = sized limited n; table_capacity = c; blocked_streams = b }
-
-abbrev pub pick : Bool → ℕ → ℕ → ℕ
-pick true v before = v
-pick false v before = before
-
--- the value of the setting `which` once a pair has come
-abbrev pub chosen : (which identifier value before : ℕ) → ℕ
-chosen which i v before = pick (eqb i which) v before
-
 -- ---- the walk
 
 -- the rule from some pair on
@@ -62,5 +44,5 @@ abbrev pub rest : (seen : List ℕ) → Settings → List ℕ → Next Settings
 rest seen s bs = pairs (length bs) seen s bs
 
 -- the answer at a place that is reached with s kept
-abbrev pub Walked : List ℕ → (at : ℕ) → Settings → Judged → Type 0
+abbrev pub Walked : List ℕ → (at : ℕ) → Settings → Result kept.Settings Code → Type 0
 Walked l at s r = (seen : List ℕ) → Passed l 0 at [] seen → judged_is r ≡ numbered (rest seen s (drop at l))

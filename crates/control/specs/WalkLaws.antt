@@ -1,22 +1,23 @@
 -- Laws of the walk over a SETTINGS payload: the rule goes by one pair, looking again finds what was seen, and each answer of the walk
 -- follows from the answer on the shorter payload. Assumes nothing.
-use Rattle.std.specs.Prelude.{◌≡◌, ℕ, zero, suc, ◌+◌, ◌*◌, ◌%◌, ◌≤◌, ◌<◌, Bool, true, false, ◌||◌, eqb, length, drop}
+use Rattle.std.specs.Prelude.{◌≡◌, ℕ, zero, suc, ◌+◌, ◌*◌, ◌%◌, ◌≤◌, ◌<◌, Bool, true, false, ◌||◌, eqb, length, drop, Result, Ok, Err}
 use Rattle.std.proofs.Math.Path.{refl, sym}
-use Rattle.std.proofs.Common.{ap, ◌∙◌, arith, lit≤, length-drop, drop_of_length-le, eq-eqb, ne_eqb, eqb-true}
+use Rattle.std.proofs.Common.{ap, ◌∙◌, arith, lit≤, length-drop, drop_of_length-le, eq-eqb, ne_eqb}
 use mathlib.Core.List.{List, [], ◌∷◌}
-use Rattle.rules.specs.Numbers.{FRAME-ERROR, SETTINGS-ERROR, of_connection, frame_error, settings_error}
+use Rattle.rules.specs.Numbers.{of_connection, frame_error, settings_error}
 use Rattle.rules.specs.Text.{is_one_of}
 use Rattle.rules.specs.Integers.{Int, cut, got, more, extra, integer}
 use Rattle.rules.specs.Reading.{Next, stop}
+use Rattle.std.proofs.Math.Option.{some}
 use Rattle.rules.specs.Control.{Settings, set_to, reserved_identifiers, pairs, no_settings, settings_of}
 use Rattle.meaning.specs.IntegerLaws.{integer_length}
 use Rattle.meaning.specs.ControlLaws.{pairs_enough}
 use Rattle.control.specs.declared.settings.Settings as kept
-use Rattle.control.specs.declared.settings.Judged.{Judged}
-use Rattle.control.specs.declared.settings.Judged.TheVariants.{Refused, Kept}
+use Rattle.rules.specs.declared.codes.Code.{Code}
+use Rattle.rules.specs.declared.codes.Code.TheVariants.{FrameError, SettingsError}
 use Rattle.control.specs.Answers.{judged_is, settings_is}
 use Rattle.meaning.specs.NumberLaws.{numbered}
-use Rattle.control.specs.Walk.{IsPair, IsCut, identifier_cut, value_cut, Passed, nothing, pair, Looked, made, chosen, rest, Walked}
+use Rattle.control.specs.Walk.{IsPair, IsCut, identifier_cut, value_cut, Passed, nothing, pair, Looked, rest, Walked}
 
 -- ---- an integer read further on is the same, its place further on
 
@@ -160,23 +161,23 @@ module _ (l : List ℕ) where
 -- ---- the walk
 
 module _ (l : List ℕ) (at : ℕ) (s : Settings) where
-  pub walk_end : (k : kept.Settings) → length l ≤ at → settings_is k ≡ s → Walked l at s (Kept k)
+  pub walk_end : (k : kept.Settings) → length l ≤ at → settings_is k ≡ s → Walked l at s (Ok k)
   unfolding pairs numbered
   walk_end k h e seen q = rw (drop_of_length-le l h, e)
 
-  pub walk_cut : at < length l → IsCut l at → Walked l at s (Refused FRAME-ERROR)
+  pub walk_cut : at < length l → IsCut l at → Walked l at s (Err FrameError)
   unfolding numbered
   walk_cut h c seen q = sym (ap numbered (pairs_cut l at seen s (drop at l) refl h c))
 
-  pub walk_reserved : {i v to : ℕ} → IsPair l at i v to → is_one_of reserved_identifiers i ≡ true → Walked l at s (Refused SETTINGS-ERROR)
+  pub walk_reserved : {i v to : ℕ} → IsPair l at i v to → is_one_of reserved_identifiers i ≡ true → Walked l at s (Err SettingsError)
   unfolding numbered
   walk_reserved p e seen q = sym (ap numbered (pairs_pair l at seen s (drop at l) refl p) ∙ rw e refl)
 
-  pub walk_seen : {i v to : ℕ} → IsPair l at i v to → is_one_of reserved_identifiers i ≡ false → Looked l 0 at i true → Walked l at s (Refused SETTINGS-ERROR)
+  pub walk_seen : {i v to : ℕ} → IsPair l at i v to → is_one_of reserved_identifiers i ≡ false → Looked l 0 at i true → Walked l at s (Err SettingsError)
   unfolding is_one_of numbered
   walk_seen p e k seen q = let f = k [] seen q in sym (ap numbered (pairs_pair l at seen s (drop at l) refl p) ∙ rw (e, f) refl)
 
-  pub walk_on : {i v to : ℕ} (r : Judged) (u : Settings) → IsPair l at i v to → is_one_of reserved_identifiers i ≡ false → Looked l 0 at i false → u ≡ set_to i v s → Walked l to u r → Walked l at s r
+  pub walk_on : {i v to : ℕ} (r : Result kept.Settings Code) (u : Settings) → IsPair l at i v to → is_one_of reserved_identifiers i ≡ false → Looked l 0 at i false → u ≡ set_to i v s → Walked l to u r → Walked l at s r
   unfolding is_one_of
   walk_on {i = i} r u p e k a w seen q = let f = k [] seen q in w (i ∷ seen) (passed_more l q p) ∙ sym (ap numbered (pairs_pair l at seen s (drop at l) refl p) ∙ rw (e, f, a) refl)
 
@@ -197,19 +198,23 @@ not_reserved i n =
     simp (ne_eqb i 2 (n 2 (lit≤ tt) (lit≤ tt)), ne_eqb i 3 (n 3 (lit≤ tt) (lit≤ tt)), ne_eqb i 4 (n 4 (lit≤ tt) (lit≤ tt)), ne_eqb i 5 (n 5 (lit≤ tt) (lit≤ tt)))
 
 -- what a pair sets
-set_by : (i v : ℕ) (limited : Bool) (n c b : ℕ) → (six one seven : Bool) → eqb i 6 ≡ six → eqb i 1 ≡ one → eqb i 7 ≡ seven
-    → made (eqb i 6 || limited) (chosen 6 i v n) (chosen 1 i v c) (chosen 7 i v b) ≡ set_to i v (made limited n c b)
+pub set_six : (i v : ℕ) (s : Settings) → i ≡ 6 → record { section_size = some v; table_capacity = s.table_capacity; blocked_streams = s.blocked_streams } ≡ set_to i v s
 unfolding set_to
-set_by i v limited n c b true one seven e f g = let is = eqb-true i 6 e in rw is
-set_by i v limited n c b false true seven e f g = let is = eqb-true i 1 f in rw is
-set_by i v limited n c b false false true e f g = let is = eqb-true i 7 g in rw is
-set_by i v limited n c b false false false e f g = rw (e, set_to) (rw (f, g))
+set_six i v s e = rw e
 
-pub set_made : (i v : ℕ) (limited : Bool) (n c b : ℕ) {size capacity blocked : ℕ} → size ≡ chosen 6 i v n → capacity ≡ chosen 1 i v c → blocked ≡ chosen 7 i v b
-    → made (eqb i 6 || limited) size capacity blocked ≡ set_to i v (made limited n c b)
-set_made i v limited n c b e f g = rw (e, f, g) (set_by i v limited n c b (eqb i 6) (eqb i 1) (eqb i 7) refl refl refl)
+pub set_one : (i v : ℕ) (s : Settings) → i ≡ 1 → record { section_size = s.section_size; table_capacity = v; blocked_streams = s.blocked_streams } ≡ set_to i v s
+unfolding set_to
+set_one i v s e = rw e
+
+pub set_seven : (i v : ℕ) (s : Settings) → i ≡ 7 → record { section_size = s.section_size; table_capacity = s.table_capacity; blocked_streams = v } ≡ set_to i v s
+unfolding set_to
+set_seven i v s e = rw e
+
+pub set_other : (i v : ℕ) (s : Settings) → (i ≡ 6 → ⊥) → (i ≡ 1 → ⊥) → (i ≡ 7 → ⊥) → s ≡ set_to i v s
+unfolding set_to
+set_other i v s a b c = rw (ne_eqb i 6 a, set_to) (rw (ne_eqb i 1 b, ne_eqb i 7 c))
 
 -- from the beginning, with nothing kept
-pub judge_is : (l : List ℕ) (r : Judged) → Walked l 0 (made false 0 0 0) r → judged_is r ≡ numbered (settings_of l)
+pub judge_is : (l : List ℕ) (r : Result kept.Settings Code) → Walked l 0 no_settings r → judged_is r ≡ numbered (settings_of l)
 unfolding settings_of no_settings
 judge_is l r w = w [] nothing

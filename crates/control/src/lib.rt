@@ -8,9 +8,12 @@ ghost use Rattle.control.specs.Answers.{settings_is};
 ghost use Rattle.rules.specs.Integers.{integer};
 ghost use Rattle.meaning.specs.NumberLaws.{numbered};
 ghost use Rattle.rules.specs.Control.{settings_of, only};
-ghost use Rattle.control.specs.Judged.{refusal, settled, settings_kept, settings_verdict, goaway_taken, max_push_taken, goaway_of, max_push_of, id_of, integer_of, judged_of};
+ghost use Rattle.control.specs.Judged.{refusal, settings_kept, settings_verdict, goaway_of, max_push_of, id_of, integer_of, judged_of};
+ghost use Rattle.rules.specs.Numbers.{code_number};
+ghost use Rattle.rules.specs.Named.{code_of};
 
-use settings::{Judged, SectionSize, Settings, Single};
+use rules::codes::Code;
+use settings::Settings;
 use wire::ids::PushId;
 
 // What a control stream keeps. set 0: SETTINGS have not come. limited 1: a section size is stated. goaways and pushes: how many of GOAWAY and
@@ -29,7 +32,7 @@ pub struct Kept {
     pub push: PushId,
 }
 
-// number 0: good, else the code. event 0: none, 8: settings, 9: a client's GOAWAY, 10: MAX_PUSH_ID; id: the push ID of the last two.
+// number 0: good, else the code. event: NOTHING, SETTINGS, GOAWAY (a client's) or MAX_PUSH_ID of rules; id: the push ID of the last two.
 #[repr(C)]
 #[derive(Clone, Copy)]
 pub struct Verdict {
@@ -39,11 +42,11 @@ pub struct Verdict {
     pub kept: Kept,
 }
 
-fn refused(code: u64, kept: Kept) -> Verdict
-    ensures { result ≡ refusal code kept }
+fn refused(code: Code, kept: Kept) -> Verdict
+    ensures { result ≡ refusal (code_number (code_of code)) kept }
 {
     Verdict {
-        number: code,
+        number: code.number(),
         event: rules::NOTHING,
         id: PushId(0),
         kept,
@@ -52,15 +55,15 @@ fn refused(code: u64, kept: Kept) -> Verdict
 
 // ---- SETTINGS
 
-fn limits(limited: u64, size: u64, capacity: u64, blocked: u64) -> Kept
-    ensures { result ≡ settled limited size capacity blocked }
+fn keep_settings(s: Settings) -> Kept
+    ensures { result ≡ settings_kept (settings_is s) }
 {
     Kept {
         set: 1,
-        limited,
-        size,
-        capacity,
-        blocked,
+        limited: u64::from(s.size.is_some()),
+        size: s.size.unwrap_or(0),
+        capacity: s.capacity,
+        blocked: s.blocked,
         goaways: 0,
         goaway: PushId(0),
         pushes: 0,
@@ -68,23 +71,13 @@ fn limits(limited: u64, size: u64, capacity: u64, blocked: u64) -> Kept
     }
 }
 
-fn keep_settings(s: Settings) -> Kept
-    ensures { result ≡ settings_kept (settings_is s) }
-{
-    let size = s.size;
-    match size {
-        SectionSize::Unlimited => limits(0, 0, s.capacity, s.blocked),
-        SectionSize::AtMost(most) => limits(1, most, s.capacity, s.blocked),
-    }
-}
-
 fn judge_settings(kept: Kept, payload: &[u8]) -> Verdict
     ensures { result ≡ settings_verdict kept (numbered (settings_of payload.now)) }
 {
     match settings::judge(payload) {
-        Judged::Refused(code) => refused(code, kept),
-        Judged::Kept(s) => Verdict {
-            number: 0,
+        Err(code) => refused(code, kept),
+        Ok(s) => Verdict {
+            number: rules::ACCEPTED,
             event: rules::SETTINGS,
             id: PushId(0),
             kept: keep_settings(s),
@@ -94,62 +87,23 @@ fn judge_settings(kept: Kept, payload: &[u8]) -> Verdict
 
 // ---- one integer
 
-fn with_goaway(kept: Kept, id: PushId) -> Verdict
-    ensures { result ≡ goaway_taken kept id }
-{
-    let push = kept.push;
-    Verdict {
-        number: 0,
-        event: rules::GOAWAY,
-        id,
-        kept: Kept {
-            set: 1,
-            limited: kept.limited,
-            size: kept.size,
-            capacity: kept.capacity,
-            blocked: kept.blocked,
-            goaways: 1,
-            goaway: id,
-            pushes: kept.pushes,
-            push,
-        },
-    }
-}
-
-fn with_max_push(kept: Kept, id: PushId) -> Verdict
-    ensures { result ≡ max_push_taken kept id }
-{
-    let goaway = kept.goaway;
-    Verdict {
-        number: 0,
-        event: rules::MAX_PUSH_ID,
-        id,
-        kept: Kept {
-            set: 1,
-            limited: kept.limited,
-            size: kept.size,
-            capacity: kept.capacity,
-            blocked: kept.blocked,
-            goaways: kept.goaways,
-            goaway,
-            pushes: 1,
-            push: id,
-        },
-    }
-}
-
 // A client's GOAWAY may not be above an earlier one.
 fn judge_goaway(kept: Kept, id: PushId) -> Verdict
     ensures { result ≡ goaway_of kept id }
 {
-    let earlier = kept.goaway;
-    if kept.goaways == 0 {
-        return with_goaway(kept, id);
+    if kept.goaways != 0 && kept.goaway < id {
+        return refused(Code::IdError, kept);
     }
-    if earlier.0 < id.0 {
-        refused(rules::ID_ERROR, kept)
-    } else {
-        with_goaway(kept, id)
+    Verdict {
+        number: rules::ACCEPTED,
+        event: rules::GOAWAY,
+        id,
+        kept: Kept {
+            set: 1,
+            goaways: 1,
+            goaway: id,
+            ..kept
+        },
     }
 }
 
@@ -157,29 +111,31 @@ fn judge_goaway(kept: Kept, id: PushId) -> Verdict
 fn judge_max_push(kept: Kept, id: PushId) -> Verdict
     ensures { result ≡ max_push_of kept id }
 {
-    let earlier = kept.push;
-    if kept.pushes == 0 {
-        return with_max_push(kept, id);
+    if kept.pushes != 0 && id < kept.push {
+        return refused(Code::IdError, kept);
     }
-    if id.0 < earlier.0 {
-        refused(rules::ID_ERROR, kept)
-    } else {
-        with_max_push(kept, id)
+    Verdict {
+        number: rules::ACCEPTED,
+        event: rules::MAX_PUSH_ID,
+        id,
+        kept: Kept {
+            set: 1,
+            pushes: 1,
+            push: id,
+            ..kept
+        },
     }
 }
 
-// which 9: GOAWAY, 10: MAX_PUSH_ID, 8: SETTINGS, which come once, else CANCEL_PUSH: we promise no push.
+// which: the payload's place in frames; SETTINGS come once, and what is left is CANCEL_PUSH: we promise no push.
 fn judge_id(which: u64, kept: Kept, id: PushId) -> Verdict
     ensures { result ≡ id_of which kept id }
 {
-    if which == 9 {
-        judge_goaway(kept, id)
-    } else if which == 10 {
-        judge_max_push(kept, id)
-    } else if which == 8 {
-        refused(rules::FRAME_UNEXPECTED, kept)
-    } else {
-        refused(rules::ID_ERROR, kept)
+    match which {
+        frames::IN_GOAWAY => judge_goaway(kept, id),
+        frames::IN_MAX_PUSH_ID => judge_max_push(kept, id),
+        frames::IN_SETTINGS => refused(Code::FrameUnexpected, kept),
+        _ => refused(Code::IdError, kept),
     }
 }
 
@@ -187,8 +143,8 @@ fn judge_integer(which: u64, kept: Kept, payload: &[u8]) -> Verdict
     ensures { result ≡ integer_of which kept (only (integer 0 payload.now)) }
 {
     match settings::only(payload) {
-        Single::Not => refused(rules::FRAME_ERROR, kept),
-        Single::Is(id) => judge_id(which, kept, PushId(id)),
+        None => refused(Code::FrameError, kept),
+        Some(id) => judge_id(which, kept, PushId(id)),
     }
 }
 

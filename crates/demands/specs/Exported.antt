@@ -15,7 +15,7 @@ use Rattle.rules.specs.Shown.{View, running, ended, refused, ledger}
 use Rattle.traces.specs.Alone.{Aside}
 use Rattle.traces.specs.Demands.{Tells, Struck, end_answer, all_refused}
 use Rattle.traces.specs.Progress.{Moves, awaits, faulty, moved, Takes, not_due, not_readable, unfit, taken}
-use Rattle.varint.specs.declared.Wrote.{Wrote}
+use Rattle.varint.specs.Write.{Wrote}
 use Rattle.varint.specs.Shortest.{size_of}
 use Rattle.record.specs.declared.Record.{Record}
 use Rattle.connection.specs.declared.Connection.{Connection}

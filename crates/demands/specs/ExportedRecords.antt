@@ -42,7 +42,8 @@ use Rattle.connection.specs.Halves.{side_in}
 use Rattle.connection.specs.Faults.{with_code, Fault}
 use Rattle.connection.specs.Whose.{Belongs, Wanted, FoundIn, belongs_wanted, wanted_belongs, open_not_on, one_own}
 use Rattle.connection.specs.Turned.{fresh_connection, first_record, taken_by, free_at, by_own, request_as, one_way_as, Turned, other_row, dead, opens, not_open, request, one_way, swept_of}
-use Rattle.connection.specs.Ways.{begun_fresh, swept_free, none_at}
+use Rattle.connection.specs.Ways.{none_at}
+use Rattle.connection.proofs.Ways.{begun_fresh, swept_free}
 use Rattle.calls.specs.Promises.{Started, Stepped}
 use Rattle.demands.specs.Streams.{streams}
 use Rattle.demands.specs.Demands.{Calls}

@@ -1,7 +1,7 @@
 -- DEMAND 1 IN MEMORY, whatever memory is lent. The report of a refusal hands nothing over and counts what document 01 says; its number is one of the table, or
 -- the code that the memory already had. A stream fault frees the stream's record, a barred opening spends the ID, and every other byte is as it was.
 -- Assumes nothing.
-use Rattle.std.specs.Prelude.{◌≡◌, List, Bool, ◌⊎◌, leb, ltb, length, get_or, set}
+use Rattle.std.specs.Prelude.{◌≡◌, List, Bool, ◌⊎◌, leb, ltb, length, get_or, set, Result, Ok, Err}
 use Rattle.std.proofs.Math.Path.{refl, subst}
 use Rattle.std.proofs.Common.{sym, ap, ◌∙◌, arith, eqb→eq}
 use Prim.Native.Nat.{ℕ, zero, suc, ◌%◌, ◌≤◌, ◌<◌, ◌^◌, zero-le}
@@ -13,6 +13,8 @@ use Rattle.std.proofs.lemmas.List.{set-get_or}
 use Rattle.rules.specs.Events.{NOTHING}
 use Rattle.rules.specs.Numbers as table
 use Rattle.rules.specs.Numbers.{ROOM-SHORT, BAD-VALUE, House, house_number, StreamFault, request_rejected, ConnectionFault, closed_critical_stream, Code, of_stream, of_connection, code_number, named, Leaves, house_leaves, record_freed, code_kept, leaves}
+use Rattle.rules.specs.declared.codes.House.{House as CodeHouse}
+use Rattle.rules.specs.declared.codes.House.TheVariants.{OtherRow}
 use Rattle.rules.specs.Block.{Lines, readable, unreadable, lines}
 use Rattle.rules.specs.Reading.{Verdict, whole, fault, waits}
 use Rattle.rules.specs.Message.{Message}
@@ -48,7 +50,6 @@ use Rattle.connection.specs.declared.Own.{Own as CoreOwn}
 use Rattle.connection.specs.declared.Connection.{Connection}
 use Rattle.connection.specs.declared.Report.{Report}
 use Rattle.connection.specs.declared.Found.{Found}
-use Rattle.connection.specs.declared.Begun.{Begun}
 use Rattle.connection.specs.declared.Turn.{Turn}
 use Rattle.connection.specs.declared.Written.{Written}
 use Rattle.connection.specs.Openings as openings
@@ -59,7 +60,7 @@ use Rattle.connection.specs.Faults.{code_kept_in, stream_keeps_none}
 use Rattle.connection.specs.Ways.{taken_none}
 use Rattle.connection.specs.Whose.{Belongs, wanted_belongs, open_not_on}
 use Rattle.connection.specs.Leavings.{by_any}
-use Rattle.connection.specs.Turned.{free_at, request_as, one_way_as, Turned, other_row, dead, opens, not_open, request, one_way, fresh_connection, begun_of}
+use Rattle.connection.specs.Turned.{free_at, request_as, one_way_as, Turned, other_row, dead, opens, not_open, request, one_way, fresh_connection, started_of, begun_as, begun_of}
 use Rattle.calls.specs.Promises.{Stepped, SaidGoaway}
 use Rattle.demands.specs.Streams.{conn_code, streams}
 use Rattle.demands.specs.Codes.{is_of_connection, one_way_listed}
@@ -344,10 +345,10 @@ module _ {c : Connection} {rows : List Record} {call : CoreCall} {id allow : ℕ
 
 -- what is so of 0 and of 9 is so of a start's number
 begun_goes : (P : ℕ → Type 0) (c : Connection) (len : ℕ) → P 0 → P 9 → P (begun_of c len).number
-unfolding begun_of
+unfolding started_of
 begun_goes P c len x y = by (eqb len 24)
   where
-    by : (b : Bool) → P (elim b as (λ z. Begun) [ true ↦ record { number = 0; conn = fresh_connection } | false ↦ record { number = 9; conn = c } ]).number
+    by : (b : Bool) → P (begun_as c (elim b as (λ z. Result Connection CodeHouse) [ true ↦ Ok fresh_connection | false ↦ Err OtherRow ])).number
     by true = x
     by false = y
 

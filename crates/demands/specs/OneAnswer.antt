@@ -2,7 +2,7 @@
 -- promise are equal. The exceptions are named too: below a record two feeds leave open numbers that say nothing (docs/DECISIONS, N9), and what may
 -- decline leaves open what it then answers. What is no part of the engine is in docs/PROOFS. Assumes nothing.
 use Rattle.std.specs.Prelude as std
-use Rattle.std.specs.Prelude.{◌≡◌, refl, ℕ, List, [], ◌∷◌, ◌++◌, map, Bool, true, false}
+use Rattle.std.specs.Prelude.{◌≡◌, refl, ℕ, List, [], ◌∷◌, ◌++◌, map, Bool, true, false, Option as Maybe, Some, None, IsSome}
 use Rattle.std.proofs.Common.{sym, ap, ap₂, ◌∙◌}
 use Rattle.std.proofs.Math.Option.{Option, none, some}
 use base.Logic.{ent, sep, fst∗, snd∗}
@@ -12,30 +12,33 @@ use contract.Lifetimes.{Lfts}
 use denote.Triple.Entry.{Args, Res}
 use denote.Triple.Clauses.{Clauses, Lasts, at_exit}
 use denote.Triple.Clauses as kit
+use Rattle.rules.specs.declared.codes.Code.{Code}
 use Rattle.rules.specs.Control.{unset}
 use Rattle.varint.specs.declared.Part.{Part}
-use Rattle.varint.specs.declared.Step.{Step}
 use Rattle.varint.specs.declared.Whole.{Whole}
-use Rattle.varint.specs.declared.Wrote.{Wrote}
-use Rattle.varint.specs.ByByte.{Stepped}
+use Rattle.std.specs.Prelude.{Option as Maybe, Result}
+use Rattle.rules.specs.declared.codes.House.{House}
+use Rattle.rules.specs.declared.codes.Code as declared-code
+use Rattle.varint.specs.ByByte.{Step, Stepped}
 use Rattle.varint.specs.Whole.{Ended, Valued, whole_is, whole_one}
 use Rattle.varint.specs.Write.{Meets, meets_one}
 use Rattle.rules.specs.Writer.{Write}
-use Rattle.control.specs.declared.settings.Judged.{Judged}
-use Rattle.control.specs.declared.settings.Single.{Single}
+use Rattle.control.specs.declared.settings.Settings as declared-settings
 use Rattle.control.specs.Answers.{judged_is, judged_one, single_is, single_one}
 use Rattle.frames.specs.declared.Cells.{Cells}
 use Rattle.frames.specs.Uses.{a_place}
 use Rattle.frames.specs.End.{Ends}
+use Rattle.record.specs.Body.{said_no}
 use Rattle.record.specs.declared.Record.{Record}
 use Rattle.record.specs.declared.Stream.{Stream}
+use Rattle.record.specs.declared.Reading.{Reading}
 use Rattle.record.specs.Sound.{Decides, own_place, Read, Written}
 use Rattle.record.specs.Same.{one_read, one_written}
 use Rattle.oneway.specs.declared.OneWay.{OneWay}
 use Rattle.oneway.specs.Closed.{Closes}
 use Rattle.requests.specs.Answered.{one_answer}
 use Rattle.oneway.specs.Feeds.{one_heard}
-use Rattle.connection.specs.Goaway.{sends_one}
+use Rattle.connection.specs.Goaway.{sends_as_one}
 use Rattle.connection.specs.declared.Found.{Found}
 use Rattle.connection.specs.declared.Brief.{Brief}
 use Rattle.connection.specs.Faults.{with_code}
@@ -56,8 +59,6 @@ use Rattle.varint.specs.contracts.ends as varint-ends
 use Rattle.varint.proofs.ends.Symbol as varint-ends-is
 use Rattle.varint.specs.contracts.value as varint-value
 use Rattle.varint.proofs.value.Symbol as varint-value-is
-use Rattle.varint.specs.contracts.near_value as varint-near-value
-use Rattle.varint.proofs.near_value.Symbol as varint-near-value-is
 use Rattle.varint.specs.contracts.read as varint-read
 use Rattle.varint.proofs.read.Symbol as varint-read-is
 use Rattle.varint.specs.contracts.size as varint-size
@@ -120,6 +121,10 @@ use Rattle.record.specs.contracts.free as record-free
 use Rattle.record.proofs.free.Symbol as record-free-is
 use Rattle.record.specs.contracts.is_free as record-is-free
 use Rattle.record.proofs.is_free.Symbol as record-is-free-is
+use Rattle.record.specs.contracts.is_part as record-is-part
+use Rattle.record.proofs.is_part.Symbol as record-is-part-is
+use Rattle.record.specs.contracts.is_sane as record-is-sane
+use Rattle.record.proofs.is_sane.Symbol as record-is-sane-is
 use Rattle.record.specs.contracts.read as record-read
 use Rattle.record.proofs.read.Symbol as record-read-is
 use Rattle.record.specs.contracts.row as record-row
@@ -218,13 +223,13 @@ one e f = e ∙ sym f
 pub read_alike : {A B : Type 0} (f : A → B) → ((x y : A) → f x ≡ f y → x ≡ y) → {b : B} {x y : A} → f x ≡ b → f y ≡ b → x ≡ y
 read_alike f law {b} {x} {y} e g = law x y (e ∙ sym g)
 
-pub one_read_integer : (s : List ℕ) {b : _} {x y : Whole} → whole_is s x ≡ b → whole_is s y ≡ b → x ≡ y
+pub one_read_integer : (s : List ℕ) {b : _} {x y : Maybe Whole} → whole_is s x ≡ b → whole_is s y ≡ b → x ≡ y
 one_read_integer s e f = read_alike (whole_is s) (whole_one s) e f
 
-pub one_judged : {b : _} {x y : Judged} → judged_is x ≡ b → judged_is y ≡ b → x ≡ y
+pub one_judged : {b : _} {x y : Result declared-settings.Settings declared-code.Code} → judged_is x ≡ b → judged_is y ≡ b → x ≡ y
 one_judged e f = read_alike judged_is judged_one e f
 
-pub one_single : {b : _} {x y : Single} → single_is x ≡ b → single_is y ≡ b → x ≡ y
+pub one_single : {b : _} {x y : Maybe ℕ} → single_is x ≡ b → single_is y ≡ b → x ≡ y
 one_single e f = read_alike single_is single_one e f
 
 spot_as : Fault → (place : ℕ) → Spot
@@ -263,31 +268,33 @@ one_decided false false d e = refl
 pub one_step : {p : Part} {b : ℕ} {x y : Step} → Stepped p b x → Stepped p b y → x ≡ y
 one_step e f = one e.is f.is
 
-pub one_end : {s : List ℕ} {at x y : ℕ} → Ended s at x → Ended s at y → x ≡ y
+pub one_end : {s : List ℕ} {at : ℕ} {x y : Maybe ℕ} → Ended s at x → Ended s at y → x ≡ y
 one_end e f = one e.is f.is
 
 pub one_value : {s : List ℕ} {at x y : ℕ} → Valued s at x → Valued s at y → x ≡ y
 one_value e f = one e.is f.is
 
-pub one_write : {w : Write} {l a b : List ℕ} {r q : Wrote} → Meets w l r a → Meets w l q b → (r ≡ q) × (a ≡ b)
+pub one_write : {w : Write} {l a b : List ℕ} {r q : Result ℕ House} → Meets w l r a → Meets w l q b → (r ≡ q) × (a ≡ b)
 one_write m n = meets_one m n
 
 pub one_ended : (c : Cells) {x y : ℕ} → Ends c x → Ends c y → x ≡ y
 one_ended c e f = one (e (own_place c) [] a_place) (f (own_place c) [] a_place)
 
-pub one_closed : (w : OneWay) {x y : ℕ} → Closes w x → Closes w y → x ≡ y
+pub one_closed : (w : OneWay) {x y : Result Unit Code} → Closes w x → Closes w y → x ≡ y
 one_closed w e f = one (e unset []) (f unset [])
 
-pub one_stream : (r : Record) (s t : Stream) → Read r s → Read r t → s ≡ t
+pub one_stream : (r : Record) (s t : Reading) → Read r s → Read r t → s ≡ t
 one_stream r s t e f = one_read r s t e f
 
 pub one_record : (s : Stream) (r q : Record) → Written s r → Written s q → r ≡ q
 one_record s r q e f = one_written s r q e f
 
 -- a short way that was taken
-pub one_brief : {code : ℕ} {f : Found} {allow : ℕ} {piece : List ℕ} {x y : Brief} → Briefly code f allow piece x → Briefly code f allow piece y → x.report.number ≡ 0 → y.report.number ≡ 0 → x ≡ y
-one_brief {code} b d s t = let c = with_code code fresh_connection in let e = one_turn c _ _ 0 _ _ (b.turns s c 0 refl) (d.turns t c 0 refl) in
-    ap₂ (λ r p. record { row = r; report = p }) (ap (λ z. z.row) e) (ap (λ z. z.report) e)
+pub one_brief : {code : ℕ} {f : Found} {allow : ℕ} {piece : List ℕ} {x y : Maybe Brief} → Briefly code f allow piece x → Briefly code f allow piece y → IsSome x → IsSome y → x ≡ y
+one_brief {x = None} b d s t = said_no s
+one_brief {x = Some v} {y = None} b d s t = said_no t
+one_brief {code} {x = Some v} {y = Some w} b d s t = let c = with_code code fresh_connection in let e = one_turn c _ _ 0 _ _ (b.content.turns c 0 refl) (d.content.turns c 0 refl) in
+    ap Some (ap₂ (λ r p. record { row = r; report = p }) (ap (λ z. z.row) e) (ap (λ z. z.report) e))
 
 -- ---- each function, as it is proved
 
@@ -324,7 +331,6 @@ module _ (w : World) where
       ∷ function varint-read-step-is.symbol varint-read-step.ended (varint-read-step.clauses w.𝓛 w.𝓜.mem w.𝓡.returns) (λ κs a g r q ws vs. facts (λ x y. (one_step x y, refl)))
       ∷ function varint-ends-is.symbol varint-ends.ended (varint-ends.clauses w.𝓛 w.𝓜.mem w.𝓡.returns) (λ κs a g r q ws vs. facts (λ x y. (one_end x y, refl)))
       ∷ function varint-value-is.symbol varint-value.ended (varint-value.clauses w.𝓛 w.𝓜.mem w.𝓡.returns) (λ κs a g r q ws vs. facts (λ x y. (one_value x y, refl)))
-      ∷ function varint-near-value-is.symbol varint-near-value.ended (varint-near-value.clauses w.𝓛 w.𝓜.mem w.𝓡.returns) (λ κs a g r q ws vs. facts (λ x y. (one_value x y, refl)))
       ∷ function varint-read-is.symbol varint-read.ended (varint-read.clauses w.𝓛 w.𝓜.mem w.𝓡.returns) (λ κs a g r q ws vs. facts (λ x y. (one_read_integer a.0.now x y, refl)))
       ∷ function varint-size-is.symbol varint-size.ended (varint-size.clauses w.𝓛 w.𝓜.mem w.𝓡.returns) (λ κs a g r q ws vs. equal)
       ∷ function varint-put-is.symbol varint-put.ended (varint-put.clauses w.𝓛 w.𝓜.mem w.𝓡.returns) (λ κs a g r q ws vs. facts (λ x y. (refl, ap (λ l. (tt, (l, (tt, tt)))) (one x y))))
@@ -380,6 +386,8 @@ module _ (w : World) where
       function record-cells-in-is.symbol record-cells-in.ended (record-cells-in.clauses w.𝓛 w.𝓜.mem w.𝓡.returns) (λ κs a g r q ws vs. equal)
       ∷ function record-free-is.symbol record-free.ended (record-free.clauses w.𝓛 w.𝓜.mem w.𝓡.returns) (λ κs a g r q ws vs. equal)
       ∷ function record-is-free-is.symbol record-is-free.ended (record-is-free.clauses w.𝓛 w.𝓜.mem w.𝓡.returns) (λ κs a g r q ws vs. facts (λ x y. (one_decided r q x y, refl)))
+      ∷ function record-is-part-is.symbol record-is-part.ended (record-is-part.clauses w.𝓛 w.𝓜.mem w.𝓡.returns) (λ κs a g r q ws vs. facts (λ x y. (one_decided r q x y, refl)))
+      ∷ function record-is-sane-is.symbol record-is-sane.ended (record-is-sane.clauses w.𝓛 w.𝓜.mem w.𝓡.returns) (λ κs a g r q ws vs. facts (λ x y. (one_decided r q x y, refl)))
       ∷ function record-read-is.symbol record-read.ended (record-read.clauses w.𝓛 w.𝓜.mem w.𝓡.returns) (λ κs a g r q ws vs. facts (λ x y. (one_stream a.0 r q x y, refl)))
       ∷ function record-row-is.symbol record-row.ended (record-row.clauses w.𝓛 w.𝓜.mem w.𝓡.returns) (λ κs a g r q ws vs. facts (λ x y. (one_record a.0 r q x y, refl)))
       ∷ function record-write-is.symbol record-write.ended (record-write.clauses w.𝓛 w.𝓜.mem w.𝓡.returns) (λ κs a g r q ws vs. facts (λ x y. (one_record a.0 r q x y, refl)))
@@ -413,7 +421,7 @@ module _ (w : World) where
   of_doors =
       function doors-fresh-is.symbol doors-fresh.ended (doors-fresh.clauses w.𝓛 w.𝓜.mem w.𝓡.returns) (λ κs a g r q ws vs. equal)
       ∷ function doors-open-is.symbol doors-open.ended (doors-open.clauses w.𝓛 w.𝓜.mem w.𝓡.returns) (λ κs a g r q ws vs. equal)
-      ∷ function doors-send-goaway-is.symbol doors-send-goaway.ended (doors-send-goaway.clauses w.𝓛 w.𝓜.mem w.𝓡.returns) (λ κs a g r q ws vs. facts (λ x y. let e = sends_one x y in (e.0, ap (λ l. (tt, (tt, (l, tt)))) e.1)))
+      ∷ function doors-send-goaway-is.symbol doors-send-goaway.ended (doors-send-goaway.clauses w.𝓛 w.𝓜.mem w.𝓡.returns) (λ κs a g r q ws vs. facts (λ x y. let e = sends_as_one x y in (e.0, ap₂ (λ d l. (d, (tt, (l, tt)))) e.1 e.2)))
       ∷ []
 
   abbrev of_oneways : List Function
@@ -432,12 +440,12 @@ module _ (w : World) where
       ∷ function connection-decide-is.symbol connection-decide.ended (connection-decide.clauses w.𝓛 w.𝓜.mem w.𝓡.returns) (λ κs a g r q ws vs. facts (λ x y. (one_turn _ _ _ _ _ _ x y, refl)))
       ∷ function connection-begin-is.symbol connection-begin.ended (connection-begin.clauses w.𝓛 w.𝓜.mem w.𝓡.returns) (λ κs a g r q ws vs. equal)
       ∷ function connection-swept-is.symbol connection-swept.ended (connection-swept.clauses w.𝓛 w.𝓜.mem w.𝓡.returns) (λ κs a g r q ws vs. equal)
-      ∷ function connection-say-goaway-is.symbol connection-say-goaway.ended (connection-say-goaway.clauses w.𝓛 w.𝓜.mem w.𝓡.returns) (λ κs a g r q ws vs. facts (λ x y. let e = one_goaway x y in (e.0, ap (λ l. (tt, (tt, (l, tt)))) e.1)))
+      ∷ function connection-say-goaway-is.symbol connection-say-goaway.ended (connection-say-goaway.clauses w.𝓛 w.𝓜.mem w.𝓡.returns) (λ κs a g r q ws vs. facts (λ x y. let e = one_goaway x y in (ap (λ g. g.written) e.0, ap₂ (λ d l. (d, (tt, (l, tt)))) (ap (λ g. g.doors) e.0) e.1)))
       ∷ []
 
   abbrev of_board : List Function
   of_board =
-      function board-step-is.symbol board-step.ended (board-step.clauses w.𝓛 w.𝓜.mem w.𝓡.returns) (λ κs a g r q ws vs. facts (λ x y. let e = once.one_step x y in (e.2, ap₂ (λ c l. (c, (l, (tt, (tt, (tt, (tt, tt))))))) e.0 e.1)))
+      function board-step-is.symbol board-step.ended (board-step.clauses w.𝓛 w.𝓜.mem w.𝓡.returns) (λ κs a g r q ws vs. facts (λ x y. let e = once.one_step x y in (e.2, ap₂ (λ c l. (c, (l, (tt, tt)))) e.0 e.1)))
       ∷ function board-eistulko-start-is.symbol board-eistulko-start.ended (board-eistulko-start.clauses w.𝓛 w.𝓜.mem w.𝓡.returns) (λ κs a g r q ws vs. facts (λ x y. let e = once.one_start x y in (e.2, ap₂ (λ c l. (c, (l, tt))) e.0 e.1)))
       ∷ function board-eistulko-open-is.symbol board-eistulko-open.ended (board-eistulko-open.clauses w.𝓛 w.𝓜.mem w.𝓡.returns) (λ κs a g r q ws vs. facts (λ x y. let e = once.one_step x y in (e.2, ap₂ (λ c l. (c, (l, (tt, tt)))) e.0 e.1)))
       ∷ function board-eistulko-feed-is.symbol board-eistulko-feed.ended (board-eistulko-feed.clauses w.𝓛 w.𝓜.mem w.𝓡.returns) (λ κs a g r q ws vs. facts (λ x y. let e = once.one_step x y in (e.2, ap₂ (λ c l. (c, (l, (tt, (tt, (tt, tt)))))) e.0 e.1)))
@@ -460,13 +468,13 @@ module _ (w : World) where
 
   pub listed : ◌≡◌ {A = List Symbol} (map (λ (f : Function). f.name) functions)
       ("rules::codes::House::number" ∷ "rules::codes::Code::number" ∷
-      "varint::fresh" ∷ "varint::read_step" ∷ "varint::ends" ∷ "varint::value" ∷ "varint::near_value" ∷ "varint::read" ∷ "varint::size" ∷ "varint::put" ∷ "varint::write" ∷
+      "varint::fresh" ∷ "varint::read_step" ∷ "varint::ends" ∷ "varint::value" ∷ "varint::read" ∷ "varint::size" ∷ "varint::put" ∷ "varint::write" ∷
       "wire::ids::is_request" ∷ "wire::write_header" ∷ "wire::write_integer_frame" ∷ "wire::write_opening" ∷ "wire::write_goaway" ∷
       "control::settings::judge" ∷ "control::settings::only" ∷
       "fields::has_byte" ∷ "fields::begins_with" ∷ "fields::same_bytes" ∷ "fields::Table::any_outside" ∷ "fields::Table::bad_line" ∷ "fields::decimal_of" ∷ "fields::Table::line_spot" ∷ "fields::line_at" ∷
       "section::code" ∷ "section::header_section" ∷ "section::trailers" ∷
       "frames::ruled" ∷ "frames::end" ∷
-      "record::cells_in" ∷ "record::free" ∷ "record::is_free" ∷ "record::read" ∷ "record::row" ∷ "record::write" ∷ "record::in_content" ∷
+      "record::cells_in" ∷ "record::free" ∷ "record::is_free" ∷ "record::is_part" ∷ "record::is_sane" ∷ "record::read" ∷ "record::row" ∷ "record::write" ∷ "record::in_content" ∷
       "requests::given::give" ∷
       "oneway::close" ∷
       "control::judge" ∷
@@ -487,7 +495,7 @@ module _ (w : World) where
   pub request_taken : LeavesOneIf requests-brisk.ended (requests-brisk.clauses w.𝓛 w.𝓜.mem w.𝓡.returns) (λ κs r. r.number ≡ 0)
   request_taken κs a g r q ws vs = facts (λ x y s t. (one_answer a.0 _ r q (x s).0.answers (y t).0.answers, refl))
 
-  pub connection_taken : LeavesOneIf connection-brisk.ended (connection-brisk.clauses w.𝓛 w.𝓜.mem w.𝓡.returns) (λ κs r. r.report.number ≡ 0)
+  pub connection_taken : LeavesOneIf connection-brisk.ended (connection-brisk.clauses w.𝓛 w.𝓜.mem w.𝓡.returns) (λ κs r. IsSome r)
   connection_taken κs a g r q ws vs = facts (λ x y s t. (one_brief x y s t, refl))
 
 -- `fields::classes` leaves open the bits of an entry that no class reads; `record::in_body` may say no; two are feeds below a record, and three short ways

@@ -23,7 +23,7 @@ use Rattle.connection.specs.declared.Found.{Found}
 use Rattle.connection.specs.Halves.{stream_id, with_doors}
 use Rattle.connection.specs.Faults.{keeps, kept_if, with_code}
 use Rattle.connection.specs.Whose.{Wanted}
-use Rattle.connection.specs.Turned.{fresh_connection, told, numbered, turn, unaltered, first_as, taken_by, free_at, opened_at, by_own, request_as, replied, other_row, opens, request, begun_of, swept_of}
+use Rattle.connection.specs.Turned.{fresh_connection, told, numbered, turn, unaltered, first_as, taken_by, free_at, opened_at, by_own, request_as, replied, other_row, opens, request, started_of, begun_of, swept_of}
 use Rattle.demands.specs.Streams.{streams}
 use Rattle.demands.specs.Runs.{Seen, a_report, seen_in, number_in, Does, starts, opens_one, feeds, ends as ends_one}
 use Rattle.demands.specs.Host.{Run, begun, then_called, meant}
@@ -51,7 +51,7 @@ at_first r = record { len = 24; at = 0; row = r }
 -- ---- the calls
 
 begun_so : Run [] [] fresh_connection all_free
-unfolding begun_of swept_of
+unfolding started_of swept_of
 begun_so = begun {c₀ = with_code FRAME-UNEXPECTED one_spent} {rows₀ = one_open} {n = 0} refl (starts (record { conn_left = refl; rows_left = refl; answered = refl }))
 
 open_turn : opened_at fresh_connection (at_first free_record) 0 ≡ turn one_spent asking (numbered 0)

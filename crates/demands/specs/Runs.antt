@@ -40,8 +40,7 @@ use Rattle.requests.specs.declared.Reply.{Reply}
 use Rattle.requests.specs.Reply as reply
 use Rattle.requests.specs.Reply.{left_by, state_in}
 use Rattle.requests.specs.Severity.{connection_leaves}
-use Rattle.connection.specs.declared.doors.Goaway.{Goaway}
-use Rattle.connection.specs.Goaway.{sending_of, write_of}
+use Rattle.connection.specs.Goaway.{Goaway, sending_of, write_of}
 use Rattle.oneway.specs.Closed.{closes}
 use Rattle.control.specs.Rules.{some_if, limits_is, control_at, control_of}
 use Rattle.oneway.specs.declared.calls.Side.{Side}
@@ -60,7 +59,8 @@ use Rattle.connection.specs.Faults.{with_code, Fault, kept_fault, kept_small}
 use Rattle.connection.specs.Whose.{open_not_on}
 use Rattle.connection.specs.Leavings.{by_any}
 use Rattle.connection.specs.Turned.{by_own, unaltered, opened_at, request_as, one_way_as, Turned, other_row, dead, opens, not_open, request, one_way, swept_of}
-use Rattle.connection.specs.Ways.{begun_fresh, begun_other, swept_other, opening_refused}
+use Rattle.connection.specs.Ways.{opening_refused}
+use Rattle.connection.proofs.Ways.{begun_fresh, begun_other, swept_other}
 use Rattle.calls.specs.Promises.{Started, Stepped, Opened, Fed, Given, Ended, Reset, SaidGoaway}
 use Rattle.demands.specs.Streams.{Keeps, types_in, is_due, event_of, fed_by, is_readable, section_of, given_by, ended_by, place_in, kept_by, notice_of, frames_event, one_event, heard_by, close_of, streams}
 use Rattle.demands.specs.Means.{pair_of, call_of, noticed, reported, report_of, written_of}

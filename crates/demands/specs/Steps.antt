@@ -27,8 +27,9 @@ use Rattle.connection.specs.Whose.{Belongs, FoundIn, belongs_wanted, wanted_belo
 use Rattle.connection.specs.Halves.{side_in}
 use Rattle.connection.specs.Turned as turned
 use Rattle.connection.specs.Turned.{fresh_connection, numbered, unaltered, request_as, replied, one_way_as, overheard, StaysOn, Turned, other_row, dead, opens, request, one_way, begun_of, swept_of}
-use Rattle.connection.specs.Ways.{begun_fresh, swept_free}
-use Rattle.connection.specs.Pair.{kept_pair, found_open, start_pair}
+use Rattle.connection.proofs.Ways.{begun_fresh, swept_free}
+use Rattle.connection.specs.Pair.{kept_pair, found_open}
+use Rattle.connection.proofs.Pair.{start_pair}
 use Rattle.calls.specs.Promises.{Stepped, Started}
 use Rattle.demands.specs.Streams.{streams}
 use Rattle.demands.specs.Means.{slot_at, slot_of, row_of, dead_by, is_there, conn_of, pair_of, own_of, call_of, report_of}

@@ -4,7 +4,7 @@ use Rattle.std.proofs.Math.Path.{◌≡◌, refl, sym, ap}
 use Rattle.std.proofs.Common.{subst, ◌∙◌, arith, inl, inr, length-append, take_at}
 use Prim.Native.Nat.{ℕ, zero, suc, ◌+◌, ◌-◌, ◌≤◌, ◌<◌}
 use mathlib.Core.List.{List, [], ◌∷◌, ◌++◌, append-nil}
-use Rattle.std.specs.Prelude.{Bool, ◌⊎◌, leb, take}
+use Rattle.std.specs.Prelude.{Bool, ◌⊎◌, leb, take, Result, Ok, Err}
 use Rattle.std.proofs.Math.Bool.{true, false}
 use Rattle.std.proofs.Math.Option.{Option, none, some}
 use Rattle.std.proofs.Math.Dec.{ltb, ltb→lt, nltb→le, nleb→lt}
@@ -21,13 +21,11 @@ use Rattle.rules.specs.Writer.{Write, refused, wrote, into, both, bad_goaway, fr
 use Rattle.meaning.specs.FrameLaws.{head, View, cut_type, cut_length, cut_payload, a_frame, view}
 use Rattle.meaning.specs.IntegerLaws.{integer_length, integer_rest, Bytes, no_byte, byte, shortest}
 use Rattle.meaning.specs.WriterLaws.{integer_back, header_back, FrameBack, integer_frame_back, opening_back}
-use Rattle.varint.specs.declared.Wrote.{Wrote}
-use Rattle.varint.specs.declared.Wrote.TheVariants.{Refused, Count}
+use Rattle.rules.specs.declared.codes.House.{House}
 use Rattle.varint.specs.Shortest.{bytes_of, size_of, size_few, size_some, size_one}
-use Rattle.varint.specs.Write.{wrote_of, left_in, Meets}
+use Rattle.varint.specs.Write.{Wrote, wrote_of, answer_of, left_in, Meets}
 use Rattle.connection.specs.declared.doors.Doors.{Doors}
-use Rattle.connection.specs.declared.doors.Goaway.{Goaway}
-use Rattle.connection.specs.Goaway.{sent_in, sending_of, write_of}
+use Rattle.connection.specs.Goaway.{Goaway, sent_in, sending_of, write_of}
 use Rattle.connection.specs.declared.Connection.{Connection}
 use Rattle.connection.specs.declared.Written.{Written}
 use Rattle.connection.specs.Halves.{stream_id, doors_in}
@@ -42,12 +40,12 @@ pub record Put (w : Write) (before after : List ℕ) (n : ℕ) : Type 0 where
   pub count : n ≡ length bytes
   pub leaves : after ≡ bytes ++ drop n before
 
-put : (w : Write) {before after : List ℕ} {n : ℕ} → Count n ≡ wrote_of w → after ≡ left_in w before → Put w before after n
+put : (w : Write) {before after : List ℕ} {n : ℕ} → Ok n ≡ wrote_of w → after ≡ left_in w before → Put w before after n
 unfolding wrote_of left_in
 put (refused number) e f = let z : ◌≡◌ {A = ℕ} 0 1 = cc in absurd (omega arith)
 put (wrote bytes) {before} {n = n} e f = let c : n ≡ length bytes = cc in record { bytes = bytes; is = refl; count = c; leaves = f ∙ ap (λ k. bytes ++ drop k before) (sym c) }
 
-pub was_put : (w : Write) {before after : List ℕ} {n : ℕ} → Meets w before (Count n) after → Put w before after n
+pub was_put : (w : Write) {before after : List ℕ} {n : ℕ} → Meets w before (Ok n) after → Put w before after n
 was_put w m = put w m.answers m.leaves
 
 -- what was written was there to be written
@@ -197,14 +195,14 @@ begins_frame room type v p = (p.bytes, p.count, p.leaves, λ rest. integer_frame
 
 module _ {before after : List ℕ} {n : ℕ} where
   -- ONE INTEGER
-  pub integer_read : (v : ℕ) → Meets (write_integer (length before) v) before (Count n) after → integer 0 after ≡ got v n (drop n before)
+  pub integer_read : (v : ℕ) → Meets (write_integer (length before) v) before (Ok n) after → integer 0 after ≡ got v n (drop n before)
   integer_read v m =
       let p = was_put (write_integer (length before) v) m in
       let z : 0 + length p.bytes ≡ n = omega (arith, p.count) in
       ap (integer 0) p.leaves ∙ integer_back (length before) v 0 p.bytes (drop n before) p.is ∙ ap (λ k. got v k (drop n before)) z
 
   -- IN THE SHORTEST FORM: no bytes that read as the same integer are fewer
-  pub integer_shortest : (v : ℕ) → Meets (write_integer (length before) v) before (Count n) after → {bs : List ℕ} {next : ℕ} {rest : List ℕ} → Bytes bs → integer 0 bs ≡ got v next rest → n ≤ next
+  pub integer_shortest : (v : ℕ) → Meets (write_integer (length before) v) before (Ok n) after → {bs : List ℕ} {next : ℕ} {rest : List ℕ} → Bytes bs → integer 0 bs ≡ got v next rest → n ≤ next
   unfolding write_integer
   integer_shortest v m {next = next} {rest = rest} b e =
       let p = was_put (write_integer (length before) v) m in
@@ -212,7 +210,7 @@ module _ {before after : List ℕ} {n : ℕ} where
       omega (arith, p.count)
 
   -- A FRAME HEADER, whatever payload of its length and whatever else is sent behind it
-  pub header_read : (type len : ℕ) → Meets (write_header (length before) type len) before (Count n) after → (payload rest : List ℕ) → length payload ≡ len
+  pub header_read : (type len : ℕ) → Meets (write_header (length before) type len) before (Ok n) after → (payload rest : List ℕ) → length payload ≡ len
       → (bytes : List ℕ) × (n ≡ length bytes) × (after ≡ bytes ++ drop n before) × (frames_from 0 (bytes ++ (payload ++ rest)) ≡ frame (head 0 n type len) payload (frames_from (n + len) rest))
   header_read type len m payload rest l =
       let p = was_put (write_header (length before) type len) m in
@@ -220,7 +218,7 @@ module _ {before after : List ℕ} {n : ℕ} where
       (p.bytes, p.count, p.leaves, header_back (length before) type len 0 p.bytes payload rest p.is l ∙ ap (λ k. frame (head 0 k type len) payload (frames_from (k + len) rest)) z)
 
   -- IN THE SHORTEST FORM: no bytes that begin a frame of this type and length have fewer before its payload
-  pub header_shortest : (type len : ℕ) → Meets (write_header (length before) type len) before (Count n) after → {bs : List ℕ} {from : ℕ} {payload : List ℕ} → Bytes bs
+  pub header_shortest : (type len : ℕ) → Meets (write_header (length before) type len) before (Ok n) after → {bs : List ℕ} {from : ℕ} {payload : List ℕ} → Bytes bs
       → first_of (frames_from 0 bs) ≡ some (head 0 from type len, payload) → n ≤ from
   unfolding write_header
   header_shortest type len m {bs} b e =
@@ -229,11 +227,11 @@ module _ {before after : List ℕ} {n : ℕ} where
       omega (arith, p.count)
 
   -- AN INTEGER FRAME
-  pub integer_frame_read : (type v : ℕ) → Meets (write_integer_frame (length before) type v) before (Count n) after → BeginsFrame type v n before after
+  pub integer_frame_read : (type v : ℕ) → Meets (write_integer_frame (length before) type v) before (Ok n) after → BeginsFrame type v n before after
   integer_frame_read type v m = begins_frame (length before) type v (was_put (write_integer_frame (length before) type v) m)
 
   -- IN THE SHORTEST FORM: no bytes that begin a frame of this type with this integer have fewer up to the integer's end
-  pub integer_frame_shortest : (type v : ℕ) → Meets (write_integer_frame (length before) type v) before (Count n) after → {bs : List ℕ} {from len : ℕ} {payload : List ℕ} → Bytes bs
+  pub integer_frame_shortest : (type v : ℕ) → Meets (write_integer_frame (length before) type v) before (Ok n) after → {bs : List ℕ} {from len : ℕ} {payload : List ℕ} → Bytes bs
       → first_of (frames_from 0 bs) ≡ some (head 0 from type len, payload) → {next : ℕ} {rest : List ℕ} → integer 0 payload ≡ got v next rest → n ≤ from + next
   integer_frame_shortest type v m b e h = let p = was_put (write_integer_frame (length before) type v) m in least (length before) type v p b e h
 
@@ -242,13 +240,13 @@ module _ {before after : List ℕ} {n : ℕ} where
 -- HOW A WRITE ENDS that takes `size` bytes, and in which a value may be above 2^62-1: that comes first, whatever the room; then a room that is too
 -- short; and both leave the room as it was. (The three exclude one another, so each is answered exactly where its conditions hold.)
 pub data Ends (Above : Type 0) (size : ℕ) (before : List ℕ) : Wrote → List ℕ → Type 0 where
-  eight : Above → Ends Above size before (Refused BAD-VALUE) before
-  seven : ¬ Above → length before < size → Ends Above size before (Refused ROOM-SHORT) before
-  accepted : ¬ Above → size ≤ length before → {after : List ℕ} → Ends Above size before (Count size) after
+  eight : Above → Ends Above size before (Err BAD-VALUE) before
+  seven : ¬ Above → length before < size → Ends Above size before (Err ROOM-SHORT) before
+  accepted : ¬ Above → size ≤ length before → {after : List ℕ} → Ends Above size before (Ok size) after
 
 module _ {Above : Type 0} {size : ℕ} {before : List ℕ} where
-  ends_as : (w : Write) {r : Wrote} {after : List ℕ} → Ends Above size before (wrote_of w) (left_in w before) → Meets w before r after → Ends Above size before r after
-  ends_as w e m = let a = m.answers in let l = m.leaves in rw (a, l) e
+  ends_as : (w : Write) {r : Result ℕ House} {after : List ℕ} → Ends Above size before (wrote_of w) (left_in w before) → Meets w before r after → Ends Above size before (answer_of r) after
+  ends_as w {r} {after} e m = subst (λ l. Ends Above size before (answer_of r) l) (sym m.leaves) (subst (λ a. Ends Above size before a (left_in w before)) (sym m.answers) e)
 
   ends : (o : Option (List ℕ)) → (o ≡ none → Above) → ((bytes : List ℕ) → o ≡ some bytes → (¬ Above) × (length bytes ≡ size)) → Ends Above size before (wrote_of (into (length before) o)) (left_in (into (length before) o) before)
   unfolding into wrote_of left_in
@@ -347,26 +345,40 @@ frame_within type v (some p) w bytes e =
     let y = within v p w in
     (neither x.0 y.0, omega (arith, t.long, u.long, x.1, y.1, long, one))
 
-module _ {before after : List ℕ} {r : Wrote} where
-  -- ONE INTEGER
-  pub integer_ends : (v : ℕ) → Meets (write_integer (length before) v) before r after → Ends (largest < v) (size_of v) before r after
+-- the write ends so, whatever the answer of a call is
+module _ (before : List ℕ) where
+  integer_left : (v : ℕ) → let w = write_integer (length before) v in Ends (largest < v) (size_of v) before (wrote_of w) (left_in w before)
   unfolding write_integer
-  integer_ends v m = ends_as (write_integer (length before) v) (ends (written v) (above_none v) (within v)) m
+  integer_left v = ends (written v) (above_none v) (within v)
+
+  header_left : (type len : ℕ) → let w = write_header (length before) type len in Ends (EitherAbove type len) (size_of type + size_of len) before (wrote_of w) (left_in w before)
+  unfolding write_header
+  header_left type len = ends (frame_header_bytes type len) (header_above type len) (header_within type len)
+
+  integer_frame_left : (type v : ℕ) → let w = write_integer_frame (length before) type v in Ends (EitherAbove type v) (size_of type + 1 + size_of v) before (wrote_of w) (left_in w before)
+  unfolding write_integer_frame
+  integer_frame_left type v = ends (integer_frame type (written v)) (frame_above type v (written v) refl) (frame_within type v (written v) refl)
+
+  opening_left : let w = write_opening (length before) in Ends ⊥ 12 before (wrote_of w) (left_in w before)
+  unfolding write_opening opening hex hex_from nibble between
+  opening_left = ends (some opening) (λ q. absurd (some_none refl q)) (λ bytes e. (λ n. n, (let q : opening ≡ bytes = cc in ap length (sym q))))
+
+module _ {before after : List ℕ} {r : Result ℕ House} where
+  -- ONE INTEGER
+  pub integer_ends : (v : ℕ) → Meets (write_integer (length before) v) before r after → Ends (largest < v) (size_of v) before (answer_of r) after
+  integer_ends v m = ends_as (write_integer (length before) v) (integer_left before v) m
 
   -- A FRAME HEADER
-  pub header_ends : (type len : ℕ) → Meets (write_header (length before) type len) before r after → Ends (EitherAbove type len) (size_of type + size_of len) before r after
-  unfolding write_header
-  header_ends type len m = ends_as (write_header (length before) type len) (ends (frame_header_bytes type len) (header_above type len) (header_within type len)) m
+  pub header_ends : (type len : ℕ) → Meets (write_header (length before) type len) before r after → Ends (EitherAbove type len) (size_of type + size_of len) before (answer_of r) after
+  header_ends type len m = ends_as (write_header (length before) type len) (header_left before type len) m
 
   -- AN INTEGER FRAME
-  pub integer_frame_ends : (type v : ℕ) → Meets (write_integer_frame (length before) type v) before r after → Ends (EitherAbove type v) (size_of type + 1 + size_of v) before r after
-  unfolding write_integer_frame
-  integer_frame_ends type v m = ends_as (write_integer_frame (length before) type v) (ends (integer_frame type (written v)) (frame_above type v (written v) refl) (frame_within type v (written v) refl)) m
+  pub integer_frame_ends : (type v : ℕ) → Meets (write_integer_frame (length before) type v) before r after → Ends (EitherAbove type v) (size_of type + 1 + size_of v) before (answer_of r) after
+  integer_frame_ends type v m = ends_as (write_integer_frame (length before) type v) (integer_frame_left before type v) m
 
   -- OUR CONTROL OPENING: no value in it is above
-  pub opening_ends : Meets (write_opening (length before)) before r after → Ends ⊥ 12 before r after
-  unfolding write_opening opening hex hex_from nibble between
-  opening_ends m = ends_as (write_opening (length before)) (ends (some opening) (λ q. absurd (some_none refl q)) (λ bytes e. (λ n. n, (let q : opening ≡ bytes = cc in ap length (sym q))))) m
+  pub opening_ends : Meets (write_opening (length before)) before r after → Ends ⊥ 12 before (answer_of r) after
+  opening_ends m = ends_as (write_opening (length before)) (opening_left before) m
 
 -- ---- our control opening
 
@@ -390,7 +402,7 @@ unfolding opening in_turn both written rows in_first in_row low hex hex_from nib
 twelve_opens = record { payload = opening_back.0; is_control = opening_back.1; its_settings = opening_back.2; its_numbers = refl }
 
 -- OUR CONTROL OPENING: accepted, the room begins with document 01's twelve bytes, and they are read as a control stream with these settings
-pub opening_read : {before after : List ℕ} {n : ℕ} → Meets (write_opening (length before)) before (Count n) after → (n ≡ 12) × (after ≡ twelve ++ drop 12 before) × OpensControl twelve
+pub opening_read : {before after : List ℕ} {n : ℕ} → Meets (write_opening (length before)) before (Ok n) after → (n ≡ 12) × (after ≡ twelve ++ drop 12 before) × OpensControl twelve
 unfolding write_opening opening hex hex_from nibble between
 opening_read {before} {after} {n} m =
     let p = was_put (write_opening (length before)) m in
@@ -402,28 +414,26 @@ opening_read {before} {after} {n} m =
 
 -- where the number is 0, the write was accepted, and the count is what was written
 module _ {Above : Type 0} {size : ℕ} {before : List ℕ} {r : Written} where
-  counted : {a : Wrote} {after : List ℕ} → Ends Above size before a after → r ≡ written_of a → r.number ≡ 0 → a ≡ Count r.count
+  counted : {a : Wrote} {after : List ℕ} → Ends Above size before a after → r ≡ written_of a → r.number ≡ 0 → a ≡ Ok r.count
   counted (eight h) e z = let x : r.number ≡ BAD-VALUE = ap (λ y. y.number) e in absurd (omega arith)
   counted (seven n l) e z = let x : r.number ≡ ROOM-SHORT = ap (λ y. y.number) e in absurd (omega arith)
-  counted (accepted n l) e z = sym (ap (λ y. Count y.count) e)
+  counted (accepted n l) e z = sym (ap (λ y. Ok y.count) e)
 
-  lent_meets : (w : Write) {after : List ℕ} → (Meets w before (wrote_of w) after → Ends Above size before (wrote_of w) after) → WroteInto w before r after → r.number ≡ 0 → Meets w before (Count r.count) after
-  lent_meets w {after} f m z =
-      let k : Meets w before (wrote_of w) after = record { answers = refl; leaves = m.room_left } in
-      subst (λ a. Meets w before a after) (counted (f k) m.answered z) k
+  lent_meets : (w : Write) {after : List ℕ} → Ends Above size before (wrote_of w) (left_in w before) → WroteInto w before r after → r.number ≡ 0 → Meets w before (Ok r.count) after
+  lent_meets w f m z = record { answers = sym (counted f m.answered z); leaves = m.room_left }
 
   -- and whatever it is, it is one of the three
-  lent_ends : (w : Write) {after : List ℕ} → (Meets w before (wrote_of w) after → Ends Above size before (wrote_of w) after) → WroteInto w before r after → (a : Wrote) × (r ≡ written_of a) × Ends Above size before a after
-  lent_ends w f m = (wrote_of w, m.answered, f (record { answers = refl; leaves = m.room_left }))
+  lent_ends : (w : Write) {after : List ℕ} → Ends Above size before (wrote_of w) (left_in w before) → WroteInto w before r after → (a : Wrote) × (r ≡ written_of a) × Ends Above size before a after
+  lent_ends w f m = (wrote_of w, m.answered, subst (λ l. Ends Above size before (wrote_of w) l) (sym m.room_left) f)
 
 module _ {before after : List ℕ} {r : Written} where
   -- A FRAME HEADER
   module _ (type len : ℕ) (m : WroteHeader type len before r after) where
     pub lent_header_ends : (a : Wrote) × (r ≡ written_of a) × Ends (EitherAbove type len) (size_of type + size_of len) before a after
-    lent_header_ends = lent_ends (write_header (length before) type len) (header_ends type len) m
+    lent_header_ends = lent_ends (write_header (length before) type len) (header_left before type len) m
 
-    pub lent_header : r.number ≡ 0 → Meets (write_header (length before) type len) before (Count r.count) after
-    lent_header = lent_meets (write_header (length before) type len) (header_ends type len) m
+    pub lent_header : r.number ≡ 0 → Meets (write_header (length before) type len) before (Ok r.count) after
+    lent_header = lent_meets (write_header (length before) type len) (header_left before type len) m
 
     pub lent_header_read : r.number ≡ 0 → (payload rest : List ℕ) → length payload ≡ len
         → (bytes : List ℕ) × (r.count ≡ length bytes) × (after ≡ bytes ++ drop r.count before) × (frames_from 0 (bytes ++ (payload ++ rest)) ≡ frame (head 0 r.count type len) payload (frames_from (r.count + len) rest))
@@ -435,10 +445,10 @@ module _ {before after : List ℕ} {r : Written} where
   -- AN INTEGER FRAME
   module _ (type v : ℕ) (m : WroteIntegerFrame type v before r after) where
     pub lent_integer_frame_ends : (a : Wrote) × (r ≡ written_of a) × Ends (EitherAbove type v) (size_of type + 1 + size_of v) before a after
-    lent_integer_frame_ends = lent_ends (write_integer_frame (length before) type v) (integer_frame_ends type v) m
+    lent_integer_frame_ends = lent_ends (write_integer_frame (length before) type v) (integer_frame_left before type v) m
 
-    pub lent_integer_frame : r.number ≡ 0 → Meets (write_integer_frame (length before) type v) before (Count r.count) after
-    lent_integer_frame = lent_meets (write_integer_frame (length before) type v) (integer_frame_ends type v) m
+    pub lent_integer_frame : r.number ≡ 0 → Meets (write_integer_frame (length before) type v) before (Ok r.count) after
+    lent_integer_frame = lent_meets (write_integer_frame (length before) type v) (integer_frame_left before type v) m
 
     pub lent_integer_frame_read : r.number ≡ 0 → BeginsFrame type v r.count before after
     lent_integer_frame_read z = integer_frame_read type v (lent_integer_frame z)
@@ -450,10 +460,10 @@ module _ {before after : List ℕ} {r : Written} where
   -- OUR CONTROL OPENING
   module _ (m : WroteOpening before r after) where
     pub lent_opening_ends : (a : Wrote) × (r ≡ written_of a) × Ends ⊥ 12 before a after
-    lent_opening_ends = lent_ends (write_opening (length before)) opening_ends m
+    lent_opening_ends = lent_ends (write_opening (length before)) (opening_left before) m
 
     pub lent_opening_read : r.number ≡ 0 → (r.count ≡ 12) × (after ≡ twelve ++ drop 12 before) × OpensControl twelve
-    lent_opening_read z = opening_read (lent_meets (write_opening (length before)) opening_ends m z)
+    lent_opening_read z = opening_read (lent_meets (write_opening (length before)) (opening_left before) m z)
 
 -- ---- our GOAWAY, over the lent call
 

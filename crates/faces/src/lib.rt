@@ -5,7 +5,7 @@ ghost use Rattle.std.specs.Prelude.{◌≤◌, take};
 ghost use Rattle.calls.specs.Lent.{Stepped, Started, SaidGoaway};
 ghost use Rattle.faces.specs.Behind.{Behind};
 
-use connection::{Call, Connection, Report, Written};
+use connection::{Ask, Call, Connection, Report, Written};
 use record::Record;
 
 // What a call leaves of the connection's record and of the records, and what it answers.
@@ -17,8 +17,8 @@ pub struct Driven {
 }
 
 pub fn drive(
-    c: Connection,
-    rs: [Record; 32],
+    mut conn: Connection,
+    mut rows: [Record; 32],
     n: usize,
     call: Call,
     id: u64,
@@ -26,11 +26,15 @@ pub fn drive(
     piece: &[u8],
 ) -> Driven
     requires { n ≤ 32 }
-    ensures { Stepped c (take n rs) call id allow piece.now result.conn (take n result.rows) result.report × Behind n rs result.rows }
+    ensures { Stepped conn (take n rows) call id allow piece.now result.conn (take n result.rows) result.report × Behind n rows result.rows }
 {
-    let mut conn = c;
-    let mut rows = rs;
-    let report = calls::step(&mut conn, &mut rows[..n], call, id, allow, piece);
+    let ask = Ask {
+        call,
+        id,
+        allow,
+        piece,
+    };
+    let report = calls::step(&mut conn, &mut rows[..n], ask);
     Driven { conn, rows, report }
 }
 
@@ -41,12 +45,10 @@ pub struct Began {
     pub number: u64,
 }
 
-pub fn drive_start(c: Connection, rs: [Record; 32], n: usize) -> Began
+pub fn drive_start(mut conn: Connection, mut rows: [Record; 32], n: usize) -> Began
     requires { n ≤ 32 }
-    ensures { Started c (take n rs) result.conn (take n result.rows) result.number × Behind n rs result.rows }
+    ensures { Started conn (take n rows) result.conn (take n result.rows) result.number × Behind n rows result.rows }
 {
-    let mut conn = c;
-    let mut rows = rs;
     let number = calls::eistulko_start(&mut conn, &mut rows[..n]);
     Began { conn, rows, number }
 }
@@ -57,10 +59,9 @@ pub struct Told {
     pub written: Written,
 }
 
-pub fn drive_goaway(c: Connection, id: u64, room: &mut [u8]) -> Told
-    ensures { SaidGoaway c id room.old result.conn room.new result.written }
+pub fn drive_goaway(mut conn: Connection, id: u64, room: &mut [u8]) -> Told
+    ensures { SaidGoaway conn id room.old result.conn room.new result.written }
 {
-    let mut conn = c;
     let written = calls::eistulko_goaway(&mut conn, id, room);
     Told { conn, written }
 }

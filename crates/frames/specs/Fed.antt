@@ -1,5 +1,5 @@
 -- One feed, from its parts: a law for each way it goes. Assumes nothing.
-use Rattle.std.specs.Prelude.{◌≡◌, refl, ℕ, zero, suc, ◌+◌, ◌-◌, ◌≤◌, ◌<◌, ◌^◌, List, length}
+use Rattle.std.specs.Prelude.{◌≡◌, refl, ℕ, zero, suc, ◌+◌, ◌-◌, ◌≤◌, ◌<◌, ◌^◌, List, length, Some}
 use Rattle.std.proofs.Common.{sym, ap, ◌∙◌, subst, zero-le, arith, ne_eqb, le-leb}
 use Rattle.std.proofs.Math.Nat.{sub-zero}
 use Rattle.std.proofs.Math.Logic.{inl}
@@ -122,7 +122,7 @@ module _ (c : Cells) (s : List ℕ) (allow : ℕ) where
   unsaid q e = let z = ap (λ (x : Answer). x.event) q in absurd (omega arith)
 
   -- a DATA frame that begins the piece, and has content: its header is whole
-  module _ (sane : Sane c) (m0 : c.mode ≡ IN-TYPE) (d0 : c.due ≡ 0) (some : allow ≡ 0 → ⊥) {n m l t k : ℕ} (h : Ended s 0 n) (n0 : n ≡ 0 → ⊥) (g : Ended s n m) (m1 : m ≡ 0 → ⊥) (v : Valued s n l) (u : Valued s 0 t)
+  module _ (sane : Sane c) (m0 : c.mode ≡ IN-TYPE) (d0 : c.due ≡ 0) (some : allow ≡ 0 → ⊥) {n m l t k : ℕ} (h : Ended s 0 (Some n)) (g : Ended s n (Some m)) (v : Valued s n l) (u : Valued s 0 t)
       (known : k ≡ number_of (rule (place_of c.phase c.has c.stated c.sum) t l)) (one : k ≡ USE-CONTENT) where
     pub data_law : (c.phase ≡ BODY) × (c.sum + l ≤ 2 ^ 62)
     data_law = data_lawful c.phase c.has c.stated c.sum t l sane.stateds (sym known ∙ one)
@@ -136,7 +136,7 @@ module _ (c : Cells) (s : List ℕ) (allow : ℕ) where
           let p = c.phase in
           let here = stop_here s p c.has c.stated c.sum m l (allow - 1) k g.within (sym (passes_data l k (length s - m) one) ∙ ne_eqb l 0 l0) none v.small (ruling_lawful k p c.has c.stated c.sum t l sane.stateds known) in
           pass_stop s p c.has c.stated c.sum 0 0 USE-SKIPPED allow (sym (passes_skip 0 USE-SKIPPED (length s - 0) refl) ∙ le-leb 0 (length s - 0) zero-le)
-          (header_stop s p c.has c.stated c.sum 0 allow t n l m k (found s 0 n t h n0 u) (found s n m l g m1 v) some known none zero-le here)
+          (header_stop s p c.has c.stated c.sum 0 allow t n l m k (found s 0 n t h u) (found s n m l g v) some known none zero-le here)
 
       pub fed-data : {d : Cells} {r : Answer} → d ≡ more_sum c l → Hands d s m 1 IN-CONTENT l r → Fed c s allow r × Content c r.cells
       fed-data {d} {r} q a =

@@ -7,9 +7,8 @@ use Rattle.meaning.specs.Feed.{Feeding, behind_header, feed}
 use Rattle.meaning.specs.FeedLaws.{past, past_none, past_past}
 use Rattle.meaning.proofs.FeedLaws.{type_byte, length_byte, last_byte}
 use Rattle.varint.specs.declared.Part.{Part}
-use Rattle.varint.specs.declared.Step.{Step}
-use Rattle.varint.specs.declared.Step.TheVariants.{More, Done}
-use Rattle.varint.specs.ByByte.{part, prog, read_as, step_reads, Good, fresh_good, small, Stepped}
+use Rattle.std.specs.declared.ops.ControlFlow.TheVariants.{Continue, Break}
+use Rattle.varint.specs.ByByte.{Step, part, prog, read_as, step_reads, Good, fresh_good, small, Stepped}
 use Rattle.frames.specs.Modes.{IN-TYPE, IN-LENGTH, HEAD-WHOLE}
 use Rattle.frames.specs.declared.Head.{Head}
 use Rattle.frames.specs.declared.HeadEnd.{HeadEnd}
@@ -50,43 +49,43 @@ abbrev head : (mode acc due ftype : ℕ) → Head
 head mode acc due ftype = record { mode = mode; acc = acc; due = due; ftype = ftype }
 
 -- the integer goes on
-more_fed : (a d b : ℕ) (q : Part) → Stepped (part a d) b (More q) → fed (prog d a) b ≡ going (prog q.due q.acc)
+more_fed : (a d b : ℕ) (q : Part) → Stepped (part a d) b (Continue q) → fed (prog d a) b ≡ going (prog q.due q.acc)
 unfolding read_as
 more_fed a d b q s = sym (step_reads (part a d) b) ∙ ap read_as (sym s.is)
 
-done_fed : (a d b v : ℕ) → Stepped (part a d) b (Done v) → fed (prog d a) b ≡ value v
+done_fed : (a d b v : ℕ) → Stepped (part a d) b (Break v) → fed (prog d a) b ≡ value v
 unfolding read_as
 done_fed a d b v s = sym (step_reads (part a d) b) ∙ ap read_as (sym s.is)
 
-goes_more : (n mode a d t b : ℕ) (q : Part) (p : Place) (bs : List ℕ) → mode < HEAD-WHOLE → Stepped (part a d) b (More q)
+goes_more : (n mode a d t b : ℕ) (q : Part) (p : Place) (bs : List ℕ) → mode < HEAD-WHOLE → Stepped (part a d) b (Continue q)
     → goes_on n mode a d t p (b ∷ bs) ≡ past 1 0 (goes_on n mode q.acc q.due t p bs)
 unfolding goes_on head_state typed
 goes_more n zero a d t b q p bs h s = let e = more_fed a d b q s in type_byte both n (prog d a) p b bs ∙ rw (e, typed) refl
 goes_more n (suc zero) a d t b q p bs h s = length_byte both n t (prog d a) p b bs (more_fed a d b q s)
 goes_more n (suc (suc k)) a d t b q p bs h s = absurd (omega arith)
 
-pub step_more : (h : Head) (b : ℕ) (r : Step) (q : Part) → GoodHead h → h.mode < HEAD-WHOLE → Stepped (part h.acc h.due) b r → r ≡ More q
+pub step_more : (h : Head) (b : ℕ) (r : Step) (q : Part) → GoodHead h → h.mode < HEAD-WHOLE → Stepped (part h.acc h.due) b r → r ≡ Continue q
     → HeadStepped h b (head h.mode q.acc q.due h.ftype)
 step_more h b r q g m s e =
-    let s' : Stepped (part h.acc h.due) b (More q) = rw e at s in
+    let s' : Stepped (part h.acc h.due) b (Continue q) = rw e at s in
     let k : Good q = s'.good in
     record { is = λ n p bs. goes_more n h.mode h.acc h.due h.ftype b q p bs m s'; good = (g.0, (λ l. k), small k, g.3) }
 
-pub step_typed : (h : Head) (b : ℕ) (r : Step) (v : ℕ) → GoodHead h → h.mode ≡ IN-TYPE → Stepped (part h.acc h.due) b r → r ≡ Done v → HeadStepped h b (head IN-LENGTH 0 0 v)
+pub step_typed : (h : Head) (b : ℕ) (r : Step) (v : ℕ) → GoodHead h → h.mode ≡ IN-TYPE → Stepped (part h.acc h.due) b r → r ≡ Break v → HeadStepped h b (head IN-LENGTH 0 0 v)
 unfolding goes_on head_state typed
 step_typed h b r v g m s e =
-    let s' : Stepped (part h.acc h.due) b (Done v) = rw e at s in
+    let s' : Stepped (part h.acc h.due) b (Break v) = rw e at s in
     let f = done_fed h.acc h.due b v s' in
     record {
       is = λ n p bs. (rw m (type_byte both n (prog h.due h.acc) p b bs ∙ rw (f, typed) (unfold prog in refl)));
       good = (omega arith, (λ l. fresh_good), omega arith, s'.good);
     }
 
-pub step_whole : (h : Head) (b : ℕ) (r : Step) (v : ℕ) → GoodHead h → (h.mode ≡ IN-TYPE → ⊥) → h.mode < HEAD-WHOLE → Stepped (part h.acc h.due) b r → r ≡ Done v
+pub step_whole : (h : Head) (b : ℕ) (r : Step) (v : ℕ) → GoodHead h → (h.mode ≡ IN-TYPE → ⊥) → h.mode < HEAD-WHOLE → Stepped (part h.acc h.due) b r → r ≡ Break v
     → HeadStepped h b (head HEAD-WHOLE v 0 h.ftype)
 unfolding goes_on head_state
 step_whole h b r v g n0 m s e =
-    let s' : Stepped (part h.acc h.due) b (Done v) = rw e at s in
+    let s' : Stepped (part h.acc h.due) b (Break v) = rw e at s in
     let f = done_fed h.acc h.due b v s' in
     let one : h.mode ≡ IN-LENGTH = omega arith in
     record {

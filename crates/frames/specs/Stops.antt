@@ -1,19 +1,19 @@
 -- Where the two readers stop, and that a feed goes on from there as from where they began. Assumes nothing.
-use Rattle.std.specs.Prelude.{◌≡◌, refl, List, [], true, false, ◌⊎◌, eqb, length, drop}
+use Rattle.std.specs.Prelude.{◌≡◌, refl, List, [], true, false, ◌⊎◌, eqb, length, drop, Some, None}
 use Rattle.std.proofs.Math.Path.{sym, ap}
 use Rattle.std.proofs.Common.{◌∙◌, add-zero, inl, inr, length-drop, drop-drop}
 use Prim.Native.Nat.{ℕ, zero, suc, ◌+◌, ◌-◌, ◌≤◌, ◌<◌, ◌^◌}
 use Rattle.std.proofs.Math.Nat.{sub_self}
 use native.Mathlib.Omega.{arith}
 use borrow.Author.Tests.{leb-true, leb-false, eqb-true, eqb-false, ne_eqb}
-use Rattle.rules.specs.Integers.{got, integer}
+use Rattle.rules.specs.Integers.{cut, got, integer}
 use Rattle.rules.specs.Message.{opening, body, trailed}
 use Rattle.meaning.specs.Machine.{between, over, with_left}
 use Rattle.meaning.specs.Feed.{Feeding, onward, over_event, left_event, behind_header, feed}
 use Rattle.meaning.specs.FeedLaws.{past, past_none, past_past}
 use Rattle.meaning.proofs.FeedLaws.{header_whole, skip_whole}
 use Rattle.meaning.specs.IntegerLaws.{integer_length, integer_rest}
-use Rattle.varint.specs.Whole.{whole_at, end_of, whole_is, Ended, Valued, read_value}
+use Rattle.varint.specs.Whole.{end_of, whole_is, Ended, Valued, read_value, ended_cut}
 use Rattle.frames.specs.Modes.{USE-SKIPPED, USE-CONTENT, USE-CANCEL-PUSH, NO-USE, BODY}
 use Rattle.frames.specs.Both.{Place, of_request, of_control, rule, both}
 use Rattle.frames.specs.Uses.{place_of, Stands, with_data, number_of, ruling_at, ruling_back, number_stands, passes_of, use_small, data_lawful}
@@ -193,28 +193,25 @@ pass_stop s phase has stated sum at left number allow {to} {len} {rst} {r} e q =
 -- ---- integers that the readers find
 
 -- whole
-pub found : (s : List ℕ) (at n v : ℕ) → Ended s at n → (n ≡ 0 → ⊥) → Valued s at v → integer at (drop at s) ≡ got v n (drop n s)
+pub found : (s : List ℕ) (at n v : ℕ) → Ended s at (Some n) → Valued s at v → integer at (drop at s) ≡ got v n (drop n s)
 unfolding whole_is
-found s at n v h z w = sym (read_value s at n h v z w)
+found s at n v h w = sym (read_value s at n v h w)
 
-ends_late : (s : List ℕ) (at : ℕ) {t here : ℕ} {rest : List ℕ} → integer at (drop at s) ≡ got t here rest → end_of (whole_at s at) ≡ 0 → ⊥
-unfolding end_of
-ends_late s at {t} {here} e z =
-    let l = integer_length at (drop at s) e in
-    let h : here ≡ 0 = sym (ap end_of e) ∙ z in
-    omega arith
+ends_late : (s : List ℕ) (at : ℕ) {t here : ℕ} {rest : List ℕ} → integer at (drop at s) ≡ got t here rest → Ended s at None → ⊥
+ends_late s at {t} {here} {rest} e h = let f : got t here rest ≡ cut = sym e ∙ ended_cut s at h in let z : ◌≡◌ {A = ℕ} 0 1 = cc in omega arith
 
-pub unready_type : (s : List ℕ) (at n : ℕ) → Ended s at n → n ≡ 0 → Unready s at
+pub unready_type : (s : List ℕ) (at : ℕ) → Ended s at None → Unready s at
 unfolding Unready
-unready_type s at n h z t here len from rest pay e f = ends_late s at e (sym h.is ∙ z)
+unready_type s at h t here len from rest pay e f = ends_late s at e h
 
-pub unready_length : (s : List ℕ) (at n m : ℕ) → Ended s at n → Ended s n m → m ≡ 0 → Unready s at
+pub unready_length : (s : List ℕ) (at n : ℕ) → Ended s at (Some n) → Ended s n None → Unready s at
 unfolding Unready end_of
-unready_length s at n m h g z t here len from rest pay e f =
-    let k : n ≡ here = h.is ∙ ap end_of e in
+unready_length s at n h g t here len from rest pay e f =
+    let i : Some n ≡ Some here = h.is ∙ ap end_of e in
+    let k : n ≡ here = cc in
     let l = integer_length at (drop at s) e in
     let d = drop-drop (here - at) at s in
     let a : at + (here - at) ≡ here = omega arith in
     let r : rest ≡ drop n s = integer_rest at (drop at s) e ∙ d ∙ ap (λ x. drop x s) (a ∙ sym k) in
     let f' : integer n (drop n s) ≡ got len from pay = ap (integer n) (sym r) ∙ ap (λ x. integer x rest) k ∙ f in
-    ends_late s n f' (sym g.is ∙ z)
+    ends_late s n f' g

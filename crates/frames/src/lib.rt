@@ -15,7 +15,8 @@ ghost use Rattle.frames.specs.Fed.{Fed};
 ghost use Rattle.frames.specs.End.{tally_of, cut_of, Ends};
 ghost use Rattle.frames.specs.Stops.{Lawful, Unready, Stuck, Stop, header_of, stop_of};
 
-use varint::{Part, Step};
+use std::ops::ControlFlow;
+use varint::Part;
 
 // What a header's payload is for. Any other number is the code that refuses it.
 pub const USE_SKIPPED: u64 = 0;
@@ -217,20 +218,18 @@ fn header(
         *rest = allow;
         return NO_USE;
     }
-    let n = varint::ends(s, at);
-    if n == 0 {
+    let Some(n) = varint::ends(s, at) else {
         *to = at;
         *len = 0;
         *rest = allow;
         return NO_USE;
-    }
-    let m = varint::ends(s, n);
-    if m == 0 {
+    };
+    let Some(m) = varint::ends(s, n) else {
         *to = at;
         *len = 0;
         *rest = allow;
         return NO_USE;
-    }
+    };
     let l = varint::value(s, n);
     let k = ruled(phase, has, stated, sum, varint::value(s, at), l);
     payload(
@@ -318,13 +317,13 @@ fn head_step(h: Head, b: u8) -> Head
         due: h.due,
     };
     match varint::read_step(p, b) {
-        Step::More(q) => Head {
+        ControlFlow::Continue(q) => Head {
             mode: h.mode,
             acc: q.acc,
             due: q.due,
             ftype: h.ftype,
         },
-        Step::Done(v) => {
+        ControlFlow::Break(v) => {
             if h.mode == IN_TYPE {
                 Head {
                     mode: IN_LENGTH,
@@ -367,7 +366,7 @@ fn head_on(s: &[u8], at: usize, h: Head) -> HeadEnd
 // acc: the value of an integer's bytes so far, or the payload's bytes to come; due: the integer's bytes to come; ftype: the type before a length.
 // phase, has, stated, sum: the place between two frames, as above.
 #[repr(C)]
-#[derive(Clone, Copy)]
+#[derive(Clone, Copy, Default, PartialEq, Eq)]
 pub struct Cells {
     pub mode: u64,
     pub acc: u64,
@@ -708,15 +707,13 @@ pub fn brisk(s: &[u8], c: Cells, allow: u64) -> Answer
     if s[0] != 0 {
         return quiet(0, 0, c);
     }
-    let n = varint::ends(s, 0);
-    if n == 0 {
+    let Some(n) = varint::ends(s, 0) else {
         return quiet(0, 0, c);
-    }
-    let m = varint::ends(s, n);
-    if m == 0 {
+    };
+    let Some(m) = varint::ends(s, n) else {
         return quiet(0, 0, c);
-    }
-    let l = varint::near_value(s, n);
+    };
+    let l = varint::value(s, n);
     if l == 0 {
         return quiet(0, 0, c);
     }

@@ -4,27 +4,20 @@
 ghost use Rattle.std.specs.Prelude.{length};
 ghost use Rattle.input.specs.Came.{Came};
 
+use std::io;
 use std::io::Read;
 
-#[derive(Clone, Copy)]
-pub enum Input {
-    Bytes(usize),
-    Failed,
-}
-
-// Reads up to the end of the input or of the room. Where a read fails, what came is not the input.
-pub fn read_all<R: Read>(reader: &mut R, room: &mut [u8]) -> Input
+// Reads up to the end of the input or of the room, and says how many bytes came. Where a read fails, what came is not the input.
+pub fn read_all<R: Read>(reader: &mut R, room: &mut [u8]) -> io::Result<usize>
     ensures { Came room.old result room.new }
 {
-    let mut n = 0;
-    while n < room.len() {
-        let Ok(more) = reader.read(&mut room[n..]) else {
-            return Input::Failed;
-        };
+    let mut count = 0;
+    while count < room.len() {
+        let more = reader.read(&mut room[count..])?;
         if more == 0 {
-            return Input::Bytes(n);
+            break;
         }
-        n += more;
+        count += more;
     }
-    Input::Bytes(n)
+    Ok(count)
 }

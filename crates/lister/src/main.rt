@@ -2,7 +2,6 @@
 // says.
 #![tactic(auto)]
 
-use input::Input;
 use listing::Text;
 use std::io;
 use std::io::Read;
@@ -21,8 +20,8 @@ fn list(rt: &impl Print, input: &[u8]) -> io::Result<()> {
 
 fn run(rt: &(impl Print + Eprint), reader: &mut impl Read, room: &mut [u8]) -> io::Result<()> {
     match input::read_all(reader, room) {
-        Input::Bytes(n) => list(rt, &room[..n]),
-        Input::Failed => eprintln!(rt; "lister: standard input cannot be read"),
+        Ok(n) => list(rt, &room[..n]),
+        Err(_) => eprintln!(rt; "lister: standard input cannot be read"),
     }
 }
 

@@ -1,7 +1,7 @@
 -- The line at a place, for each way that the input can go there. Assumes nothing.
 use Prim.Native.Nat.{ℕ, zero, suc, ◌≤◌, ◌<◌}
 use Rattle.std.proofs.Math.Path.{◌≡◌, refl, sym, ap}
-use Rattle.std.proofs.Common.{◌∙◌, arith, ltb→lt}
+use Rattle.std.proofs.Common.{◌∙◌, arith, ltb→lt, Some, None}
 use mathlib.Core.List.{List, [], ◌∷◌}
 use Rattle.std.specs.Prelude.{Bool, length, drop}
 use Rattle.std.proofs.Math.Bool.{true, false}
@@ -84,33 +84,33 @@ module _ (s : List ℕ) (p : Place) where
           sym (inside (omega arith) ∙ ap (line_in (length s) p) (frames_none p.at (drop p.at s) (omega arith)))
 
       -- the type is cut, or the payload before it was
-      pub line-cut-type : {n : ℕ} → (p.at ≡ length s → ⊥) → Ended s p.at n → n ≡ 0 → Refused (length s) FRAME-ERROR ≡ line_at s p
+      pub line-cut-type : (p.at ≡ length s → ⊥) → Ended s p.at None → Refused (length s) FRAME-ERROR ≡ line_at s p
       unfolding line_in
-      line-cut-type {n} w e z = go (ltb (length s) p.at) refl
+      line-cut-type w e = go (ltb (length s) p.at) refl
         where
           go : (x : Bool) → ltb (length s) p.at ≡ x → Refused (length s) FRAME-ERROR ≡ line_at s p
           go true x = line_cut_payload (ltb→lt (length s) p.at (rw x tt))
           go false x =
               let h = nltb→le (length s) p.at (rw x tt) in
               let d = length-drop p.at s in
-              sym (inside h ∙ ap (line_in (length s) p) (frames_type p.at (drop p.at s) (omega arith) (ended_cut s p.at n e z)))
+              sym (inside h ∙ ap (line_in (length s) p) (frames_type p.at (drop p.at s) (omega arith) (ended_cut s p.at e)))
 
-      module _ (t n : ℕ) (e : Ended s p.at n) (w : n ≡ 0 → ⊥) (v : Valued s p.at t) where
+      module _ (t n : ℕ) (e : Ended s p.at (Some n)) (v : Valued s p.at t) where
         type-there : integer p.at (drop p.at s) ≡ got t n (drop n s)
-        type-there = ended_got s p.at n e t w v
+        type-there = ended_got s p.at n t e v
 
         in-input : p.at ≤ length s
-        in-input = let b = e.past (omega arith) in let c = e.within in omega arith
+        in-input = let b = e.past in let c = e.within in omega arith
 
         -- the length is cut
-        pub line-cut-length : {m : ℕ} → Ended s n m → m ≡ 0 → Refused (length s) FRAME-ERROR ≡ line_at s p
+        pub line-cut-length : Ended s n None → Refused (length s) FRAME-ERROR ≡ line_at s p
         unfolding line_in
-        line-cut-length {m} f z =
-            sym (inside in-input ∙ ap (line_in (length s) p) (frames_length p.at (drop p.at s) type-there (ended_cut s n m f z)))
+        line-cut-length f =
+            sym (inside in-input ∙ ap (line_in (length s) p) (frames_length p.at (drop p.at s) type-there (ended_cut s n f)))
 
         -- the header is whole
-        pub line-header : (m l : ℕ) {r : Line} → Ended s n m → (m ≡ 0 → ⊥) → Valued s n l → r ≡ ruled_line p (head p.at m t l) → r ≡ line_at s p
-        line-header m l f x y q = q ∙ sym (inside in-input ∙ header_line p.at (length s) p (drop p.at s) type-there (ended_got s n m f l x y))
+        pub line-header : (m l : ℕ) {r : Line} → Ended s n (Some m) → Valued s n l → r ≡ ruled_line p (head p.at m t l) → r ≡ line_at s p
+        line-header m l f y q = q ∙ sym (inside in-input ∙ header_line p.at (length s) p (drop p.at s) type-there (ended_got s n m l f y))
 
 -- the end, between two frames
 module _ (total : ℕ) (p : Place) where

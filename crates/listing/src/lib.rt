@@ -162,21 +162,19 @@ pub fn next(s: &[u8], p: Place) -> Line
     if at == total {
         return end_line(p, phase, total);
     }
-    let here = varint::ends(s, at);
-    if here == 0 {
+    let Some(here) = varint::ends(s, at) else {
         return Line::Refused {
             bytes: total,
             code: rules::FRAME_ERROR,
         };
-    }
+    };
     let ftype = varint::value(s, at);
-    let from = varint::ends(s, here);
-    if from == 0 {
+    let Some(from) = varint::ends(s, here) else {
         return Line::Refused {
             bytes: total,
             code: rules::FRAME_ERROR,
         };
-    }
+    };
     ruled_line(p, phase, from, ftype, varint::value(s, here))
 }
 

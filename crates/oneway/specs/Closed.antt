@@ -1,10 +1,13 @@
 -- A one-way stream ended or reset, in numbers; and where a control stream goes on behind a judged payload. Assumes nothing.
-use Rattle.std.specs.Prelude.{◌≡◌, List, [], Bool, true, false, length}
+use Rattle.std.specs.Prelude.{◌≡◌, List, [], Bool, true, false, length, Result, Ok, Err}
 use Rattle.std.proofs.Math.Path.{refl, sym, ap}
 use Rattle.std.proofs.Common.{◌∙◌, arith}
 use Prim.Native.Nat.{ℕ, zero, suc, ◌≤◌, ◌<◌}
 use Rattle.std.proofs.Math.Option.{Option, none, some}
 use Rattle.rules.specs.Numbers.{CLOSED-CRITICAL-STREAM, Code, of_connection, closed_critical_stream, id_error, code_number}
+use Rattle.rules.specs.declared.codes.Code as declared-code
+use Rattle.rules.specs.declared.codes.Code.TheVariants as code
+use Rattle.rules.specs.Named.{code_of}
 use Rattle.rules.specs.Reading.{Kept, settings, goaway, max_push_id, cancel_push, Next, stop, go, fault, ended}
 use Rattle.rules.specs.Control.{Settings, settings_of, Control, unset, set, control, only, above, below, after_settings, after_integer, after_goaway, after_max_push, judged}
 use Rattle.rules.specs.Integers.{integer}
@@ -34,19 +37,40 @@ closes (in_control s) = CLOSED-CRITICAL-STREAM
 closes (in_qpack q) = CLOSED-CRITICAL-STREAM
 closes in_skipped = 0
 
-abbrev pub Closes : numbers.OneWay → ℕ → Type 0
-Closes w r = (p : Control) (k : List ℕ) → r ≡ closes (one_state w p k)
+-- the same in the code's names
+unfoldable pub freed_or : OneState → Result Unit declared-code.Code
+freed_or (in_stream_type g) = Ok tt
+freed_or (in_control s) = Err code.ClosedCriticalStream
+freed_or (in_qpack q) = Err code.ClosedCriticalStream
+freed_or in_skipped = Ok tt
+
+abbrev pub Closes : numbers.OneWay → Result Unit declared-code.Code → Type 0
+Closes w r = (p : Control) (k : List ℕ) → r ≡ freed_or (one_state w p k)
+
+pub freed_none : (s : OneState) → freed_or s ≡ Ok tt → closes s ≡ 0
+unfolding closes freed_or
+freed_none (in_stream_type g) e = refl
+freed_none (in_control s) e = cc
+freed_none (in_qpack q) e = cc
+freed_none in_skipped e = refl
+
+pub freed_code : (s : OneState) (c : declared-code.Code) → freed_or s ≡ Err c → closes s ≡ code_number (code_of c)
+unfolding closes freed_or
+freed_code (in_stream_type g) c e = cc
+freed_code (in_control s) c e = let f : code.ClosedCriticalStream ≡ c = cc in rw (sym f) refl
+freed_code (in_qpack q) c e = let f : code.ClosedCriticalStream ≡ c = cc in rw (sym f) refl
+freed_code in_skipped c e = cc
 
 module _ (c : Cells) (p : Control) (k : List ℕ) where
-  low : (kind : ℕ) → kind < CONTROL → 0 ≡ closes (one_state_at kind c p k)
-  unfolding closes one_state_at
+  low : (kind : ℕ) → kind < CONTROL → Ok tt ≡ freed_or (one_state_at kind c p k)
+  unfolding freed_or one_state_at
   low zero h = refl
   low (suc zero) h = refl
   low (suc (suc zero)) h = refl
   low (suc (suc (suc n))) h = absurd (omega arith)
 
-  high : (kind : ℕ) → DECODER < kind → 0 ≡ closes (one_state_at kind c p k)
-  unfolding closes one_state_at
+  high : (kind : ℕ) → DECODER < kind → Ok tt ≡ freed_or (one_state_at kind c p k)
+  unfolding freed_or one_state_at
   high zero h = absurd (omega arith)
   high (suc zero) h = absurd (omega arith)
   high (suc (suc zero)) h = absurd (omega arith)
@@ -55,8 +79,8 @@ module _ (c : Cells) (p : Control) (k : List ℕ) where
   high (suc (suc (suc (suc (suc zero))))) h = absurd (omega arith)
   high (suc (suc (suc (suc (suc (suc n)))))) h = refl
 
-  held : (kind : ℕ) → CONTROL ≤ kind → kind ≤ DECODER → CLOSED-CRITICAL-STREAM ≡ closes (one_state_at kind c p k)
-  unfolding closes one_state_at
+  held : (kind : ℕ) → CONTROL ≤ kind → kind ≤ DECODER → Err code.ClosedCriticalStream ≡ freed_or (one_state_at kind c p k)
+  unfolding freed_or one_state_at
   held zero h l = absurd (omega arith)
   held (suc zero) h l = absurd (omega arith)
   held (suc (suc zero)) h l = absurd (omega arith)
@@ -66,13 +90,13 @@ module _ (c : Cells) (p : Control) (k : List ℕ) where
   held (suc (suc (suc (suc (suc (suc n)))))) h l = absurd (omega arith)
 
 module _ (w : numbers.OneWay) where
-  pub closes_untyped : w.kind < CONTROL → Closes w 0
+  pub closes_untyped : w.kind < CONTROL → Closes w (Ok tt)
   closes_untyped h p k = low w.cells p k w.kind h
 
-  pub closes_skipped : DECODER < w.kind → Closes w 0
+  pub closes_skipped : DECODER < w.kind → Closes w (Ok tt)
   closes_skipped h p k = high w.cells p k w.kind h
 
-  pub closes_held : CONTROL ≤ w.kind → w.kind ≤ DECODER → Closes w CLOSED-CRITICAL-STREAM
+  pub closes_held : CONTROL ≤ w.kind → w.kind ≤ DECODER → Closes w (Err code.ClosedCriticalStream)
   closes_held h l p k = held w.cells p k w.kind h l
 
 -- ---- it is the rules' own

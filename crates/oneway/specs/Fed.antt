@@ -1,5 +1,5 @@
 -- One feed of a one-way stream, from its parts: a law for each way it goes. Assumes nothing.
-use Rattle.std.specs.Prelude.{◌≡◌}
+use Rattle.std.specs.Prelude.{◌≡◌, Ok, Err}
 use Rattle.std.proofs.Math.Path.{refl, ap}
 use Rattle.std.proofs.Common.{sym, ◌∙◌, length-drop}
 use Prim.Native.Nat.{ℕ, zero, suc, ◌+◌, ◌-◌, ◌≤◌, ◌<◌}
@@ -9,11 +9,14 @@ use mathlib.Core.List.{List, [], ◌∷◌}
 use Rattle.std.proofs.Math.Logic.{inl, inr}
 use Rattle.std.proofs.Math.ListN.{length, drop, drop_of_length-le}
 use Rattle.rules.specs.Numbers.{coded, code_number}
+use Rattle.rules.specs.declared.codes.Code.{Code}
+use Rattle.rules.specs.Named.{code_of}
 use Rattle.rules.specs.Control.{Control, unset, control}
 use Rattle.rules.specs.OneWay.{Qpack, encoder, decoder, a_control, a_qpack, skipped, Typed, refuse, is, type_rule}
 use Rattle.meaning.specs.Machine.{between}
 use Rattle.meaning.specs.Feed as F
 use Rattle.meaning.specs.OneWayFeed.{OneFeeding, lives, dies, in_stream_type, in_qpack, qpack_bytes, of_control, halt, qpack_feed, kind_feed, typed_feed, type_feed, feed}
+use Rattle.varint.specs.declared.Part.{Part}
 use Rattle.varint.specs.ByByte.{part, prog, Good}
 use Rattle.frames.specs.Modes.{UNSET, mode_of}
 use Rattle.frames.specs.declared.Cells.{Cells}
@@ -24,11 +27,10 @@ use Rattle.frames.specs.Answers.{mode_state, state_of, StandsIn, Sane}
 use Rattle.oneway.specs.declared.Seen.{Seen}
 use Rattle.oneway.specs.declared.OneWay.{OneWay}
 use Rattle.oneway.specs.declared.OneAnswer.{OneAnswer}
-use Rattle.oneway.specs.declared.TypeEnd.{TypeEnd}
-use Rattle.oneway.specs.Types.{seen_of, kind_number}
-use Rattle.meaning.specs.NumberLaws.{coded_back, code_high}
+use Rattle.oneway.specs.Types.{seen_of, KindOf}
+use Rattle.meaning.specs.NumberLaws.{coded_back}
 use Rattle.oneway.specs.Stands.{one_state_at, one_state, OneStands, qpack_of, one_answer_at, OneSoundAt, OneSound, cells_of, OneShapeAt, OneShape, StandsAt, Says, OneFed}
-use Rattle.oneway.specs.Typed.{one_past, one_past_none, type_goes, TypeRead}
+use Rattle.oneway.specs.Typed.{one_past, one_past_none, TypeWhole, TypeCut}
 use Rattle.oneway.specs.Frames.{frame_sane, frames_stand, frames_from, Controlled}
 use Rattle.record.specs.Kinds.{UNTYPED, CONTROL, ENCODER, DECODER, SKIPPED}
 
@@ -269,60 +271,44 @@ fresh_shape : OneShapeAt 3 (cells_of 0 0 3)
 unfolding OneShapeAt
 fresh_shape = (omega arith, λ h. absurd (omega arith))
 
--- the kind's number says what follows
-refused_feed : (allow : ℕ) (x : Typed) (number : ℕ) (rest : List ℕ) → number ≡ kind_number x → 6 < number → typed_feed allow x rest ≡ halt (dies (coded number))
-unfolding kind_number typed_feed
-refused_feed allow (refuse c) number rest e h = ap (λ x. halt (dies x)) (sym (ap coded e ∙ coded_back c))
-refused_feed allow (is a_control) code rest e h = absurd (omega arith)
-refused_feed allow (is (a_qpack encoder)) code rest e h = absurd (omega arith)
-refused_feed allow (is (a_qpack decoder)) code rest e h = absurd (omega arith)
-refused_feed allow (is skipped) code rest e h = absurd (omega arith)
+-- the code's answer says what follows
+refused_feed : (allow : ℕ) (x : Typed) (code : Code) (rest : List ℕ) → KindOf (Err code) x → typed_feed allow x rest ≡ halt (dies (code_of code))
+unfolding typed_feed
+refused_feed allow (refuse x) code rest e = ap (λ y. halt (dies y)) e
+refused_feed allow (is k) code rest e = absurd e
 
-kind_listed : (x : Typed) (number : ℕ) → number ≡ kind_number x → 6 < number → code_number (coded number) ≡ number
-unfolding kind_number
-kind_listed (refuse c) number e h = ap (λ n. code_number (coded n)) e ∙ ap code_number (coded_back c) ∙ sym e
-kind_listed (is a_control) number e h = absurd (omega arith)
-kind_listed (is (a_qpack encoder)) number e h = absurd (omega arith)
-kind_listed (is (a_qpack decoder)) number e h = absurd (omega arith)
-kind_listed (is skipped) number e h = absurd (omega arith)
-
-control_feeds : (allow : ℕ) (x : Typed) (kind : ℕ) (rest : List ℕ) → kind ≡ kind_number x → kind ≡ CONTROL → typed_feed allow x rest ≡ of_control (F.feed control allow (between unset) rest)
-unfolding kind_number typed_feed kind_feed
-control_feeds allow (refuse c) kind rest e h = let l = code_high c in absurd (omega arith)
+control_feeds : (allow : ℕ) (x : Typed) (kind : ℕ) (rest : List ℕ) → KindOf (Ok kind) x → kind ≡ CONTROL → typed_feed allow x rest ≡ of_control (F.feed control allow (between unset) rest)
+unfolding typed_feed kind_feed
+control_feeds allow (refuse c) kind rest e h = absurd e
 control_feeds allow (is a_control) kind rest e h = refl
 control_feeds allow (is (a_qpack encoder)) kind rest e h = absurd (omega arith)
 control_feeds allow (is (a_qpack decoder)) kind rest e h = absurd (omega arith)
 control_feeds allow (is skipped) kind rest e h = absurd (omega arith)
 
-bare_feeds : (allow : ℕ) (x : Typed) (kind : ℕ) (rest : List ℕ) → kind ≡ kind_number x → (SKIPPED < kind → ⊥) → (kind ≡ CONTROL → ⊥) → (typed_feed allow x rest ≡ bare_feed kind rest) × (ENCODER ≤ kind)
-unfolding kind_number typed_feed kind_feed bare_feed
-bare_feeds allow (refuse c) kind rest e h n = let l = code_high c in absurd (h (omega arith))
-bare_feeds allow (is a_control) kind rest e h n = absurd (n e)
-bare_feeds allow (is (a_qpack encoder)) kind rest e h n = (rw e refl, omega arith)
-bare_feeds allow (is (a_qpack decoder)) kind rest e h n = (rw e refl, omega arith)
-bare_feeds allow (is skipped) kind rest e h n = (rw e refl, omega arith)
+bare_feeds : (allow : ℕ) (x : Typed) (kind : ℕ) (rest : List ℕ) → KindOf (Ok kind) x → (kind ≡ CONTROL → ⊥) → (typed_feed allow x rest ≡ bare_feed kind rest) × (ENCODER ≤ kind) × (kind ≤ SKIPPED)
+unfolding typed_feed kind_feed bare_feed
+bare_feeds allow (refuse c) kind rest e n = absurd e
+bare_feeds allow (is a_control) kind rest e n = absurd (n e)
+bare_feeds allow (is (a_qpack encoder)) kind rest e n = (rw e refl, omega arith, omega arith)
+bare_feeds allow (is (a_qpack decoder)) kind rest e n = (rw e refl, omega arith, omega arith)
+bare_feeds allow (is skipped) kind rest e n = (rw e refl, omega arith, omega arith)
 
-goes_cut : (seen : List ℕ) (allow whole a d : ℕ) → whole ≡ 0 → type_goes seen allow whole a d [] ≡ halt (lives (in_stream_type (prog d a)))
-unfolding type_goes type_feed
-goes_cut seen allow whole a d e = rw e refl
+cut_feed : (seen : List ℕ) (allow a d : ℕ) → type_feed seen allow (prog d a) [] ≡ halt (lives (in_stream_type (prog d a)))
+unfolding type_feed
+cut_feed seen allow a d = refl
 
-goes_typed : (seen : List ℕ) (allow whole a d : ℕ) (rest : List ℕ) → (whole ≡ 0 → ⊥) → type_goes seen allow whole a d rest ≡ typed_feed allow (type_rule seen a) rest
-unfolding type_goes
-goes_typed seen allow zero a d rest n = absurd (n refl)
-goes_typed seen allow (suc w) a d rest n = refl
-
-module _ (c : Cells) (seen : Seen) (s : List ℕ) (allow : ℕ) (e : TypeEnd) (q : TypeRead s c.acc c.due e) where
-  type_state : (p : Control) (k : List ℕ) → feed (seen_of seen) allow (one_state (untyped c) p k) s ≡ one_past e.next (type_goes (seen_of seen) allow e.whole e.acc e.due (drop e.next s))
+module _ (c : Cells) (seen : Seen) (s : List ℕ) (allow : ℕ) where
+  type_state : (f : OneFeeding) (p : Control) (k : List ℕ) → type_feed (seen_of seen) allow (prog c.due c.acc) s ≡ f → feed (seen_of seen) allow (one_state (untyped c) p k) s ≡ f
   unfolding one_state_at feed
-  type_state p k = q.is (seen_of seen) allow
+  type_state f p k e = e
 
-  pub typed_cut : {d : Cells} {r : OneAnswer} → e.whole ≡ 0 → d ≡ cells_of e.acc e.due 0 → r ≡ quiet_at (length s) (untyped d) → OneFed (untyped c) seen s allow r
+  pub typed_cut : {e : Part} {d : Cells} {r : OneAnswer} → TypeCut s c.acc c.due e → d ≡ cells_of e.acc e.due 0 → r ≡ quiet_at (length s) (untyped d) → OneFed (untyped c) seen s allow r
   unfolding OneSoundAt OneShapeAt OneStands StandsAt one_past halt one_answer_at one_state_at
-  typed_cut z f g = rw (g, f) (record {
-    is = λ p k st. type_state p k ∙ ended p k;
+  typed_cut {e} q f g = rw (g, f) (record {
+    is = λ p k st. type_state _ p k (q.is (seen_of seen) allow) ∙ ended p k;
     within = omega arith;
     part = inl (omega arith);
-    sound = q.good z;
+    sound = q.good;
     shaped = λ sh. refl;
     plain = λ sh h. refl;
     known = omega arith;
@@ -333,24 +319,19 @@ module _ (c : Cells) (seen : Seen) (s : List ℕ) (allow : ℕ) (e : TypeEnd) (q
     leaves = λ x y p k st. st.0;
   })
     where
-      ended : (p : Control) (k : List ℕ) → one_past e.next (type_goes (seen_of seen) allow e.whole e.acc e.due (drop e.next s))
-          ≡ one_answer_at 0 (length s) 0 (length s) 0 0 (untyped (cells_of e.acc e.due 0)) p k s
-      ended p k =
-          let n = q.ended z in
-          let d : drop e.next s ≡ [] = drop_of_length-le s {i = e.next} (omega arith) in
-          ap (λ x. one_past e.next (type_goes (seen_of seen) allow e.whole e.acc e.due x)) d ∙ ap (one_past e.next) (goes_cut (seen_of seen) allow e.whole e.acc e.due z)
-          ∙ rw n (let y = add-zero (length s) in rw y refl)
+      ended : (p : Control) (k : List ℕ) → one_past (length s) (type_feed (seen_of seen) allow (prog e.due e.acc) []) ≡ one_answer_at 0 (length s) 0 (length s) 0 0 (untyped (cells_of e.acc e.due 0)) p k s
+      ended p k = ap (one_past (length s)) (cut_feed (seen_of seen) allow e.acc e.due) ∙ (let y = add-zero (length s) in rw y refl)
 
-  module _ (whole : e.whole ≡ 0 → ⊥) {kind : ℕ} (is-kind : kind ≡ kind_number (type_rule (seen_of seen) e.acc)) where
-    known_state : (f : List ℕ → OneFeeding) (p : Control) (k : List ℕ) → typed_feed allow (type_rule (seen_of seen) e.acc) (drop e.next s) ≡ f (drop e.next s)
-        → feed (seen_of seen) allow (one_state (untyped c) p k) s ≡ one_past e.next (f (drop e.next s))
-    known_state f p k x = type_state p k ∙ ap (one_past e.next) (goes_typed (seen_of seen) allow e.whole e.acc e.due (drop e.next s) whole ∙ x)
+  module _ {t next : ℕ} (q : TypeWhole s c.acc c.due t next) where
+    known_state : (f : List ℕ → OneFeeding) (p : Control) (k : List ℕ) → typed_feed allow (type_rule (seen_of seen) t) (drop next s) ≡ f (drop next s)
+        → feed (seen_of seen) allow (one_state (untyped c) p k) s ≡ one_past next (f (drop next s))
+    known_state f p k x = type_state _ p k (q.is (seen_of seen) allow ∙ ap (one_past next) x)
 
-    pub typed_refused : Good (part c.acc c.due) → SKIPPED < kind
-        → OneFed (untyped c) seen s allow (record { event = 4; start = e.next; len = kind; used = e.next; heads = 0; payload = 0; stream = untyped c })
+    pub typed_refused : (code : Code) {n : ℕ} → KindOf (Err code) (type_rule (seen_of seen) t) → n ≡ code_number (code_of code) → Good (part c.acc c.due)
+        → OneFed (untyped c) seen s allow (record { event = 4; start = next; len = n; used = next; heads = 0; payload = 0; stream = untyped c })
     unfolding OneSoundAt one_past halt one_answer_at
-    typed_refused g h = record {
-      is = λ p k st. known_state (λ x. halt (dies (coded kind))) p k (refused_feed allow _ kind (drop e.next s) is-kind h) ∙ refused p k;
+    typed_refused code {n} is-code number g = record {
+      is = λ p k st. known_state (λ x. halt (dies (code_of code))) p k (refused_feed allow _ code (drop next s) is-code) ∙ refused p k;
       within = q.within;
       part = inr refl;
       sound = g;
@@ -360,12 +341,15 @@ module _ (c : Cells) (seen : Seen) (s : List ℕ) (allow : ℕ) (e : TypeEnd) (q
       stays = λ x. refl;
       behind = λ x. absurd (omega arith);
       held = λ x. absurd (omega arith);
-      listed = λ x. kind_listed _ kind is-kind h;
+      listed = λ x. ap code_number back ∙ sym number;
       leaves = λ x y p k st. absurd (x refl);
     }
       where
-        refused : (p : Control) (k : List ℕ) → one_past e.next (halt (dies (coded kind))) ≡ one_answer_at 4 e.next kind e.next 0 0 (untyped c) p k s
-        refused p k = let y = add-zero e.next in rw y refl
+        back : coded n ≡ code_of code
+        back = ap coded number ∙ coded_back (code_of code)
+
+        refused : (p : Control) (k : List ℕ) → one_past next (halt (dies (code_of code))) ≡ one_answer_at 4 next n next 0 0 (untyped c) p k s
+        refused p k = ap (λ y. one_past next (halt (dies y))) (sym back) ∙ (let y = add-zero next in rw y refl)
 
     untyped_stands : (p : Control) (k : List ℕ) → OneStands 2 c p k → frames_stand (cells_of 0 0 3) p k
     unfolding OneStands
@@ -375,17 +359,17 @@ module _ (c : Cells) (seen : Seen) (s : List ℕ) (allow : ℕ) (e : TypeEnd) (q
     unfolding OneStands
     is_unset p k st = st.0
 
-    pub frames_ask : {d : Cells} → Good (part c.acc c.due) → d ≡ cells_of 0 0 3 → (e.next ≤ length s) × Sane d × (UNSET ≤ d.phase) × OneSound (untyped c)
+    pub frames_ask : {d : Cells} → Good (part c.acc c.due) → d ≡ cells_of 0 0 3 → (next ≤ length s) × Sane d × (UNSET ≤ d.phase) × OneSound (untyped c)
     unfolding OneSoundAt
     frames_ask good f = let g = frame_sane 3 (omega arith) in rw f (q.within, g.0, g.1, good)
 
-    pub typed_control : {d : Cells} {r : OneAnswer} → kind ≡ CONTROL → d ≡ cells_of 0 0 3 → Controlled s e.next (untyped c) d allow r → OneFed (untyped c) seen s allow r
-    typed_control {d} {r} h f b =
-        let b' : Controlled s e.next (untyped c) (cells_of 0 0 3) allow r = rw f at b in
+    pub typed_control : (kind : ℕ) {d : Cells} {r : OneAnswer} → KindOf (Ok kind) (type_rule (seen_of seen) t) → kind ≡ CONTROL → d ≡ cells_of 0 0 3 → Controlled s next (untyped c) d allow r → OneFed (untyped c) seen s allow r
+    typed_control kind {d} {r} is-kind h f b =
+        let b' : Controlled s next (untyped c) (cells_of 0 0 3) allow r = rw f at b in
         record {
-          is = λ p k st. known_state (λ x. of_control (F.feed control allow (between unset) x)) p k (control_feeds allow _ kind (drop e.next s) is-kind h)
-              ∙ ap (λ x. one_past e.next (of_control (F.feed control allow x (drop e.next s)))) (sym (fresh_frames k))
-              ∙ ap (λ x. frames_from s e.next (cells_of 0 0 3) allow x k) (sym (is_unset p k st)) ∙ b'.is p k (untyped_stands p k st);
+          is = λ p k st. known_state (λ x. of_control (F.feed control allow (between unset) x)) p k (control_feeds allow _ kind (drop next s) is-kind h)
+              ∙ ap (λ x. one_past next (of_control (F.feed control allow x (drop next s)))) (sym (fresh_frames k))
+              ∙ ap (λ x. frames_from s next (cells_of 0 0 3) allow x k) (sym (is_unset p k st)) ∙ b'.is p k (untyped_stands p k st);
           within = b'.within;
           part = b'.part;
           sound = b'.sound;
@@ -399,8 +383,8 @@ module _ (c : Cells) (seen : Seen) (s : List ℕ) (allow : ℕ) (e : TypeEnd) (q
           leaves = λ x y p k st. b'.leaves x y p k (untyped_stands p k st);
         }
 
-    pub kind_bare : (SKIPPED < kind → ⊥) → (kind ≡ CONTROL → ⊥) → ENCODER ≤ kind
-    kind_bare h n = (bare_feeds allow _ kind (drop e.next s) is-kind h n).1
+    pub kind_bare : (kind : ℕ) → KindOf (Ok kind) (type_rule (seen_of seen) t) → (kind ≡ CONTROL → ⊥) → (ENCODER ≤ kind) × (kind ≤ SKIPPED)
+    kind_bare kind is-kind n = let b = bare_feeds allow _ kind (drop next s) is-kind n in (b.1, b.2)
 
     bare_shape : (n : ℕ) (d : Cells) → 4 ≤ n → (6 < n → ⊥) → d ≡ cells_of 0 0 0 → OneShapeAt n d
     unfolding OneShapeAt
@@ -416,14 +400,14 @@ module _ (c : Cells) (seen : Seen) (s : List ℕ) (allow : ℕ) (e : TypeEnd) (q
         small (suc (suc zero)) u = omega arith
         small (suc (suc (suc n))) u = absurd (u (omega arith))
 
-    pub typed_bare : {d : Cells} {r : OneAnswer} → d ≡ cells_of 0 0 0 → (SKIPPED < kind → ⊥) → (kind ≡ CONTROL → ⊥) → Bare s e.next (record { kind = kind; cells = d }) r → OneFed (untyped c) seen s allow r
-    typed_bare {d} f h n bare = let b = bare (untyped c) in record {
-      is = λ p k st. known_state (bare_feed kind) p k (bare_feeds allow _ kind (drop e.next s) is-kind h n).0 ∙ b.is p k tt;
+    pub typed_bare : (kind : ℕ) {d : Cells} {r : OneAnswer} → KindOf (Ok kind) (type_rule (seen_of seen) t) → d ≡ cells_of 0 0 0 → (kind ≡ CONTROL → ⊥) → Bare s next (record { kind = kind; cells = d }) r → OneFed (untyped c) seen s allow r
+    typed_bare kind {d} is-kind f n bare = let b = bare (untyped c) in let low = kind_bare kind is-kind n in record {
+      is = λ p k st. known_state (bare_feed kind) p k (bare_feeds allow _ kind (drop next s) is-kind n).0 ∙ b.is p k tt;
       within = b.within;
       part = b.part;
       sound = b.sound;
-      shaped = λ sh. b.shaped (bare_shape kind d (kind_bare h n) h f);
-      plain = λ sh l. b.plain (bare_shape kind d (kind_bare h n) h f) l;
+      shaped = λ sh. b.shaped (bare_shape kind d low.0 (λ x. omega arith) f);
+      plain = λ sh l. b.plain (bare_shape kind d low.0 (λ x. omega arith) f) l;
       known = b.known;
       stays = b.stays;
       behind = b.behind;

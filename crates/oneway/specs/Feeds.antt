@@ -1,5 +1,5 @@
 -- Laws of the calls on one one-way stream: a law for each way out. Assumes nothing.
-use Rattle.std.specs.Prelude.{◌≡◌, drop, replicate, eqb, Bool, true, false}
+use Rattle.std.specs.Prelude.{◌≡◌, drop, replicate, eqb, Bool, true, false, Result, Ok, Err}
 use Rattle.std.proofs.Math.Path.{refl, sym, ap}
 use Rattle.std.proofs.Common.{◌∙◌, subst, ⊎_elim, take_all}
 use Prim.Native.Nat.{ℕ, zero, suc, ◌+◌, ◌-◌, ◌%◌, ◌≤◌, ◌<◌, ◌^◌, min}
@@ -11,6 +11,8 @@ use Rattle.std.proofs.Math.Seq.{take-nil, length-take-le}
 use borrow.Author.Tests.{le-ltb, eq-eqb, eqb-true, eqb-false}
 use Rattle.rules.specs.Events.{NOTHING, FAULT, KEPT, KEPT-PART, QPACK}
 use Rattle.rules.specs.Numbers.{ACCEPTED, Code, code_number, coded}
+use Rattle.rules.specs.declared.codes.Code as declared-code
+use Rattle.rules.specs.Named.{code_of}
 use Rattle.rules.specs.Reading.{Next, stop, go, kept}
 use Rattle.rules.specs.Control.{Control, control, judged, Told}
 use Rattle.meaning.specs.Machine.{in_payload, between, answered}
@@ -33,7 +35,7 @@ use Rattle.oneway.specs.Types.{types_of}
 use Rattle.oneway.specs.Stands.{one_state_at, one_state, OneStands, qpack_of, one_answer_at, OneSoundAt, OneShapeAt, StandsAt, cells_of, OneFed}
 use Rattle.oneway.specs.Frames.{frame_cells, frame_sane}
 use Rattle.oneway.specs.Row.{one_fit}
-use Rattle.oneway.specs.Closed.{closes, Closes, behind_judged, behind_between}
+use Rattle.oneway.specs.Closed.{closes, freed_or, Closes, freed_none, freed_code, behind_judged, behind_between}
 use Rattle.control.specs.declared.Kept.{Kept}
 use Rattle.control.specs.declared.Verdict.{Verdict}
 use Rattle.control.specs.Judged.{judged_of}
@@ -387,7 +389,7 @@ module _ (r : Record) (o : Heeds r) (d : Side) {c : Cells} (ec : c ≡ cells_in 
   kept_fed = frames_want r.kind kept_kind
 
   pub kept_complete : {n k : ℕ} {all payload : List ℕ} → length d.bytes ≡ 256 → n ≡ min d.held (256 - c.acc) → k ≡ c.acc → k ≤ length s
-      → all ≡ bytes_of (take n d.bytes ++ take k (drop 0 s)) → payload ≡ take (n + k) all → judging c.mode c.phase payload k 0 d ≡ feeding d allow s (state_here r d)
+      → all ≡ bytes_of (take n d.bytes ++ take k s) → payload ≡ take (n + k) all → judging c.mode c.phase payload k 0 d ≡ feeding d allow s (state_here r d)
   unfolding judged_as
   kept_complete {n} {k} {all} {payload} lb hn ek hk ha hp =
       let ac : c.acc ≡ r.acc = ap (λ y. y.acc) ec in
@@ -445,7 +447,7 @@ module _ (r : Record) (o : Heeds r) (d : Side) {c : Cells} (ec : c ≡ cells_in 
         let ks = kept_short control allow here (kept_at r.mode) (r.acc - 1) sofar s (omega (arith, less_acc)) in
         kept_fed ∙ ap of_control ks ∙ rw st refl
 
-    module _ {n : ℕ} {all : List ℕ} {tidy : Kept} {side : Side} (lb : length d.bytes ≡ 256) (hn : n ≡ min d.held (256 - c.acc)) (ha : all ≡ bytes_of (take n d.bytes ++ take (length s) (drop 0 s)))
+    module _ {n : ℕ} {all : List ℕ} {tidy : Kept} {side : Side} (lb : length d.bytes ≡ 256) (hn : n ≡ min d.held (256 - c.acc)) (ha : all ≡ bytes_of (take n d.bytes ++ s))
         (ht : tidy ≡ kept_numbers (control_of (kept_in c.phase d.kept))) (hd : side ≡ side_of 1 d.encoder d.decoder tidy (n + length s) all) where
       part-side : side ≡ side_after d (in_control (state_of less (place_here r d) (sofar ++ s)))
       part-side =
@@ -454,12 +456,11 @@ module _ (r : Record) (o : Heeds r) (d : Side) {c : Cells} (ec : c ≡ cells_in 
           let hs : n ≡ held_in r.mode r.acc d.held = held_is hn in
           let few = kept_few in
           let k = sofar ++ s in
-          let ls : take (length s) s ≡ s = take_all (length s) s (omega arith) in
           let ln : length (take n d.bytes) ≡ n = length-take-le n d.bytes (omega arith) in
           let body : take n d.bytes ++ s ≡ k = ap (λ x. take x d.bytes ++ s) hs in
           let lk0 = length-append (take n d.bytes) s in
           let lk : n + length s ≡ length k = sym (ap length (sym body) ∙ lk0 ∙ ap (λ x. x + length s) ln) in
-          let all-is : all ≡ bytes_of k = ha ∙ ap (λ x. bytes_of (take n d.bytes ++ x)) ls ∙ ap bytes_of body in
+          let all-is : all ≡ bytes_of k = ha ∙ ap bytes_of body in
           let tk : take 256 k ≡ k = take_all 256 k (omega arith) in
           let sd = control_side d r.phase less k (sofar_kept r.mode (r.acc - length s) r.due r.ftype (place_here r d) k kept_mode) in
           hd ∙ rw (ht, ph, lk, all-is) (rw tk at sd)
@@ -496,18 +497,20 @@ module _ (r : Record) (d : Side) (want : OneState → Heard) {a : Heard} where
   pub heard_open : Heeds r → a ≡ want (state_here r d) → HeardAs r d want a
   heard_open o q = opened o q
 
-module _ (r : Record) (o : Heeds r) (d : Side) {c : Cells} {kind : ℕ} (ek : kind ≡ r.kind) (ec : c ≡ cells_in r) {n : ℕ} (closed : Closes (record { kind = kind; cells = c }) n) where
-  code_is : n ≡ closes (state_here r d)
-  code_is = let x = closed (place_here r d) (sofar_here r d) in rw (ek, ec) at x
+module _ (r : Record) (o : Heeds r) (d : Side) {c : Cells} {kind : ℕ} (ek : kind ≡ r.kind) (ec : c ≡ cells_in r) {n : Result Unit declared-code.Code} (closed : Closes (record { kind = kind; cells = c }) n) where
+  freed_is : n ≡ freed_or (state_here r d)
+  freed_is = let x = closed (place_here r d) (sofar_here r d) in rw (ek, ec) at x
 
-  pub close_freed : {row : Record} → n ≡ 0 → row ≡ free_record → HeardAs r d (closed_here r d) (heard 0 12 0 0 0 0 0 row d)
-  close_freed z f = opened o (rw f (freed-at (closes (state_here r d)) (sym code_is ∙ z)))
+  pub close_freed : {row : Record} → n ≡ Ok tt → row ≡ free_record → HeardAs r d (closed_here r d) (heard 0 12 0 0 0 0 0 row d)
+  close_freed z f = opened o (rw f (freed-at (closes (state_here r d)) (freed_none (state_here r d) (sym freed_is ∙ z))))
     where
       freed-at : (m : ℕ) → m ≡ 0 → heard 0 12 0 0 0 0 0 free_record d ≡ closed_by r d m
       freed-at m e = unfold closed_by in rw e refl
 
-  pub close_held : {a : Heard} → (n ≡ 0 → ⊥) → a ≡ heard n 0 0 0 0 0 0 r d → HeardAs r d (closed_here r d) a
-  close_held z q = opened o (q ∙ rw code_is (held_at (closes (state_here r d)) (λ e. z (code_is ∙ e))))
+  pub close_held : {code : declared-code.Code} {m : ℕ} {a : Heard} → n ≡ Err code → m ≡ code_number (code_of code) → a ≡ heard m 0 0 0 0 0 0 r d → HeardAs r d (closed_here r d) a
+  close_held {code} {m} z e q =
+      let x : m ≡ closes (state_here r d) = e ∙ sym (freed_code (state_here r d) code (sym freed_is ∙ z)) in
+      opened o (q ∙ held_at m (λ y. (let h = code_high (code_of code) in omega arith)) ∙ ap (closed_by r d) x)
     where
       held_at : (m : ℕ) → (m ≡ 0 → ⊥) → heard m 0 0 0 0 0 0 r d ≡ closed_by r d m
       held_at zero x = absurd (x refl)

@@ -376,3 +376,18 @@ module _ (s : List ℕ) (at : ℕ) (before : OneWay) (c : Cells) (allow : ℕ) (
     listed = λ x. absurd (omega arith);
     leaves = λ x y p k st. left_stands p k st;
   }
+
+  pub control_other : (a.event ≡ FAULT → ⊥) → (a.event ≡ KEPT → ⊥) → Controls (record { event = a.event; start = at + a.start; len = a.len; used = at + a.used; heads = a.heads; payload = 0; stream = control_at a.cells })
+  control_other n m = by a.event refl
+    where
+      by : (e : ℕ) → a.event ≡ e → Controls (record { event = a.event; start = at + a.start; len = a.len; used = at + a.used; heads = a.heads; payload = 0; stream = control_at a.cells })
+      by zero q = control_low (omega arith)
+      by (suc zero) q = control_low (omega arith)
+      by (suc (suc zero)) q = control_low (omega arith)
+      by (suc (suc (suc zero))) q = control_low (omega arith)
+      by (suc (suc (suc (suc zero)))) q = absurd (n q)
+      by (suc (suc (suc (suc (suc zero))))) q = absurd (m q)
+      by (suc (suc (suc (suc (suc (suc k)))))) q =
+          let h : 6 ≤ a.event = omega arith in
+          let six : 6 ≡ a.event = (let u = fed.known in omega arith) in
+          subst (λ x. Controls (record { event = x; start = at + a.start; len = a.len; used = at + a.used; heads = a.heads; payload = 0; stream = control_at a.cells })) six (control_part h)

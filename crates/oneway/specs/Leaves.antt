@@ -17,61 +17,18 @@ use Rattle.frames.specs.Uses.{place_of, Stands, a_place, any_set}
 use Rattle.frames.specs.Heads.{head_state}
 use Rattle.frames.specs.Answers.{mode_state, state_at, state_of, StandsIn, Held}
 use Rattle.frames.specs.Apart.{state_carried}
-use Rattle.record.specs.Kinds.{FREE, UNTYPED, CONTROL, ENCODER, DECODER, SKIPPED, UNSOUND}
+use Rattle.record.specs.Kinds.{UNTYPED, CONTROL, ENCODER, DECODER, SKIPPED}
 use Rattle.record.specs.declared.Record.{Record}
-use Rattle.record.specs.declared.Stream.{Stream}
 use Rattle.record.specs.Row.{phase_of, stated_in, is_stated, length_of, sum_in, numbers_of, place_in, record_from, one_way_record}
-use Rattle.record.specs.Sound.{Fit, cells_in, own_place, Sound, stream, Read, is_free, is_open, is_unsound, Written}
+use Rattle.record.specs.Sound.{Fit, cells_in, own_place, stream, Written}
 use Rattle.record.specs.Tidy.{place_back}
-use Rattle.record.specs.Same.{written_as, sound_read, type_record, encoder_record, decoder_record, skipped_record}
+use Rattle.record.specs.Same.{written_as, type_record, encoder_record, decoder_record, skipped_record}
 use Rattle.oneway.specs.Stands.{one_state_at, OneStands, OneSoundAt, OneShapeAt, StandsAt, cells_of}
 use Rattle.control.specs.declared.Kept.{Kept}
 use Rattle.control.specs.Rules.{control_at, control_of}
 use Rattle.oneway.specs.declared.calls.Side.{Side}
 use Rattle.oneway.specs.Mirror.{kept_numbers, kept_in, sofar_in, bytes_of, held_in, side_of, side_after, bare_side, side_by}
 use Rattle.oneway.specs.Heard.{Heeds, place_here, sofar_here}
-
--- ---- an open one-way stream
-
-module _ (r : Record) (s : Stream) (read : Read r s) where
-  opened_at : UNTYPED ≤ s.kind → s.kind ≤ SKIPPED → Sound r × (s ≡ stream r.kind r.id (cells_in r))
-  opened_at l h = by read
-    where
-      by : Read r s → Sound r × (s ≡ stream r.kind r.id (cells_in r))
-      by (is_free e q) = let z : s.kind ≡ FREE = ap (λ x. x.kind) q in absurd (omega arith)
-      by (is_open t q) = (t, q)
-      by (is_unsound n u q) = let z : s.kind ≡ UNSOUND = ap (λ x. x.kind) q in absurd (omega arith)
-
-  own : Heeds r → s ≡ stream r.kind r.id (cells_in r)
-  own o = sound_read r s o.sound read
-
-  pub heeds_low : s.kind < UNTYPED → Heeds r → ⊥
-  heeds_low l o = let z : s.kind ≡ r.kind = ap (λ x. x.kind) (own o) in omega (arith, o.kind)
-
-  pub heeds_high : SKIPPED < s.kind → Heeds r → ⊥
-  heeds_high l o = let z : s.kind ≡ r.kind = ap (λ x. x.kind) (own o) in omega (arith, o.sound.fit.shaped.known)
-
-  module _ (l : UNTYPED ≤ s.kind) (h : s.kind ≤ SKIPPED) where
-    pub heeds_so : (IN-SETTINGS ≤ s.cells.mode → s.cells.acc ≤ 256) → Heeds r
-    heeds_so room =
-        let x = opened_at l h in
-        let k : s.kind ≡ r.kind = ap (λ y. y.kind) x.1 in
-        let m : s.cells.mode ≡ r.mode = ap (λ y. y.cells.mode) x.1 in
-        let a : s.cells.acc ≡ r.acc = ap (λ y. y.cells.acc) x.1 in
-        record { sound = x.0; kind = omega arith; room = λ e. omega (arith, room (omega arith)) }
-
-    pub heeds_not : IN-SETTINGS ≤ s.cells.mode → 256 < s.cells.acc → Heeds r → ⊥
-    heeds_not e f o =
-        let m : s.cells.mode ≡ r.mode = ap (λ y. y.cells.mode) (own o) in
-        let a : s.cells.acc ≡ r.acc = ap (λ y. y.cells.acc) (own o) in
-        omega (arith, o.room (omega arith))
-
-  -- what is read of it are its own numbers
-  pub own_kind : Heeds r → s.kind ≡ r.kind
-  own_kind o = ap (λ x. x.kind) (own o)
-
-  pub own_cells : Heeds r → s.cells ≡ cells_in r
-  own_cells o = ap (λ x. x.cells) (own o)
 
 -- ---- its numbers are those that only the calls leave
 

@@ -9,6 +9,7 @@ use Rattle.record.specs.Row.{is_stated, length_of, place_in}
 use Rattle.control.specs.declared.Kept.{Kept}
 use Rattle.control.specs.Judged.{push_id}
 use Rattle.control.specs.Rules.{control_of}
+use Rattle.oneway.specs.declared.Seen.{Seen}
 use Rattle.oneway.specs.declared.calls.Side.{Side}
 use Rattle.frames.specs.Modes.{IN-SETTINGS, UNSET}
 
@@ -67,6 +68,10 @@ held_in mode acc held = elim (ltb mode IN-SETTINGS) [ true ↦ 0 | false ↦ min
 
 abbrev pub side_of : (control encoder decoder : ℕ) → Kept → (held : ℕ) → (bytes : List ℕ) → Side
 side_of c e d k h b = record { control = c; encoder = e; decoder = d; kept = k; held = h; bytes = b }
+
+-- which of those that come once have come
+abbrev pub seen_in : Side → Seen
+seen_in d = record { control = d.control; encoder = d.encoder; decoder = d.decoder }
 
 -- no one-way stream has come yet
 abbrev pub fresh_side : Side

@@ -1,45 +1,22 @@
 -- Laws of the numbers beside a one-way stream: a law for each way out of the small functions. Assumes nothing.
-use Rattle.std.specs.Prelude.{◌≡◌, List, [], ◌∷◌, ◌++◌, length, take, drop, get_or, set, replicate}
+use Rattle.std.specs.Prelude.{◌≡◌, List, ◌++◌, length, take, drop, replicate}
 use Rattle.std.proofs.Math.Path.{refl, sym}
-use Rattle.std.proofs.Common.{ap, ◌∙◌, arith, take-suc, take_all, length-take-le, add-one}
-use Prim.Native.Nat.{ℕ, zero, suc, ◌+◌, ◌-◌, ◌≤◌, ◌<◌, min}
-use Rattle.std.proofs.lemmas.List.{length-replicate}
-use Rattle.std.proofs.lemmas.List.Edits.{sets, sets-eq}
-use Rattle.std.proofs.Math.Seq.{length-sets, take-append_seam}
+use Rattle.std.proofs.Common.{ap, ◌∙◌, arith, append_assoc, length-append}
+use Prim.Native.Nat.{ℕ, zero, suc, ◌+◌, ◌-◌, ◌≤◌}
+use Rattle.std.proofs.lemmas.List.{length-replicate, take_at, drop_at}
+use borrow.Rule.Slice.PartMut.{put_mid}
+use Rattle.std.proofs.lemmas.List.Edits.{sets-eq}
+use Rattle.std.proofs.Math.Seq.{length-sets, take-append_seam, drop-drop}
 use borrow.Author.Tests.{eq-eqb, ne_eqb}
-use Rattle.rules.specs.Events.{NOTHING, KEPT-PART, SETTINGS, GOAWAY, MAX-PUSH-ID}
-use Rattle.rules.specs.Reading.{cancel_push}
-use Rattle.record.specs.Kinds.{CONTROL, ENCODER, DECODER}
+use Rattle.rules.specs.Events.{KEPT-PART}
+use Rattle.record.specs.Kinds.{CONTROL}
 use Rattle.record.specs.Row.{is_stated, length_of}
-use Rattle.frames.specs.Modes.{IN-SETTINGS, IN-GOAWAY, IN-MAX-PUSH-ID, UNSET, mode_of}
-use Rattle.frames.specs.Answers.{mode_kept, kept_at}
-use Rattle.oneway.specs.Stands.{qpack_of}
+use Rattle.frames.specs.Modes.{UNSET}
 use Rattle.control.specs.declared.Kept.{Kept}
 use Rattle.control.specs.Judged.{push_id}
 use Rattle.control.specs.Rules.{some_if, control_at, control_of}
 use Rattle.oneway.specs.declared.calls.Side.{Side}
 use Rattle.oneway.specs.Mirror.{nothing_said, kept_numbers, kept_in, bytes_of, side_of, bare_side, side_by, begun_in, flag_of, number_if}
-use Rattle.oneway.specs.Heard.{taken_number, value_in, type_number}
-
--- ---- flags
-
-pub flag_none : (x : ℕ) → x ≡ 0 → 0 ≡ flag_of x
-unfolding flag_of
-flag_none x e = rw e refl
-
-pub flag_some : (x : ℕ) → (x ≡ 0 → ⊥) → 1 ≡ flag_of x
-unfolding flag_of
-flag_some zero n = absurd (n refl)
-flag_some (suc x) n = refl
-
-pub number_none : (h x : ℕ) → h ≡ 0 → 0 ≡ number_if h x
-unfolding number_if
-number_none h x e = rw e refl
-
-pub number_some : (h x : ℕ) → (h ≡ 0 → ⊥) → x ≡ number_if h x
-unfolding number_if
-number_some zero x n = absurd (n refl)
-number_some (suc h) x n = refl
 
 -- ---- what a control stream has said
 
@@ -82,97 +59,9 @@ module _ (k : Kept) where
       → ps ≡ flag_of k.pushes → p ≡ number_if k.pushes k.push.0 → saying 1 l z k.capacity k.blocked gs g ps p ≡ kept_numbers (control_of k)
   tidy_some n a b c d e f = rw (a, b, c, d, e, f) (tidy_at k.set n)
 
--- ---- which payload
-
-pub taken_settings : (which : ℕ) → which ≡ IN-SETTINGS → SETTINGS ≡ taken_number (kept_at which)
-unfolding taken_number mode_kept mode_of
-taken_settings which e = rw e refl
-
-pub taken_goaway : (which : ℕ) → which ≡ IN-GOAWAY → GOAWAY ≡ taken_number (kept_at which)
-unfolding taken_number mode_kept mode_of
-taken_goaway which e = rw e refl
-
-pub taken_push : (which : ℕ) → which ≡ IN-MAX-PUSH-ID → MAX-PUSH-ID ≡ taken_number (kept_at which)
-unfolding taken_number mode_kept mode_of
-taken_push which e = rw e refl
-
-pub kept_other : (which : ℕ) → (which ≡ IN-SETTINGS → ⊥) → (which ≡ IN-GOAWAY → ⊥) → (which ≡ IN-MAX-PUSH-ID → ⊥) → kept_at which ≡ cancel_push
-unfolding mode_kept mode_of
-kept_other zero a b c = refl
-kept_other (suc zero) a b c = refl
-kept_other (suc (suc zero)) a b c = refl
-kept_other (suc (suc (suc zero))) a b c = refl
-kept_other (suc (suc (suc (suc zero)))) a b c = refl
-kept_other (suc (suc (suc (suc (suc zero))))) a b c = refl
-kept_other (suc (suc (suc (suc (suc (suc zero)))))) a b c = refl
-kept_other (suc (suc (suc (suc (suc (suc (suc zero))))))) a b c = refl
-kept_other (suc (suc (suc (suc (suc (suc (suc (suc zero)))))))) a b c = absurd (a refl)
-kept_other (suc (suc (suc (suc (suc (suc (suc (suc (suc zero))))))))) a b c = absurd (b refl)
-kept_other (suc (suc (suc (suc (suc (suc (suc (suc (suc (suc zero)))))))))) a b c = absurd (c refl)
-kept_other (suc (suc (suc (suc (suc (suc (suc (suc (suc (suc (suc n))))))))))) a b c = refl
-
-pub taken_other : (which : ℕ) → (which ≡ IN-SETTINGS → ⊥) → (which ≡ IN-GOAWAY → ⊥) → (which ≡ IN-MAX-PUSH-ID → ⊥) → NOTHING ≡ taken_number (kept_at which)
-unfolding taken_number
-taken_other which a b c = sym (ap taken_number (kept_other which a b c))
-
-module _ (k : Kept) where
-  pub value_goaway : (which : ℕ) → which ≡ IN-GOAWAY → k.goaway.0 ≡ value_in (kept_at which) k
-  unfolding value_in mode_kept mode_of
-  value_goaway which e = rw e refl
-
-  pub value_push : (which : ℕ) → which ≡ IN-MAX-PUSH-ID → k.push.0 ≡ value_in (kept_at which) k
-  unfolding value_in mode_kept mode_of
-  value_push which e = rw e refl
-
-  pub value_other : (which : ℕ) → (which ≡ IN-GOAWAY → ⊥) → (which ≡ IN-MAX-PUSH-ID → ⊥) → 0 ≡ value_in (kept_at which) k
-  unfolding value_in mode_kept mode_of
-  value_other zero a b = refl
-  value_other (suc zero) a b = refl
-  value_other (suc (suc zero)) a b = refl
-  value_other (suc (suc (suc zero))) a b = refl
-  value_other (suc (suc (suc (suc zero)))) a b = refl
-  value_other (suc (suc (suc (suc (suc zero))))) a b = refl
-  value_other (suc (suc (suc (suc (suc (suc zero)))))) a b = refl
-  value_other (suc (suc (suc (suc (suc (suc (suc zero))))))) a b = refl
-  value_other (suc (suc (suc (suc (suc (suc (suc (suc zero)))))))) a b = refl
-  value_other (suc (suc (suc (suc (suc (suc (suc (suc (suc zero))))))))) a b = absurd (a refl)
-  value_other (suc (suc (suc (suc (suc (suc (suc (suc (suc (suc zero)))))))))) a b = absurd (b refl)
-  value_other (suc (suc (suc (suc (suc (suc (suc (suc (suc (suc (suc n))))))))))) a b = refl
-
-pub type_encoder : (kind : ℕ) → kind ≡ ENCODER → 2 ≡ type_number (qpack_of kind)
-unfolding type_number qpack_of
-type_encoder kind e = rw e refl
-
-pub type_decoder : (kind : ℕ) → (kind ≡ ENCODER → ⊥) → 3 ≡ type_number (qpack_of kind)
-unfolding type_number qpack_of
-type_decoder zero n = refl
-type_decoder (suc zero) n = refl
-type_decoder (suc (suc zero)) n = refl
-type_decoder (suc (suc (suc zero))) n = refl
-type_decoder (suc (suc (suc (suc zero)))) n = absurd (n refl)
-type_decoder (suc (suc (suc (suc (suc k))))) n = refl
-
 -- ---- sides
 
 module _ (d : Side) where
-  pub bare_encoder : (kind : ℕ) → kind ≡ ENCODER → side_of d.control 1 d.decoder d.kept d.held d.bytes ≡ bare_side d kind
-  unfolding bare_side
-  bare_encoder kind e = rw e refl
-
-  pub bare_decoder : (kind : ℕ) → kind ≡ DECODER → side_of d.control d.encoder 1 d.kept d.held d.bytes ≡ bare_side d kind
-  unfolding bare_side
-  bare_decoder kind e = rw e refl
-
-  pub bare_other : (kind : ℕ) → (kind ≡ ENCODER → ⊥) → (kind ≡ DECODER → ⊥) → d ≡ bare_side d kind
-  unfolding bare_side
-  bare_other zero a b = refl
-  bare_other (suc zero) a b = refl
-  bare_other (suc (suc zero)) a b = refl
-  bare_other (suc (suc (suc zero))) a b = refl
-  bare_other (suc (suc (suc (suc zero)))) a b = absurd (a refl)
-  bare_other (suc (suc (suc (suc (suc zero))))) a b = absurd (b refl)
-  bare_other (suc (suc (suc (suc (suc (suc n)))))) a b = refl
-
   pub side_control : (kind phase : ℕ) (k : List ℕ) {kept : Kept} {bytes : List ℕ} {n : ℕ} {r : Side} → kind ≡ CONTROL → kept ≡ kept_numbers (control_of (kept_in phase d.kept)) → n ≡ length k → bytes ≡ bytes_of k
       → r ≡ side_of 1 d.encoder d.decoder kept n bytes → r ≡ side_by kind phase d k
   unfolding side_by
@@ -184,35 +73,9 @@ module _ (d : Side) where
 
 -- ---- bytes of a piece
 
-pub begun_all : (event len : ℕ) → event ≡ KEPT-PART → len < 256 → len ≡ begun_in event len
-unfolding begun_in
-begun_all event len e h = let x = eq-eqb event 6 e in let m : min len 256 ≡ len = omega arith in rw (x, begun_in) (sym m)
-
-pub begun_most : (event len : ℕ) → event ≡ KEPT-PART → 256 ≤ len → 256 ≡ begun_in event len
-unfolding begun_in
-begun_most event len e h = let x = eq-eqb event 6 e in let m : min len 256 ≡ 256 = omega arith in rw (x, begun_in) (sym m)
-
 pub begun_none : (event len : ℕ) → (event ≡ KEPT-PART → ⊥) → 0 ≡ begun_in event len
 unfolding begun_in
 begun_none event len n = let x = ne_eqb event 6 n in rw (x, begun_in) refl
-
--- ---- bytes put into a room
-
-pub sets_append : (l : List ℕ) (i : ℕ) (u v : List ℕ) → sets (sets l i u) (i + length u) v ≡ sets l i (u ++ v)
-sets_append l i [] v = let e : i + 0 ≡ i = omega arith in rw e refl
-sets_append l i (a ∷ u) v = let e : i + suc (length u) ≡ suc i + length u = omega arith in rw e (sets_append (set l i a) (suc i) u v)
-
-pub put_next : (room : List ℕ) (to i : ℕ) (w x : List ℕ) → i < length w → x ≡ sets room to (take i w) → set x (to + i) (get_or w i 0) ≡ sets room to (take (i + 1) w)
-put_next room to i w x h e =
-    let l = length-take-le i w (omega arith) in
-    let s = sets_append room to (take i w) (get_or w i 0 ∷ []) in
-    rw (add-one i, take-suc w i 0 h, e) (rw l at s)
-
-pub put_all : (room : List ℕ) (to i : ℕ) (w x : List ℕ) → length w ≤ i → x ≡ sets room to (take i w) → x ≡ sets room to w
-put_all room to i w x h e = e ∙ ap (sets room to) (take_all i w h)
-
-pub two_put : (old : List ℕ) (n : ℕ) (u x y : List ℕ) (zeros : List ℕ) → length (take n old) ≡ n → x ≡ sets zeros 0 (take n old) → y ≡ sets x n u → y ≡ sets zeros 0 (take n old ++ u)
-two_put old n u x y zeros l e f = let s = sets_append zeros 0 (take n old) u in let z : 0 + length (take n old) ≡ n = omega arith in f ∙ rw e (rw z at s)
 
 -- ---- bytes, and then zeros
 
@@ -224,3 +87,19 @@ bytes_back k n e h =
     let z = length-replicate {A = ℕ} 256 0 in
     let s = sets-eq k (replicate 256 0) 0 (omega arith) in
     rw (e, s) (take-append_seam k (drop (0 + length k) (replicate 256 0)))
+
+-- what the copies of two words leave of the room
+pub joined_is : (was word x y : List ℕ) → length was + length word ≤ 256 → x ≡ was → y ≡ word
+    → put_mid (length was) ((length was + length word) - length was) (x ++ drop (length was) (replicate 256 0)) y ≡ bytes_of (was ++ word)
+joined_is was word x y h e f =
+    let z : List ℕ = replicate 256 0 in
+    let n = length was in
+    let k : (n + length word) - n ≡ length word = omega arith in
+    let a = take_at was (drop n z) n refl in
+    let b = drop_at was (drop n z) n refl in
+    let d : drop (length word) (drop n z) ≡ drop (n + length word) z = drop-drop (length word) n z in
+    let l = length-append was word in
+    let r = length-replicate {A = ℕ} 256 0 in
+    let s = sets-eq (was ++ word) z 0 (omega arith) in
+    let o : 0 + (n + length word) ≡ n + length word = omega arith in
+    rw (e, f, k, a, b, d, s, l, o) (sym (append_assoc was word (drop (n + length word) z)))

@@ -1,14 +1,14 @@
 -- A stream's type, read a byte at a time to its end or the piece's. Assumes nothing.
-use Rattle.std.specs.Prelude.{◌≡◌, ℕ, zero, suc, ◌+◌, ◌≤◌, ◌<◌, List, ◌∷◌, length, drop, get_or}
-use Rattle.std.proofs.Common.{sym, ap, ◌∙◌, zero-add, add-one, arith, drop-cons}
+use Rattle.std.specs.Prelude.{◌≡◌, ℕ, suc, ◌+◌, ◌≤◌, ◌<◌, List, [], ◌∷◌, length, drop, get_or, Result, Ok, Err}
+use Rattle.std.proofs.Common.{refl, sym, ap, ◌∙◌, zero-add, add-one, arith, drop-cons}
+use Rattle.std.proofs.Math.ListN.{drop_of_length-le}
 use Rattle.rules.specs.OneWay.{type_rule}
 use Rattle.meaning.specs.Machine.{Prog, Fed, going, value, fed}
 use Rattle.meaning.specs.OneWayFeed.{OneFeeding, also, typed_feed, type_feed}
 use Rattle.varint.specs.declared.Part.{Part}
-use Rattle.varint.specs.declared.Step.{Step}
-use Rattle.varint.specs.declared.Step.TheVariants.{More, Done}
+use Rattle.varint.specs.ByByte.{Step}
+use Rattle.std.specs.declared.ops.ControlFlow.TheVariants.{Continue, Break}
 use Rattle.varint.specs.ByByte.{part, prog, read_as, step_reads, Good, Stepped}
-use Rattle.oneway.specs.declared.TypeEnd.{TypeEnd}
 
 -- so many type bytes before what follows
 unfoldable pub one_past : (bytes : ℕ) → OneFeeding → OneFeeding
@@ -26,16 +26,18 @@ also_is : (f : OneFeeding) → also f ≡ one_past 1 f
 unfolding also one_past
 also_is f = let a : suc f.used ≡ 1 + f.used = omega arith in rw a
 
--- what follows a type of which this was read; whole, unless this is 0
-unfoldable pub type_goes : (seen : List ℕ) (allow whole acc due : ℕ) → (rest : List ℕ) → OneFeeding
-type_goes seen allow zero a d rest = type_feed seen allow (prog d a) rest
-type_goes seen allow (suc w) a d rest = typed_feed allow (type_rule seen a) rest
+-- a type that is whole, and what follows it from `next` on; or what the whole piece leaves of one
+pub record TypeWhole (s : List ℕ) (acc due t next : ℕ) : Type 0 where
+  pub is : (seen : List ℕ) (allow : ℕ) → type_feed seen allow (prog due acc) s ≡ one_past next (typed_feed allow (type_rule seen t) (drop next s))
+  pub within : next ≤ length s
 
-pub record TypeRead (s : List ℕ) (acc due : ℕ) (r : TypeEnd) : Type 0 where
-  pub is : (seen : List ℕ) (allow : ℕ) → type_feed seen allow (prog due acc) s ≡ one_past r.next (type_goes seen allow r.whole r.acc r.due (drop r.next s))
-  pub within : r.next ≤ length s
-  pub ended : r.whole ≡ 0 → r.next ≡ length s
-  pub good : r.whole ≡ 0 → Good (part r.acc r.due)
+pub record TypeCut (s : List ℕ) (acc due : ℕ) (p : Part) : Type 0 where
+  pub is : (seen : List ℕ) (allow : ℕ) → type_feed seen allow (prog due acc) s ≡ one_past (length s) (type_feed seen allow (prog p.due p.acc) [])
+  pub good : Good p
+
+abbrev pub TypeRead : (s : List ℕ) (acc due : ℕ) → Result (ℕ × ℕ) Part → Type 0
+TypeRead s acc due (Ok w) = TypeWhole s acc due w.0 w.1
+TypeRead s acc due (Err p) = TypeCut s acc due p
 
 -- ---- one byte
 
@@ -74,7 +76,7 @@ module _ (s : List ℕ) (acc due i : ℕ) (p : Part) (o : OnType s acc due i p) 
     at_next : (f : List ℕ → OneFeeding) → one_past (i + 1) (f (drop (suc i) s)) ≡ one_past (i + 1) (f (drop (i + 1) s))
     at_next f = ap (λ n. one_past (i + 1) (f (drop n s))) (sym (add-one i))
 
-    pub type_on : {q : Part} → r ≡ More q → OnType s acc due (i + 1) q
+    pub type_on : {q : Part} → r ≡ Continue q → OnType s acc due (i + 1) q
     unfolding read_as
     type_on {q} e =
         let k = rw e at st.good in
@@ -84,15 +86,15 @@ module _ (s : List ℕ) (acc due i : ℕ) (p : Part) (o : OnType s acc due i p) 
           good = k;
         }
 
-    pub type_whole : {t : ℕ} → r ≡ Done t → TypeRead s acc due (record { next = i + 1; whole = 1; acc = t; due = 0 })
-    unfolding read_as type_goes
+    pub type_whole : {t : ℕ} → r ≡ Break t → TypeWhole s acc due t (i + 1)
+    unfolding read_as
     type_whole {t} e = record {
       is = λ seen allow. byte seen allow _ (byte_done seen allow _ _ _ (here (value t) (ap read_as e))) ∙ at_next (λ x. typed_feed allow (type_rule seen t) x);
       within = omega arith;
-      ended = λ z. absurd (omega arith);
-      good = λ z. absurd (omega arith);
     }
 
-  pub type_ends : length s ≤ i → TypeRead s acc due (record { next = i; whole = 0; acc = p.acc; due = p.due })
-  unfolding type_goes
-  type_ends n = record { is = o.is; within = o.within; ended = λ z. (let w = o.within in omega arith); good = λ z. o.good }
+  pub type_ends : length s ≤ i → TypeCut s acc due p
+  type_ends n = record {
+    is = λ seen allow. o.is seen allow ∙ (let w = o.within in let l : i ≡ length s = omega arith in let d : drop i s ≡ [] = drop_of_length-le s {i = i} n in rw (d, l) refl);
+    good = o.good;
+  }

@@ -26,7 +26,3 @@ DECODER = 5
 -- a one-way stream of another type
 abbrev pub SKIPPED : ℕ
 SKIPPED = 6
-
--- of no stream: what such a record is read as
-abbrev pub UNSOUND : ℕ
-UNSOUND = 7

@@ -20,6 +20,8 @@ use Rattle.frames.specs.Answers.{mode_state, state_at, state_of, StandsIn, Sane}
 use Rattle.record.specs.Kinds.{FREE, REQUEST, UNTYPED, CONTROL, ENCODER, DECODER, SKIPPED}
 use Rattle.record.specs.declared.Record.{Record}
 use Rattle.record.specs.declared.Stream.{Stream}
+use Rattle.record.specs.declared.Reading.{Reading}
+use Rattle.record.specs.declared.Reading.TheVariants as reading
 use Rattle.record.specs.Row.{phase_of, stated_in, is_stated, length_of, sum_in, Numbers, numbers_of, place_in, record_at, cells_for, record_from, one_way_record, free_record}
 use Rattle.record.specs.Sound.{Fit, cells_in, own_place, tidied, Sound, stream, Read, is_free, is_open, is_unsound, Written, is_record, is_none}
 use Rattle.record.specs.Tidy.{in_type_numbers, in_length_numbers, due_numbers, payload_numbers, place_back, one_state, Tidier, tidy_less}
@@ -142,7 +144,7 @@ one_written s r q (is_none n e) (is_none m d) = e ∙ sym d
 pub free_unsound : (r : Record) → r ≡ free_record → Sound r → ⊥
 free_unsound r e s = let k : r.kind ≡ FREE = ap (λ x. x.kind) e in omega (arith, s.fit.shaped.opened)
 
-pub one_read : (r : Record) (s t : Stream) → Read r s → Read r t → s ≡ t
+pub one_read : (r : Record) (s t : Reading) → Read r s → Read r t → s ≡ t
 one_read r s t (is_free e p) (is_free f q) = p ∙ sym q
 one_read r s t (is_free e p) (is_open f q) = absurd (free_unsound r e f)
 one_read r s t (is_free e p) (is_unsound n u q) = absurd (n e)
@@ -170,15 +172,16 @@ one_record r q s t a b p p' k k' st su e =
     ∙ ap (record_from q.kind q.id) e ∙ sym (sound_is q t p' k' su)
 
 -- what is read of a sound record are its own numbers
-pub sound_read : (r : Record) (s : Stream) → Sound r → Read r s → s ≡ stream r.kind r.id (cells_in r)
+pub sound_read : (r : Record) (s : Reading) → Sound r → Read r s → s ≡ reading.Open (stream r.kind r.id (cells_in r))
 sound_read r s sound (is_free e q) = absurd (free_unsound r e sound)
 sound_read r s sound (is_open t q) = q
 sound_read r s sound (is_unsound n u q) = absurd (u sound)
 
 -- WHAT IS SOUND IS WRITTEN BACK AS IT WAS READ
-pub read_written : (r q : Record) (s : Stream) → Sound r → Read r s → Written s q → q ≡ r
+pub read_written : (r q : Record) (s : Stream) → Sound r → Read r (reading.Open s) → Written s q → q ≡ r
 read_written r q s sound read written =
-    let e : s ≡ stream r.kind r.id (cells_in r) = sound_read r s sound read in
+    let o : reading.Open s ≡ reading.Open (stream r.kind r.id (cells_in r)) = sound_read r _ sound read in
+    let e : s ≡ stream r.kind r.id (cells_in r) = cc in
     let w : Written (stream r.kind r.id (cells_in r)) q = rw e at written in
     written_as _ q w sound.fit (own_place (cells_in r)) [] a_place ∙ sym sound.own
 
@@ -196,12 +199,14 @@ module _ (s : Stream) (r : Record) (fit : Fit s.kind s.id s.cells) (written : Wr
       })
 
   -- AND IS READ BACK AS THE SAME STREAM, IN THE SAME STATE
-  pub written_read : (t : Stream) → Read r t → t ≡ stream s.kind s.id (tidied s.cells)
-  written_read t read = sound_read r t written_sound read ∙ ap (λ x. stream x.kind x.id (cells_in x)) written_is
+  pub written_read : (t : Reading) → Read r t → t ≡ reading.Open (stream s.kind s.id (tidied s.cells))
+  written_read t read = sound_read r t written_sound read ∙ ap (λ x. reading.Open (stream x.kind x.id (cells_in x))) written_is
 
-  pub same_state : (t : Stream) → Read r t → (p : Place) (k : List ℕ) → StandsIn s.cells p → StandsIn t.cells p × (state_of t.cells p k ≡ state_of s.cells p k)
+  pub same_state : (t : Stream) → Read r (reading.Open t) → (p : Place) (k : List ℕ) → StandsIn s.cells p → StandsIn t.cells p × (state_of t.cells p k ≡ state_of s.cells p k)
   same_state t read p k st =
-      let e : t.cells ≡ tidied s.cells = ap (λ x. x.cells) (written_read t read) in
+      let o : reading.Open t ≡ reading.Open (stream s.kind s.id (tidied s.cells)) = written_read _ read in
+      let e : t ≡ stream s.kind s.id (tidied s.cells) = cc in
+      let e : t.cells ≡ tidied s.cells = ap (λ x. x.cells) e in
       rw e (stands_again s.cells p st, state_again s.cells fit.sane p k)
 
 place_only : {h n s phase : ℕ} {p : Place} → Stands h n s phase p → phase ≤ UNSET → p ≡ place_of phase h n s

@@ -1,19 +1,39 @@
 -- Which records are sound, and what reading and writing answer. Assumes nothing.
-use Rattle.std.specs.Prelude.{◌≡◌, ℕ, ◌%◌, ◌≤◌, ◌<◌, ◌^◌, List, [], Bool, true, false}
+use Rattle.std.specs.Prelude.{◌≡◌, ℕ, ◌%◌, ◌≤◌, ◌<◌, ◌^◌, List, [], Bool, true, false, Option, Some, None}
 use Rattle.frames.specs.Modes.{IN-TYPE, IN-CONTENT, TRAILERS-DUE, IN-SETTINGS, OPENING, TRAILED, UNSET, SET}
 use Rattle.frames.specs.declared.Cells.{Cells}
 use Rattle.frames.specs.Both.{Place}
 use Rattle.frames.specs.Uses.{place_of}
 use Rattle.frames.specs.Answers.{state_of, StandsIn, Sane}
-use Rattle.record.specs.Kinds.{FREE, REQUEST, UNTYPED, CONTROL, ENCODER, SKIPPED, UNSOUND}
+use Rattle.record.specs.Kinds.{REQUEST, UNTYPED, CONTROL, ENCODER, SKIPPED}
 use Rattle.record.specs.declared.Record.{Record}
 use Rattle.record.specs.declared.Stream.{Stream}
-use Rattle.record.specs.Row.{cells_for, record_from, no_cells, free_record}
+use Rattle.record.specs.declared.Reading.{Reading}
+use Rattle.record.specs.declared.Reading.TheVariants as reading
+use Rattle.record.specs.Row.{cells_for, record_from, free_record}
 
 -- a test that says whether this holds
 pub record Decides (holds : Type 0) (r : Bool) : Type 0 where
   pub yes : r ≡ true → holds
   pub no : r ≡ false → holds → ⊥
+
+-- a record's numbers as cells
+abbrev pub cells_in : Record → Cells
+cells_in r = record {
+  mode = r.mode;
+  acc = r.acc;
+  due = r.due;
+  ftype = r.ftype;
+  phase = r.phase;
+  has = r.has;
+  stated = r.stated;
+  sum = r.sum;
+}
+
+-- the cells of a record of which this holds; of another none
+pub data CellsIf (holds : Type 0) (r : Record) (c : Option Cells) : Type 0 where
+  is_so : holds → c ≡ Some (cells_in r) → CellsIf holds r c
+  is_not : (holds → ⊥) → c ≡ None → CellsIf holds r c
 
 -- ---- what numbers an open stream has
 
@@ -39,18 +59,6 @@ pub record Fit (kind id : ℕ) (c : Cells) : Type 0 where
 
 -- ---- a record
 
-abbrev pub cells_in : Record → Cells
-cells_in r = record {
-  mode = r.mode;
-  acc = r.acc;
-  due = r.due;
-  ftype = r.ftype;
-  phase = r.phase;
-  has = r.has;
-  stated = r.stated;
-  sum = r.sum;
-}
-
 -- the place that the numbers say
 abbrev pub own_place : Cells → Place
 own_place c = place_of c.phase c.has c.stated c.sum
@@ -69,17 +77,11 @@ pub record Sound (r : Record) : Type 0 where
 abbrev pub stream : (kind id : ℕ) → Cells → Stream
 stream kind id c = record { kind = kind; id = id; cells = c }
 
-abbrev pub free_stream : Stream
-free_stream = stream FREE 0 no_cells
-
-abbrev pub unsound_stream : Stream
-unsound_stream = stream UNSOUND 0 no_cells
-
 -- WHAT IS READ of any record
-pub data Read (r : Record) (s : Stream) : Type 0 where
-  is_free : r ≡ free_record → s ≡ free_stream → Read r s
-  is_open : Sound r → s ≡ stream r.kind r.id (cells_in r) → Read r s
-  is_unsound : (r ≡ free_record → ⊥) → (Sound r → ⊥) → s ≡ unsound_stream → Read r s
+pub data Read (r : Record) (s : Reading) : Type 0 where
+  is_free : r ≡ free_record → s ≡ reading.Free → Read r s
+  is_open : Sound r → s ≡ reading.Open (stream r.kind r.id (cells_in r)) → Read r s
+  is_unsound : (r ≡ free_record → ⊥) → (Sound r → ⊥) → s ≡ reading.Unsound → Read r s
 
 -- WHAT IS WRITTEN of any stream: the one record of its state, for every state that its cells mean; of what is none, a free record
 pub data Written (s : Stream) (r : Record) : Type 0 where

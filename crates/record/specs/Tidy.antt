@@ -1,5 +1,5 @@
 -- Laws of the cells of a state. Assumes nothing.
-use Rattle.std.specs.Prelude.{◌≡◌, ℕ, zero, suc, ◌-◌, ◌≤◌, ◌<◌, List, []}
+use Rattle.std.specs.Prelude.{◌≡◌, ℕ, zero, suc, ◌+◌, ◌-◌, ◌≤◌, ◌<◌, List, []}
 use Rattle.std.proofs.Math.Path.{refl, ap}
 use Rattle.std.proofs.Common.{sym, ◌∙◌, arith}
 use Rattle.std.proofs.Math.Option.{Option, none, some}
@@ -198,6 +198,13 @@ module _ (c : Cells) {r : Cells} where
 
   pub tidy_due : (x : Part) → c.mode ≡ mode_number (waiting x) → r ≡ head_as c 0 0 0 → r ≡ head_tidied c
   tidy_due x e q = q ∙ ap (by_numbers c) (sym (due_numbers c.acc c.due c.ftype (own_place c) [] x c.mode e))
+
+  pub tidy_waiting : HEADER-SECTION-DUE ≤ c.mode → c.mode ≤ TRAILERS-DUE → r ≡ head_as c 0 0 0 → r ≡ head_tidied c
+  tidy_waiting l h q = by (c.mode - HEADER-SECTION-DUE) (omega arith) where
+    by : (n : ℕ) → c.mode ≡ HEADER-SECTION-DUE + n → r ≡ head_tidied c
+    by zero e = tidy_due header_section (omega arith) q
+    by (suc zero) e = tidy_due trailers (omega arith) q
+    by (suc (suc n)) e = absurd (omega arith)
 
   pub tidy_payload : Sane c → IN-SKIPPED ≤ c.mode → (c.mode ≡ HEADER-SECTION-DUE → ⊥) → (c.mode ≡ TRAILERS-DUE → ⊥) → r ≡ head_as c c.acc 0 0 → r ≡ head_tidied c
   tidy_payload s l x y q = q ∙ sym (payload_cells c.acc c.due c.ftype (own_place c) [] (s.some l x y) c c.mode l x y)

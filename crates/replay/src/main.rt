@@ -1,7 +1,6 @@
 // Drives the calls by the script on standard input. It reads, and prints what `replaying` says.
 #![tactic(auto)]
 
-use input::Input;
 use listing::Text;
 use std::io;
 use std::io::Read;
@@ -28,8 +27,8 @@ fn begin(rt: &impl Print, script: &[u8]) -> io::Result<()> {
 
 fn run(rt: &(impl Print + Eprint), reader: &mut impl Read, room: &mut [u8]) -> io::Result<()> {
     match input::read_all(reader, room) {
-        Input::Bytes(n) => begin(rt, &room[..n]),
-        Input::Failed => eprintln!(rt; "replay: standard input cannot be read"),
+        Ok(n) => begin(rt, &room[..n]),
+        Err(_) => eprintln!(rt; "replay: standard input cannot be read"),
     }
 }
 

@@ -16,8 +16,9 @@ use connection::{Call, Connection, Own, Report};
 use control::Kept;
 use listing::Text;
 use record::Record;
+use rules::codes::House;
 use script::{Line, Verb, Writing};
-use varint::{Whole, Wrote};
+use varint::Whole;
 
 // A longer script is not played.
 const LIMIT: usize = 1048576;
@@ -352,7 +353,7 @@ fn told_goaway(text: &mut Text, pair: Pair, id: u64, buffer: &mut [u8]) -> Pair
 }
 
 // The other writes.
-fn wrote(writing: Writing, a: u64, b: u64, buffer: &mut [u8]) -> Wrote
+fn wrote(writing: Writing, a: u64, b: u64, buffer: &mut [u8]) -> Result<usize, House>
     ensures { Meets (write_of writing a b (length buffer.old)) buffer.old result buffer.new }
 {
     match writing {
@@ -368,8 +369,8 @@ fn written(text: &mut Text, writing: Writing, a: u64, b: u64, buffer: &mut [u8])
     ensures { Adds text.old (write_line (write_of writing a b (length buffer.old)) buffer.old) 221 text.new }
 {
     match wrote(writing, a, b, buffer) {
-        Wrote::Refused(code) => written_line(text, code, 0, buffer),
-        Wrote::Count(count) => written_line(text, 0, count as u64, buffer),
+        Err(refusal) => written_line(text, refusal.number(), 0, buffer),
+        Ok(count) => written_line(text, 0, count as u64, buffer),
     }
 }
 
@@ -402,8 +403,8 @@ fn value(text: &mut Text, bytes: &[u8])
     ensures { Adds text.old (read_line (integer 0 bytes.now)) 54 text.new }
 {
     match varint::read(bytes, 0) {
-        Whole::Short => text.put(b"0 0 0 cut\n"),
-        Whole::Value { value: v, next } => value_line(text, v, next as u64),
+        None => text.put(b"0 0 0 cut\n"),
+        Some(Whole { value: v, next }) => value_line(text, v, next as u64),
     }
 }
 

@@ -10,23 +10,10 @@ use Rattle.frames.specs.Both.{of_request}
 use Rattle.frames.specs.Uses.{place_of, a_place}
 use Rattle.frames.specs.Answers.{StandsIn}
 use Rattle.frames.specs.Apart.{message}
-use Rattle.record.specs.Kinds.{FREE, REQUEST, UNSOUND}
 use Rattle.record.specs.declared.Record.{Record}
-use Rattle.record.specs.declared.Stream.{Stream}
-use Rattle.record.specs.Sound.{cells_in, own_place, Read, is_free, is_open, is_unsound}
+use Rattle.record.specs.Sound.{own_place}
 use Rattle.requests.specs.declared.Reply.{Reply}
 use Rattle.requests.specs.Reply.{Open, refused, Answered, shut, opened, Keeps}
-
-module _ (r : Record) (s : Stream) where
-  pub read_open : Read r s → s.kind ≡ REQUEST → Open r × (s.cells ≡ cells_in r)
-  read_open (is_free e q) k = let z : s.kind ≡ FREE = ap (λ x. x.kind) q in absurd (omega arith)
-  read_open (is_open t q) k = (record { sound = t; kind = sym (ap (λ x. x.kind) q) ∙ k }, ap (λ x. x.cells) q)
-  read_open (is_unsound n u q) k = let z : s.kind ≡ UNSOUND = ap (λ x. x.kind) q in absurd (omega arith)
-
-  pub read_shut : Read r s → (s.kind ≡ REQUEST → ⊥) → Open r → ⊥
-  read_shut (is_free e q) k o = let z : r.kind ≡ FREE = ap (λ x. x.kind) e in let y = o.kind in omega arith
-  read_shut (is_open t q) k o = k (ap (λ x. x.kind) q ∙ o.kind)
-  read_shut (is_unsound n u q) k o = u o.sound
 
 module _ (r : Record) (want : State Message → Reply) {a : Reply} where
   pub keeps_shut : (Open r → ⊥) → a ≡ refused 1 r → Keeps r want a

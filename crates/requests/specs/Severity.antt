@@ -1,6 +1,6 @@
 -- Which numbers free a record: document 01's last table. Assumes nothing.
-use Rattle.std.specs.Prelude.{◌≡◌, refl, ℕ, ◌∷◌, false}
-use Rattle.std.proofs.Common.{sym, ◌∙◌}
+use Rattle.std.specs.Prelude.{◌≡◌, refl, ℕ, zero, suc, ◌+◌, ◌-◌, ◌≤◌, ◌∷◌, false}
+use Rattle.std.proofs.Common.{sym, ◌∙◌, arith}
 use Rattle.rules.specs.Numbers.{REQUEST-REJECTED, REQUEST-CANCELLED, REQUEST-INCOMPLETE, MESSAGE-ERROR, StreamFault, request_rejected, request_cancelled, request_incomplete, message_error, ConnectionFault, of_stream, of_connection, accepted, code_number, number_of, rows, named, house_leaves, leaves}
 use Rattle.meaning.specs.NumberLaws.{name_view, fault_named}
 use Rattle.record.specs.declared.Record.{Record}
@@ -35,17 +35,15 @@ module _ (r : Record) {a : Record} where
   freed : (f : StreamFault) (n : ℕ) → n ≡ code_number (of_stream f) → a ≡ free_record → a ≡ left_by n r
   freed f n e q = rw e (q ∙ sym (stream_frees f r))
 
-  pub freed_rejected : (n : ℕ) → n ≡ REQUEST-REJECTED → a ≡ free_record → a ≡ left_by n r
-  freed_rejected n e q = freed request_rejected n e q
-
-  pub freed_cancelled : (n : ℕ) → n ≡ REQUEST-CANCELLED → a ≡ free_record → a ≡ left_by n r
-  freed_cancelled n e q = freed request_cancelled n e q
-
-  pub freed_incomplete : (n : ℕ) → n ≡ REQUEST-INCOMPLETE → a ≡ free_record → a ≡ left_by n r
-  freed_incomplete n e q = freed request_incomplete n e q
-
-  pub freed_malformed : (n : ℕ) → n ≡ MESSAGE-ERROR → a ≡ free_record → a ≡ left_by n r
-  freed_malformed n e q = freed message_error n e q
+  pub freed_between : (n : ℕ) → REQUEST-REJECTED ≤ n → n ≤ MESSAGE-ERROR → a ≡ free_record → a ≡ left_by n r
+  freed_between n l h q = by (n - REQUEST-REJECTED) (omega arith)
+    where
+      by : (k : ℕ) → n ≡ REQUEST-REJECTED + k → a ≡ left_by n r
+      by zero e = freed request_rejected n (omega arith) q
+      by (suc zero) e = freed request_cancelled n (omega arith) q
+      by (suc (suc zero)) e = freed request_incomplete n (omega arith) q
+      by (suc (suc (suc zero))) e = freed message_error n (omega arith) q
+      by (suc (suc (suc (suc k)))) e = absurd (omega arith)
 
 -- ANY OTHER NUMBER LEAVES IT AS IT WAS
 pub left_alone : (r : Record) (n : ℕ) → NoStreamFault n → r ≡ left_by n r

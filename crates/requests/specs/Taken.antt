@@ -13,13 +13,13 @@ use Rattle.rules.specs.Request as request
 use Rattle.meaning.specs.Machine.{between}
 use Rattle.varint.specs.ByByte.{prog, fresh_good}
 use Rattle.rules.specs.Section.{code_of as section-code}
-use Rattle.section.specs.declared.Stated.{Stated}
-use Rattle.section.specs.declared.HeaderAnswer.{HeaderAnswer}
-use Rattle.section.specs.declared.HeaderAnswer.TheVariants as header
-use Rattle.section.specs.declared.TrailerAnswer.{TrailerAnswer}
-use Rattle.section.specs.declared.TrailerAnswer.TheVariants as trailer
-use Rattle.section.specs.Checks.{reason_at}
-use Rattle.section.specs.Answer.{header_answer, trailer_answer, read_stated}
+use Rattle.std.specs.Prelude.{Ok, Err}
+use Rattle.rules.specs.declared.reasons.Reason.{Reason}
+use Rattle.rules.specs.declared.codes.Code.{Code}
+use Rattle.rules.specs.Named.{reason_of, code_named, number_named, code_of as named_code}
+use Rattle.section.specs.declared.Fault.TheVariants as fault
+use Rattle.section.specs.declared.Sound.{Sound}
+use Rattle.section.specs.Answer.{HeaderAnswer, TrailerAnswer, header_answer, trailer_answer, read_stated}
 use Rattle.section.specs.Request.{as_header, as_trailer, header_of, trailer_of, header_is, trailer_is, stated_within}
 use Rattle.frames.specs.Modes.{IN-TYPE, HEADER-SECTION-DUE, TRAILERS-DUE, OPENING, BODY, TRAILED, mode_of}
 use Rattle.frames.specs.declared.Cells.{Cells}
@@ -103,22 +103,22 @@ module _ (c : Cells) (block : List ℕ) (a : HeaderAnswer) (met : a ≡ header_a
   header_as : {b : HeaderAnswer} → a ≡ b → headed_as c (as_header b) ≡ headed_as c (header_of (lines block))
   header_as e = ap (λ x. headed_as c (as_header x)) (sym e ∙ met) ∙ ap (headed_as c) (header_is (lines block))
 
-  pub header_unread : a ≡ header.Unreadable → Headed (answer UNREADABLE c)
+  pub header_unread : a ≡ Err fault.Unreadable → Headed (answer UNREADABLE c)
   unfolding headed_as as_header
   header_unread e = header_as e
 
-  pub header_refused : {k n : ℕ} → a ≡ header.Refused k → n ≡ code_number (section-code (reason_at k)) → Headed (answer n c)
+  pub header_refused : {r : Reason} {code : Code} {n : ℕ} → a ≡ Err (fault.Refused r) → code ≡ code_named (section-code (reason_of r)) → n ≡ code_number (named_code code) → Headed (answer n c)
   unfolding headed_as as_header
-  header_refused e f = ap (λ n. answer n c) f ∙ header_as e
+  header_refused {r} e f g = ap (λ n. answer n c) (number_named (section-code (reason_of r)) f g) ∙ header_as e
 
-  module _ {method end : ℕ} {s : Stated} (e : a ≡ header.Sound method end s) where
-    pub header_taken : {next : Cells} → c.phase ≡ OPENING → next ≡ body_cells (read_stated s) → Headed (answer ACCEPTED next)
+  module _ {s : Sound} (e : a ≡ Ok s) where
+    pub header_taken : {next : Cells} → c.phase ≡ OPENING → next ≡ body_cells (read_stated s.stated) → Headed (answer ACCEPTED next)
     unfolding headed_as as_header
-    header_taken f g = ap (answer ACCEPTED) g ∙ in_place_lem c (body_cells (read_stated s)) (eqb c.phase OPENING) (eq-eqb c.phase OPENING f) ∙ header_as e
+    header_taken f g = ap (answer ACCEPTED) g ∙ in_place_lem c (body_cells (read_stated s.stated)) (eqb c.phase OPENING) (eq-eqb c.phase OPENING f) ∙ header_as e
 
     pub header_late : (c.phase ≡ OPENING → ⊥) → Headed (answer FRAME-UNEXPECTED c)
     unfolding headed_as as_header
-    header_late f = out_of_place c (body_cells (read_stated s)) (eqb c.phase OPENING) (ne_eqb c.phase OPENING f) ∙ header_as e
+    header_late f = out_of_place c (body_cells (read_stated s.stated)) (eqb c.phase OPENING) (ne_eqb c.phase OPENING f) ∙ header_as e
 
 module _ (c : Cells) (block : List ℕ) (a : TrailerAnswer) (met : a ≡ trailer_answer (lines block)) where
   abbrev Trailed : Given → Type 0
@@ -127,15 +127,15 @@ module _ (c : Cells) (block : List ℕ) (a : TrailerAnswer) (met : a ≡ trailer
   trailer_as : {b : TrailerAnswer} → a ≡ b → trailed_as c (as_trailer b) ≡ trailed_as c (trailer_of (lines block))
   trailer_as e = ap (λ x. trailed_as c (as_trailer x)) (sym e ∙ met) ∙ ap (trailed_as c) (trailer_is (lines block))
 
-  pub trailer_unread : a ≡ trailer.Unreadable → Trailed (answer UNREADABLE c)
+  pub trailer_unread : a ≡ Err fault.Unreadable → Trailed (answer UNREADABLE c)
   unfolding trailed_as as_trailer
   trailer_unread e = trailer_as e
 
-  pub trailer_refused : {k n : ℕ} → a ≡ trailer.Refused k → n ≡ code_number (section-code (reason_at k)) → Trailed (answer n c)
+  pub trailer_refused : {r : Reason} {code : Code} {n : ℕ} → a ≡ Err (fault.Refused r) → code ≡ code_named (section-code (reason_of r)) → n ≡ code_number (named_code code) → Trailed (answer n c)
   unfolding trailed_as as_trailer
-  trailer_refused e f = ap (λ n. answer n c) f ∙ trailer_as e
+  trailer_refused {r} e f g = ap (λ n. answer n c) (number_named (section-code (reason_of r)) f g) ∙ trailer_as e
 
-  module _ (e : a ≡ trailer.Sound) where
+  module _ (e : a ≡ Ok tt) where
     pub trailer_taken : {next : Cells} → c.phase ≡ BODY → next ≡ trailed_cells c → Trailed (answer ACCEPTED next)
     unfolding trailed_as as_trailer
     trailer_taken f g = ap (answer ACCEPTED) g ∙ in_place_lem c (trailed_cells c) (eqb c.phase BODY) (eq-eqb c.phase BODY f) ∙ trailer_as e

@@ -6,7 +6,7 @@ ghost use Rattle.section.specs.Request.{header_of, trailer_of};
 ghost use Rattle.requests.specs.Taken.{cells_at, body_cells, headed_as, trailed_as, given_of};
 
 use frames::Cells;
-use section::{HeaderAnswer, Stated, TrailerAnswer};
+use section::Fault;
 
 // The number, and where the stream is then.
 #[repr(C)]
@@ -32,12 +32,12 @@ fn cells_at(phase: u64, has: u64, stated: u64, sum: u64) -> Cells
     }
 }
 
-fn body_cells(stated: Stated) -> Cells
+fn body_cells(stated: Option<u64>) -> Cells
     ensures { result ≡ body_cells (read_stated stated) }
 {
     match stated {
-        Stated::Nothing => cells_at(frames::BODY, 0, 0, 0),
-        Stated::Length(n) => cells_at(frames::BODY, 1, n, 0),
+        None => cells_at(frames::BODY, 0, 0, 0),
+        Some(n) => cells_at(frames::BODY, 1, n, 0),
     }
 }
 
@@ -45,23 +45,19 @@ fn give_header(c: Cells, block: &[u8]) -> Given
     ensures { result ≡ headed_as c (header_of (lines block.now)) }
 {
     match section::header_section(block) {
-        HeaderAnswer::Unreadable => Given {
+        Err(Fault::Unreadable) => Given {
             number: rules::UNREADABLE,
             cells: c,
         },
-        HeaderAnswer::Refused(reason) => Given {
-            number: section::code(reason),
+        Err(Fault::Refused(reason)) => Given {
+            number: section::code(reason).number(),
             cells: c,
         },
-        HeaderAnswer::Sound {
-            method: _,
-            end: _,
-            stated,
-        } => {
+        Ok(sound) => {
             if c.phase == frames::OPENING {
                 Given {
                     number: rules::ACCEPTED,
-                    cells: body_cells(stated),
+                    cells: body_cells(sound.stated),
                 }
             } else {
                 Given {
@@ -77,15 +73,15 @@ fn give_trailers(c: Cells, block: &[u8]) -> Given
     ensures { result ≡ trailed_as c (trailer_of (lines block.now)) }
 {
     match section::trailers(block) {
-        TrailerAnswer::Unreadable => Given {
+        Err(Fault::Unreadable) => Given {
             number: rules::UNREADABLE,
             cells: c,
         },
-        TrailerAnswer::Refused(reason) => Given {
-            number: section::code(reason),
+        Err(Fault::Refused(reason)) => Given {
+            number: section::code(reason).number(),
             cells: c,
         },
-        TrailerAnswer::Sound => {
+        Ok(()) => {
             if c.phase == frames::BODY {
                 Given {
                     number: rules::ACCEPTED,

@@ -6,12 +6,12 @@ pub mod given;
 ghost use Rattle.std.specs.Prelude.{◌≡◌};
 ghost use Rattle.rules.specs.Numbers.{ACCEPTED};
 ghost use Rattle.record.specs.Kinds.{REQUEST};
-ghost use Rattle.record.specs.Sound.{Fit, cells_in, stream, Written};
+ghost use Rattle.record.specs.Sound.{Fit, CellsIf, cells_in, stream, Written};
 ghost use Rattle.record.specs.Body.{content_in};
-ghost use Rattle.requests.specs.Reply.{reply, left_by, fed_as, given_as, ended_as, reset_as, Answered, Keeps};
+ghost use Rattle.requests.specs.Reply.{Open, reply, refused, left_by, fed_as, given_as, ended_as, reset_as, Answered, Keeps};
 
 use frames::Cells;
-use record::{Record, Stream};
+use record::{Reading, Record, Stream};
 
 // number 0: accepted; 1: not an open request; 4, 5, 6; else the code. event 0: none, 1: content, 2: section bytes, 3: the last of them,
 // 11: the request is whole, 12: freed. A part is len bytes of the piece from start on. used and heads: bytes and frame headers of the piece.
@@ -30,23 +30,17 @@ pub struct Reply {
 fn left(number: u64, r: Record) -> Record
     ensures { result ≡ left_by number r }
 {
-    if number == rules::REQUEST_REJECTED {
-        return record::free();
+    match number {
+        rules::REQUEST_REJECTED
+        | rules::REQUEST_CANCELLED
+        | rules::REQUEST_INCOMPLETE
+        | rules::MESSAGE_ERROR => record::free(),
+        _ => r,
     }
-    if number == rules::REQUEST_CANCELLED {
-        return record::free();
-    }
-    if number == rules::REQUEST_INCOMPLETE {
-        return record::free();
-    }
-    if number == rules::MESSAGE_ERROR {
-        return record::free();
-    }
-    r
 }
 
-fn told(number: u64, event: u64, r: Record) -> Reply
-    ensures { result ≡ reply number event 0 0 0 0 r }
+fn told(number: u64, event: u64, row: Record) -> Reply
+    ensures { result ≡ reply number event 0 0 0 0 row }
 {
     Reply {
         number,
@@ -55,7 +49,24 @@ fn told(number: u64, event: u64, r: Record) -> Reply
         len: 0,
         used: 0,
         heads: 0,
-        row: r,
+        row,
+    }
+}
+
+// A refusal, and what it leaves of the record.
+fn refused(number: u64, r: Record) -> Reply
+    ensures { result ≡ refused number (left_by number r) }
+{
+    told(number, rules::NOTHING, left(number, r))
+}
+
+// Where a request is, of an open request's record.
+fn opened(r: Record) -> Option<Cells>
+    ensures { CellsIf (Open r) r result }
+{
+    match record::read(r) {
+        Reading::Open(s) if s.kind == record::REQUEST => Some(s.cells),
+        _ => None,
     }
 }
 
@@ -75,11 +86,9 @@ fn kept(id: u64, cells: Cells) -> Record
 pub fn reset(r: Record) -> Reply
     ensures { Answered r (reset_as r) result }
 {
-    let s = record::read(r);
-    if s.kind == record::REQUEST {
-        told(rules::ACCEPTED, rules::FREED, record::free())
-    } else {
-        told(rules::NOT_OPEN, rules::NOTHING, r)
+    match opened(r) {
+        Some(_) => told(rules::ACCEPTED, rules::FREED, record::free()),
+        None => told(rules::NOT_OPEN, rules::NOTHING, r),
     }
 }
 
@@ -87,17 +96,12 @@ pub fn reset(r: Record) -> Reply
 pub fn end(r: Record) -> Reply
     ensures { Answered r (ended_as r) result }
 {
-    let s = record::read(r);
-    if s.kind == record::REQUEST {
-        let c = s.cells;
-        let n = frames::end(c);
-        if n == rules::ACCEPTED {
-            told(rules::ACCEPTED, rules::WHOLE, record::free())
-        } else {
-            told(n, rules::NOTHING, left(n, r))
-        }
-    } else {
-        told(rules::NOT_OPEN, rules::NOTHING, r)
+    let Some(c) = opened(r) else {
+        return told(rules::NOT_OPEN, rules::NOTHING, r);
+    };
+    match frames::end(c) {
+        rules::ACCEPTED => told(rules::ACCEPTED, rules::WHOLE, record::free()),
+        number => refused(number, r),
     }
 }
 
@@ -105,63 +109,34 @@ pub fn end(r: Record) -> Reply
 pub fn feed(r: Record, piece: &[u8], allow: u64) -> Reply
     ensures { Keeps r (fed_as r allow piece.now) result }
 {
-    let s = record::read(r);
-    if s.kind == record::REQUEST {
-        let c = s.cells;
-        if c.mode == frames::HEADER_SECTION_DUE {
-            return told(rules::SECTION_DUE, rules::NOTHING, r);
-        }
-        if c.mode == frames::TRAILERS_DUE {
-            return told(rules::SECTION_DUE, rules::NOTHING, r);
-        }
-        let a = frames::feed(piece, c, allow);
-        if a.event == rules::FAULT {
-            return Reply {
-                number: a.len,
-                event: rules::NOTHING,
-                start: 0,
-                len: 0,
-                used: a.used,
-                heads: a.heads,
-                row: left(a.len, r),
-            };
-        }
-        let d = a.cells;
-        let q = kept(r.id, d);
-        if a.event == rules::NOTHING {
-            return Reply {
-                number: rules::ACCEPTED,
-                event: rules::NOTHING,
-                start: 0,
-                len: 0,
-                used: a.used,
-                heads: a.heads,
-                row: q,
-            };
-        }
-        // No payload of a request is kept, so no event above 4 comes.
-        if rules::FAULT < a.event {
-            return Reply {
-                number: rules::ACCEPTED,
-                event: rules::NOTHING,
-                start: 0,
-                len: 0,
-                used: a.used,
-                heads: a.heads,
-                row: q,
-            };
-        }
-        Reply {
-            number: rules::ACCEPTED,
-            event: a.event,
-            start: a.start,
-            len: a.len,
+    let Some(c) = opened(r) else {
+        return told(rules::NOT_OPEN, rules::NOTHING, r);
+    };
+    if c.mode == frames::HEADER_SECTION_DUE || c.mode == frames::TRAILERS_DUE {
+        return told(rules::SECTION_DUE, rules::NOTHING, r);
+    }
+    let a = frames::feed(piece, c, allow);
+    if a.event == rules::FAULT {
+        return Reply {
             used: a.used,
             heads: a.heads,
-            row: q,
-        }
-    } else {
-        told(rules::NOT_OPEN, rules::NOTHING, r)
+            ..refused(a.len, r)
+        };
+    }
+    let fed = Reply {
+        used: a.used,
+        heads: a.heads,
+        ..told(rules::ACCEPTED, rules::NOTHING, kept(r.id, a.cells))
+    };
+    // No payload of a request is kept, so no event above 4 comes.
+    if a.event == rules::NOTHING || rules::FAULT < a.event {
+        return fed;
+    }
+    Reply {
+        event: a.event,
+        start: a.start,
+        len: a.len,
+        ..fed
     }
 }
 
@@ -170,10 +145,8 @@ pub fn brisk(r: Record, piece: &[u8], allow: u64) -> Reply
     ensures { result.number ≡ ACCEPTED → Keeps r (fed_as r allow piece.now) result × (result.row ≡ content_in r (cells_in result.row)) }
 {
     if record::in_body(r) {
-        let c = record::cells_in(r);
-        let b = frames::brisk(piece, c, allow);
+        let b = frames::brisk(piece, record::cells_in(r), allow);
         if b.event == rules::CONTENT {
-            let d = b.cells;
             return Reply {
                 number: rules::ACCEPTED,
                 event: b.event,
@@ -181,7 +154,7 @@ pub fn brisk(r: Record, piece: &[u8], allow: u64) -> Reply
                 len: b.len,
                 used: b.used,
                 heads: b.heads,
-                row: record::in_content(r, d),
+                row: record::in_content(r, b.cells),
             };
         }
     }
@@ -192,18 +165,13 @@ pub fn brisk(r: Record, piece: &[u8], allow: u64) -> Reply
 pub fn give(r: Record, block: &[u8]) -> Reply
     ensures { Keeps r (given_as r block.now) result }
 {
-    let s = record::read(r);
-    if s.kind == record::REQUEST {
-        let c = s.cells;
-        let g = given::give(c, block);
-        if g.number == rules::ACCEPTED {
-            let d = g.cells;
-            told(rules::ACCEPTED, rules::NOTHING, kept(r.id, d))
-        } else {
-            let n = g.number;
-            told(n, rules::NOTHING, left(n, r))
-        }
+    let Some(c) = opened(r) else {
+        return told(rules::NOT_OPEN, rules::NOTHING, r);
+    };
+    let g = given::give(c, block);
+    if g.number == rules::ACCEPTED {
+        told(rules::ACCEPTED, rules::NOTHING, kept(r.id, g.cells))
     } else {
-        told(rules::NOT_OPEN, rules::NOTHING, r)
+        refused(g.number, r)
     }
 }

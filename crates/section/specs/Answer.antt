@@ -5,15 +5,13 @@ use Rattle.std.proofs.Common.{inl, inr}
 use Rattle.rules.specs.Text.{ascii}
 use Rattle.rules.specs.Numbers.{ACCEPTED, UNREADABLE, code_number, of_stream, request_rejected, message_error}
 use Rattle.rules.specs.Block.{Line, Section, Lines, unreadable, readable}
-use Rattle.rules.specs.Section.{Reason, reason_number, Judgement, refused, sound, Head, named, header_section, trailers, Fate, malformed, unserved, fate_of, fate_code, code_of}
-use Rattle.section.specs.declared.Stated.{Stated}
-use Rattle.section.specs.declared.Stated.TheVariants as stated
-use Rattle.section.specs.declared.HeaderAnswer.{HeaderAnswer}
-use Rattle.section.specs.declared.HeaderAnswer.TheVariants as header
-use Rattle.section.specs.declared.TrailerAnswer.{TrailerAnswer}
-use Rattle.section.specs.declared.TrailerAnswer.TheVariants as trailer
+use Rattle.rules.specs.Section.{Reason, Judgement, refused, sound, Head, named, header_section, trailers, Fate, malformed, unserved, fate_of, fate_code, code_of}
+use Rattle.rules.specs.Named.{reason_of, reason_named}
+use Rattle.std.specs.Prelude.{Option as Maybe, Some, None, Result, Ok, Err}
+use Rattle.section.specs.declared.Sound.{Sound}
+use Rattle.section.specs.declared.Fault.{Fault}
+use Rattle.section.specs.declared.Fault.TheVariants as fault
 use Rattle.section.specs.Finding.{first, from_of, to_of}
-use Rattle.section.specs.Checks.{reason_at}
 
 -- the two names whose values a sound header section reports
 abbrev pub method_name : List ℕ
@@ -26,36 +24,41 @@ length_name = ascii "content-length"
 unfoldable pub method_line : Section → Option Line
 method_line s = first (named method_name) s
 
--- ---- the answer: the reason's number; or where in the block the method begins and ends, and the length that is stated
+-- ---- the answer: the reason's name; or where in the block the method begins and ends, and the length that is stated
 
-unfoldable pub stated_of : Option ℕ → Stated
-stated_of none = stated.Nothing
-stated_of (some n) = stated.Length n
+abbrev pub HeaderAnswer : Type 0
+HeaderAnswer = Result Sound Fault
+
+abbrev pub TrailerAnswer : Type 0
+TrailerAnswer = Result (Unit {0}) Fault
+
+abbrev pub stated_of : Option ℕ → Maybe ℕ
+stated_of none = None
+stated_of (some n) = Some n
 
 unfoldable pub header_answer_by : Section → Judgement Head → HeaderAnswer
-header_answer_by s (refused r) = header.Refused (reason_number r)
-header_answer_by s (sound h) = header.Sound (from_of (method_line s)) (to_of (method_line s)) (stated_of h.stated)
+header_answer_by s (refused r) = Err (fault.Refused (reason_named r))
+header_answer_by s (sound h) = Ok (record { method = from_of (method_line s); end = to_of (method_line s); stated = stated_of h.stated })
 
 unfoldable pub header_answer : Lines → HeaderAnswer
-header_answer (unreadable f) = header.Unreadable
+header_answer (unreadable f) = Err fault.Unreadable
 header_answer (readable s) = header_answer_by s (header_section s)
 
 unfoldable pub trailer_answer_by : Judgement (Unit {0}) → TrailerAnswer
-trailer_answer_by (refused r) = trailer.Refused (reason_number r)
-trailer_answer_by (sound u) = trailer.Sound
+trailer_answer_by (refused r) = Err (fault.Refused (reason_named r))
+trailer_answer_by (sound u) = Ok tt
 
 unfoldable pub trailer_answer : Lines → TrailerAnswer
-trailer_answer (unreadable f) = trailer.Unreadable
+trailer_answer (unreadable f) = Err fault.Unreadable
 trailer_answer (readable s) = trailer_answer_by (trailers s)
 
 -- ---- what an answer says
 
-unfoldable pub read_stated : Stated → Option ℕ
-read_stated stated.Nothing = none
-read_stated (stated.Length n) = some n
+abbrev pub read_stated : Maybe ℕ → Option ℕ
+read_stated None = none
+read_stated (Some n) = some n
 
 pub stated_read : (o : Option ℕ) → read_stated (stated_of o) ≡ o
-unfolding read_stated stated_of
 stated_read none = refl
 stated_read (some n) = refl
 
@@ -66,14 +69,14 @@ judged_number (refused r) = code_number (code_of r)
 judged_number (sound a) = ACCEPTED
 
 unfoldable pub header_number : HeaderAnswer → ℕ
-header_number header.Unreadable = UNREADABLE
-header_number (header.Refused n) = code_number (code_of (reason_at n))
-header_number (header.Sound method end s) = ACCEPTED
+header_number (Err fault.Unreadable) = UNREADABLE
+header_number (Err (fault.Refused r)) = code_number (code_of (reason_of r))
+header_number (Ok s) = ACCEPTED
 
 unfoldable pub trailer_number : TrailerAnswer → ℕ
-trailer_number trailer.Unreadable = UNREADABLE
-trailer_number (trailer.Refused n) = code_number (code_of (reason_at n))
-trailer_number trailer.Sound = ACCEPTED
+trailer_number (Err fault.Unreadable) = UNREADABLE
+trailer_number (Err (fault.Refused r)) = code_number (code_of (reason_of r))
+trailer_number (Ok u) = ACCEPTED
 
 -- ---- a section's code is one of two
 

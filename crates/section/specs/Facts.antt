@@ -10,15 +10,18 @@ use Rattle.std.proofs.Math.ListN.{length}
 use Rattle.rules.specs.Text.{ascii, any, all, same}
 use Rattle.rules.specs.Integers.{largest}
 use Rattle.rules.specs.Classes.{is_token, is_digit}
-use Rattle.rules.specs.Block.{Line, Section, lines}
-use Rattle.rules.specs.Section as rules
-use Rattle.rules.specs.Section.{reason_number as at, is_empty, begins, named, line_with, has, repeated, value_of, method_of, decimal, decimal_from, pseudo_fields, connection_fields, is_pseudo, line_size, size, bad_name, is_bad_value, pseudo_behind_plain, bytes_check, unknown_check, repeated_check, late_check, connection_check, te_check, method_check, repeated_length_check, digits_check, length_above_check, repeated_host_check}
+use Rattle.rules.specs.Block.{Line, Section}
+use Rattle.rules.specs.Section.{is_empty, begins, named, line_with, has, repeated, value_of, method_of, decimal, decimal_from, pseudo_fields, connection_fields, is_pseudo, line_size, size, bad_name, is_bad_value, pseudo_behind_plain, bytes_check, unknown_check, repeated_check, late_check, connection_check, te_check, method_check, repeated_length_check, digits_check, length_above_check, repeated_host_check}
 use Rattle.fields.specs.Bytes.{bad_name_bytes, bad_value_bytes}
 use Rattle.fields.specs.Decimal.{capped, past, capped_plus}
-use Rattle.fields.specs.Walk.{held, is_readable}
+use Rattle.rules.specs.Block.{Lines, unreadable, readable}
+use Rattle.rules.specs.declared.reasons.Reason.{Reason}
+use Rattle.rules.specs.declared.reasons.Reason.TheVariants as reason
+use Rattle.std.specs.Prelude.{Option as Maybe, None, Result, Ok, Err}
+use Rattle.section.specs.declared.Fault.{Fault}
+use Rattle.section.specs.declared.Fault.TheVariants as fault
 use Rattle.section.specs.declared.Facts.{Facts}
-use Rattle.section.specs.declared.Walked.{Walked}
-use Rattle.section.specs.Checks.{unbroken, lowest, lower_of, put, push}
+use Rattle.section.specs.Checks.{checks, told, lowest, found, number_of, lower_of, put, push}
 use Rattle.section.specs.Names.{method, scheme, authority, path, host, content_length, te, connection, unknown, plain, by_kind, pseudo_name, name_at, is_one_name, name_of, ten, text_told, connection_told, pseudo_told, unknown_told}
 use Rattle.section.specs.Finding.{first, value_from, value_to, from_of, to_of}
 
@@ -58,17 +61,17 @@ abbrev pub value_in : Option Line → List ℕ
 value_in none = []
 value_in (some l) = l.value
 
-abbrev facts : (size first : ℕ) (pseudo plain : Bool) (stated : ℕ) (from to : List ℕ) → Facts
+abbrev facts : (size : ℕ) (first : Maybe Reason) (pseudo plain : Bool) (stated : ℕ) (from to : List ℕ) → Facts
 facts z n p q d a b = record { size = z; first = n; pseudo = p; plain = q; stated = d; from = a; to = b }
 
 unfoldable pub facts_of : Section → Facts
 facts_of s =
-    facts (capped (size s)) (lowest (row_of s)) (any is_pseudo s) (any is_plain s) (capped (decimal (value_at s content_length)))
+    facts (capped (size s)) (found (lowest (row_of s))) (any is_pseudo s) (any is_plain s) (capped (decimal (value_at s content_length)))
     (map (from_in s) kept_names)
     (map (to_in s) kept_names)
 
 unfoldable pub no_facts : Facts
-no_facts = facts 0 unbroken false false 0 (0 ∷ 0 ∷ 0 ∷ 0 ∷ 0 ∷ 0 ∷ []) (0 ∷ 0 ∷ 0 ∷ 0 ∷ 0 ∷ 0 ∷ [])
+no_facts = facts 0 None false false 0 (0 ∷ 0 ∷ 0 ∷ 0 ∷ 0 ∷ 0 ∷ []) (0 ∷ 0 ∷ 0 ∷ 0 ∷ 0 ∷ 0 ∷ [])
 
 -- ---- one line more, by what its name is
 
@@ -97,32 +100,32 @@ is_no_digits v = is_empty v || not (all is_digit v)
 abbrev pub is_other_te : List ℕ → Bool
 is_other_te v = not (same v (ascii "trailers"))
 
-abbrev known_first : Facts → (k : ℕ) → ℕ
-known_first f k = lower_of (lower_of f.first (at rules.repeated_pseudo) (there_at f k)) (at rules.late_pseudo) f.plain
+abbrev known_first : Facts → (k : ℕ) → Maybe Reason
+known_first f k = lower_of (lower_of f.first reason.RepeatedPseudo (there_at f k)) reason.LatePseudo f.plain
 
 -- a request pseudo-field
 unfoldable pub known_by : (k : ℕ) → Facts → (from to : ℕ) → Facts
 known_by k f a b = facts f.size (known_first f k) true f.plain f.stated (from_with f k a) (to_with f k b)
 
 -- another field
-unfoldable pub plain_by : Facts → (first : ℕ) → Facts
+unfoldable pub plain_by : Facts → (first : Maybe Reason) → Facts
 plain_by f n = facts f.size n f.pseudo true f.stated f.from f.to
 
 unfoldable pub note_by : (k : ℕ) → Facts → (value : List ℕ) (from to : ℕ) → Facts
 note_by k f v a b =
     cond (eqb k method)
-    (facts f.size (lower_of (known_first f method) (at rules.bad_method) (is_bad_method v)) true f.plain f.stated (from_with f method a) (to_with f method b))
+    (facts f.size (lower_of (known_first f method) reason.BadMethod (is_bad_method v)) true f.plain f.stated (from_with f method a) (to_with f method b))
     (cond (ltb k host) (known_by k f a b)
     (cond (eqb k host)
-    (facts f.size (lower_of f.first (at rules.repeated_host) (there_at f host)) f.pseudo true f.stated (from_with f host a) (to_with f host b))
+    (facts f.size (lower_of f.first reason.RepeatedHost (there_at f host)) f.pseudo true f.stated (from_with f host a) (to_with f host b))
     (cond (eqb k content_length)
     (facts f.size
-    (lower_of (lower_of (lower_of f.first (at rules.repeated_length) (there_at f content_length)) (at rules.no_digits) (is_no_digits v)) (at rules.length_above) (ltb largest (capped (decimal v))))
+    (lower_of (lower_of (lower_of f.first reason.RepeatedLength (there_at f content_length)) reason.NoDigits (is_no_digits v)) reason.LengthAbove (ltb largest (capped (decimal v))))
     f.pseudo true (kept_of (get_or f.to content_length 0) f.stated (capped (decimal v))) (from_with f content_length a) (to_with f content_length b))
-    (cond (eqb k te) (plain_by f (lower_of f.first (at rules.other_te) (is_other_te v)))
-    (cond (eqb k connection) (plain_by f (lower_of f.first (at rules.connection_field) true))
+    (cond (eqb k te) (plain_by f (lower_of f.first reason.OtherTe (is_other_te v)))
+    (cond (eqb k connection) (plain_by f (lower_of f.first reason.ConnectionField true))
     (cond (eqb k unknown)
-    (facts f.size (lower_of (lower_of f.first (at rules.unknown_pseudo) true) (at rules.late_pseudo) f.plain) true f.plain f.stated f.from f.to)
+    (facts f.size (lower_of (lower_of f.first reason.UnknownPseudo true) reason.LatePseudo f.plain) true f.plain f.stated f.from f.to)
     (plain_by f f.first)))))))
 
 -- the kind that was found is the name's
@@ -131,7 +134,7 @@ of_kind f v a b e p = p ∙ sym (ap (λ (x : ℕ). note_by x f v a b) e)
 
 -- its bytes and its size too
 abbrev with_bytes : Facts → (name value : List ℕ) → (size : ℕ) → Facts
-with_bytes g n v z = facts z (lower_of g.first (at rules.bad_bytes) (bad_name_bytes n || bad_value_bytes v)) g.pseudo g.plain g.stated g.from g.to
+with_bytes g n v z = facts z (lower_of g.first reason.BadBytes (bad_name_bytes n || bad_value_bytes v)) g.pseudo g.plain g.stated g.from g.to
 
 unfoldable pub line_step : Facts → (name value : List ℕ) (from to : ℕ) → Facts
 line_step f n v a b = with_bytes (note_by (name_of n) f v a b) n v (capped (f.size + (length n + length v + 32)))
@@ -166,8 +169,8 @@ map_same : {f g : List ℕ → ℕ} → ((x : List ℕ) → f x ≡ g x) → (xs
 map_same e [] = refl
 map_same {f} {g} e (x ∷ xs) = ap (λ y. y ∷ map f xs) (e x) ∙ ap (λ ys. g x ∷ ys) (map_same e xs)
 
-same_facts : {z n m d e : ℕ} {p q : Bool} {a b : List ℕ} → n ≡ m → d ≡ e → facts z n p q d a b ≡ facts z m p q e a b
-same_facts {z} {m} {d} {p} {q} {a} {b} f g = ap (λ (x : ℕ). facts z x p q d a b) f ∙ ap (λ (x : ℕ). facts z m p q x a b) g
+same_facts : {z : ℕ} {n m : Maybe Reason} {d e : ℕ} {p q : Bool} {a b : List ℕ} → n ≡ m → d ≡ e → facts z n p q d a b ≡ facts z m p q e a b
+same_facts {z} {m} {d} {p} {q} {a} {b} f g = ap (λ (x : Maybe Reason). facts z x p q d a b) f ∙ ap (λ (x : ℕ). facts z m p q x a b) g
 
 -- a line is somewhere behind the block's first byte
 pub somewhere : (l : Line) → eqb (value_to l) 0 ≡ false
@@ -348,7 +351,7 @@ module _ (s : Section) (l : Line) where
 
   abbrev after : Asked → Facts
   after q =
-      facts (capped (size s + (length l.name + length l.value + 32))) (lowest (row_by q)) (q.pseudo || any is_pseudo s) (not q.pseudo || any is_plain s)
+      facts (capped (size s + (length l.name + length l.value + 32))) (found (lowest (row_by q))) (q.pseudo || any is_pseudo s) (not q.pseudo || any is_plain s)
       (kept_by q.length (to_in s (name_at content_length)) (capped (decimal (value_at s content_length))) (capped (decimal l.value)))
       (six_by (λ t k. kept_by t (to_in s (name_at k)) (from_in s (name_at k)) (value_from l)) q)
       (six_by (λ t k. kept_by t (to_in s (name_at k)) (to_in s (name_at k)) (value_to l)) q)
@@ -380,20 +383,20 @@ module _ (s : Section) (l : Line) where
   abbrev bad : Bool
   bad = bad_name_bytes l.name || bad_value_bytes l.value
 
-  bad_too : {n : ℕ} (bs : List Bool) → n ≡ lowest bs → 1 < length bs → lower_of n (at rules.bad_bytes) bad ≡ lowest (put (at rules.bad_bytes) bad bs)
-  bad_too bs e h = push bs (at rules.bad_bytes) bad e h refl
+  bad_too : {n : Maybe Reason} (bs : List Bool) → n ≡ found (lowest bs) → 1 < length bs → lower_of n reason.BadBytes bad ≡ found (lowest (put (number_of reason.BadBytes) bad bs))
+  bad_too bs e h = push bs reason.BadBytes bad e h refl
 
   -- a request pseudo-field
   known_row : (u : Bool) → List Bool
-  known_row u = put (at rules.late_pseudo) (any is_plain s) (put (at rules.repeated_pseudo) u (row_of s))
+  known_row u = put (number_of reason.LatePseudo) (any is_plain s) (put (number_of reason.RepeatedPseudo) u (row_of s))
 
-  known : (u : Bool) {t : Bool} → t ≡ u → lower_of (lower_of (lowest (row_of s)) (at rules.repeated_pseudo) t) (at rules.late_pseudo) (any is_plain s) ≡ lowest (known_row u)
+  known : (u : Bool) {t : Bool} → t ≡ u → lower_of (lower_of (found (lowest (row_of s))) reason.RepeatedPseudo t) reason.LatePseudo (any is_plain s) ≡ found (lowest (known_row u))
   unfolding row_of put known_row
-  known u e = push _ (at rules.late_pseudo) (any is_plain s) (push (row_of s) (at rules.repeated_pseudo) u refl (lit< tt) e) (lit< tt) refl
+  known u e = push _ reason.LatePseudo (any is_plain s) (push (row_of s) reason.RepeatedPseudo u refl (lit< tt) e) (lit< tt) refl
 
   step_method : Steps method
   unfolding facts_of note_by row_of put known_row bad_name_bytes bad_value_bytes bad_name is_bad_value is_pseudo
-  step_method = same_facts (bad_too _ (push _ (at rules.bad_method) (is_bad_method l.value) (known _ (there_or (name_at method) s)) (lit< tt) refl) (lit< tt)) refl
+  step_method = same_facts (bad_too _ (push _ reason.BadMethod (is_bad_method l.value) (known _ (there_or (name_at method) s)) (lit< tt) refl) (lit< tt)) refl
 
   step_scheme : Steps scheme
   unfolding facts_of note_by known_by row_of put known_row bad_name_bytes bad_value_bytes bad_name is_bad_value is_pseudo
@@ -409,15 +412,15 @@ module _ (s : Section) (l : Line) where
 
   step_host : Steps host
   unfolding facts_of note_by row_of put bad_name_bytes bad_value_bytes bad_name is_bad_value is_pseudo
-  step_host = same_facts (bad_too _ (push (row_of s) (at rules.repeated_host) _ refl (lit< tt) (there_is (name_at host) s)) (lit< tt)) refl
+  step_host = same_facts (bad_too _ (push (row_of s) reason.RepeatedHost _ refl (lit< tt) (there_is (name_at host) s)) (lit< tt)) refl
 
   step_length : Steps content_length
   unfolding facts_of note_by row_of put bad_name_bytes bad_value_bytes bad_name is_bad_value is_pseudo largest
   step_length =
       same_facts
       (bad_too _
-      (push _ (at rules.length_above) (above_largest l.value)
-      (push _ (at rules.no_digits) (is_no_digits l.value) (push (row_of s) (at rules.repeated_length) _ refl (lit< tt) (there_is (name_at content_length) s)) (lit< tt) refl)
+      (push _ reason.LengthAbove (above_largest l.value)
+      (push _ reason.NoDigits (is_no_digits l.value) (push (row_of s) reason.RepeatedLength _ refl (lit< tt) (there_is (name_at content_length) s)) (lit< tt) refl)
       (lit< tt)
       (past largest (decimal l.value) (lit< tt)))
       (lit< tt))
@@ -425,15 +428,15 @@ module _ (s : Section) (l : Line) where
 
   step_te : Steps te
   unfolding facts_of note_by plain_by row_of put bad_name_bytes bad_value_bytes bad_name is_bad_value is_pseudo
-  step_te = same_facts (bad_too _ (push (row_of s) (at rules.other_te) (is_other_te l.value) refl (lit< tt) refl) (lit< tt)) refl
+  step_te = same_facts (bad_too _ (push (row_of s) reason.OtherTe (is_other_te l.value) refl (lit< tt) refl) (lit< tt)) refl
 
   step_connection : Steps connection
   unfolding facts_of note_by plain_by row_of put bad_name_bytes bad_value_bytes bad_name is_bad_value is_pseudo
-  step_connection = same_facts (bad_too _ (push (row_of s) (at rules.connection_field) true refl (lit< tt) refl) (lit< tt)) refl
+  step_connection = same_facts (bad_too _ (push (row_of s) reason.ConnectionField true refl (lit< tt) refl) (lit< tt)) refl
 
   step_unknown : Steps unknown
   unfolding facts_of note_by row_of put bad_name_bytes bad_value_bytes bad_name is_bad_value is_pseudo
-  step_unknown = same_facts (bad_too _ (push _ (at rules.late_pseudo) (any is_plain s) (push (row_of s) (at rules.unknown_pseudo) true refl (lit< tt) refl) (lit< tt) refl) (lit< tt)) refl
+  step_unknown = same_facts (bad_too _ (push _ reason.LatePseudo (any is_plain s) (push (row_of s) reason.UnknownPseudo true refl (lit< tt) refl) (lit< tt) refl) (lit< tt)) refl
 
   step_plain : Steps plain
   unfolding facts_of note_by plain_by row_of put bad_name_bytes bad_value_bytes bad_name is_bad_value is_pseudo
@@ -447,10 +450,10 @@ module _ (s : Section) (l : Line) where
       ∙ sym (more_is ∙ ap after (asked_is l.name))
 
 pub none_yet : no_facts ≡ facts_of []
-unfolding no_facts facts_of row_of lowest size any first from_of to_of value_of method_of decimal decimal_from capped bytes_check unknown_check repeated_check late_check connection_check te_check method_check repeated_length_check digits_check length_above_check repeated_host_check line_with has repeated pseudo_behind_plain pseudo_fields connection_fields
+unfolding no_facts facts_of row_of lowest found told checks size any first from_of to_of value_of method_of decimal decimal_from capped bytes_check unknown_check repeated_check late_check connection_check te_check method_check repeated_length_check digits_check length_above_check repeated_host_check line_with has repeated pseudo_behind_plain pseudo_fields connection_fields
 none_yet = refl
 
 -- what the walk answers
-pub record Walks (block : List ℕ) (w : Walked) : Type 0 where
-  pub reads : w.readable ≡ is_readable (lines block)
-  pub facts : w.facts ≡ facts_of (held block)
+unfoldable pub walked : Lines → Result Facts Fault
+walked (unreadable f) = Err fault.Unreadable
+walked (readable s) = Ok (facts_of s)

@@ -1,5 +1,5 @@
 -- How the lowest broken check is the rules' reason, and how an answer's reading is what the rules say. Assumes nothing.
-use Prim.Native.Nat.{ℕ, zero, suc, ◌<◌, ◌≤◌}
+use Prim.Native.Nat.{ℕ, zero, suc, ◌<◌}
 use Rattle.std.proofs.Math.Path.{◌≡◌, refl, sym, ap}
 use Rattle.std.proofs.Common.{◌∙◌, arith, lit<, ltb-false}
 use mathlib.Core.List.{List, [], ◌∷◌}
@@ -11,23 +11,25 @@ use Rattle.rules.specs.Text.{ascii, any, same}
 use Rattle.rules.specs.Numbers.{code_number}
 use Rattle.rules.specs.Block.{Section, Lines, unreadable, readable, lines}
 use Rattle.rules.specs.Section as rules
-use Rattle.rules.specs.Section.{Reason, reason_number as at, code_of, Check, Judgement, refused, sound, Head, is_empty, begins, holds, is_upload, uploads, uploading, decimal, decimal_from, named, has, value_of, method_of, stated_in, unless, first_broken, good_path, size, size_limit, length_limit, size_check, bytes_check, unknown_check, repeated_check, late_check, in_trailers_check, connection_check, te_check, method_check, no_method_check, repeated_length_check, length_in_trailers_check, digits_check, length_above_check, repeated_host_check, connect_check, present_check, scheme_check, path_check, authority_check, empty_check, differ_check, at_check, length_check, upload_check, header_checks, trailer_checks, header_section}
+use Rattle.rules.specs.Section.{Reason, code_of, Check, Judgement, refused, sound, Head, is_empty, begins, holds, is_upload, uploads, uploading, decimal, decimal_from, named, has, value_of, method_of, stated_in, unless, first_broken, good_path, size, size_limit, length_limit, size_check, bytes_check, unknown_check, repeated_check, late_check, in_trailers_check, connection_check, te_check, method_check, no_method_check, repeated_length_check, length_in_trailers_check, digits_check, length_above_check, repeated_host_check, connect_check, present_check, scheme_check, path_check, authority_check, empty_check, differ_check, at_check, length_check, upload_check, header_checks, trailer_checks, header_section}
 use Rattle.fields.specs.Laws.{empty_is}
 use Rattle.fields.specs.Walk.{part, is_readable, held}
 use Rattle.fields.specs.Lines.{held_is}
 use Rattle.fields.specs.Decimal.{capped, capped_below, past}
 use Rattle.section.specs.declared.Facts.{Facts}
-use Rattle.section.specs.declared.Stated.{Stated}
-use Rattle.section.specs.declared.HeaderAnswer.{HeaderAnswer}
-use Rattle.section.specs.declared.HeaderAnswer.TheVariants as header
-use Rattle.section.specs.declared.TrailerAnswer.{TrailerAnswer}
-use Rattle.section.specs.declared.TrailerAnswer.TheVariants as trailer
-use Rattle.section.specs.Checks.{checks, unbroken, reason_at, lowest, lower_of, fill, and_then, told, first_in, first_told, told_reason, told_none, number_at, told_back}
+use Rattle.rules.specs.Named.{reason_named, reason_back}
+use Rattle.rules.specs.declared.reasons.Reason.{Reason as NamedReason}
+use Rattle.rules.specs.declared.reasons.Reason.TheVariants as reason
+use Rattle.std.specs.Prelude.{Option as Maybe, Some, None, Ok, Err}
+use Rattle.section.specs.declared.Fault.{Fault}
+use Rattle.section.specs.declared.Fault.TheVariants as fault
+use Rattle.section.specs.declared.Sound.{Sound}
+use Rattle.section.specs.Checks.{checks, lowest, found, lower_of, fill, and_then, told, first_in, first_told, found_some, found_none}
 use Rattle.section.specs.Names.{method, scheme, authority, path, host, content_length, name_at}
 use Rattle.section.specs.Finding.{first, to_of}
-use Rattle.section.specs.Facts.{row_of, facts_of, from_in, to_in, there_at, value_at, there_is, somewhere}
+use Rattle.section.specs.Facts.{row_of, facts_of, walked, from_in, to_in, there_at, value_at, there_is, somewhere}
 use Rattle.section.specs.Places.{bytes_are, holds_by}
-use Rattle.section.specs.Answer.{method_name, length_name, method_line, stated_of, header_answer_by, header_answer, trailer_answer_by, trailer_answer, judged_number, header_number, trailer_number}
+use Rattle.section.specs.Answer.{HeaderAnswer, TrailerAnswer, method_name, length_name, method_line, stated_of, header_answer_by, header_answer, trailer_answer_by, trailer_answer, judged_number, header_number, trailer_number}
 
 -- ---- what each check says, in its place
 
@@ -66,15 +68,15 @@ trailer_row s =
 abbrev pub absent : Facts → (k : ℕ) → Bool
 absent f k = eqb (get_or f.to k 0) 0
 
-unfoldable pub by_places : Facts → ℕ
+unfoldable pub by_places : Facts → Maybe NamedReason
 by_places f =
     lower_of
     (lower_of
     (lower_of
-    (lower_of f.first (at rules.too_large) (ltb size_limit f.size))
-    (at rules.no_method) (absent f method))
-    (at rules.no_scheme_or_path) (not (there_at f scheme && there_at f path)))
-    (at rules.length_past_limit) (ltb length_limit f.stated)
+    (lower_of f.first reason.TooLarge (ltb size_limit f.size))
+    reason.NoMethod (absent f method))
+    reason.NoSchemeOrPath (not (there_at f scheme && there_at f path)))
+    reason.LengthPastLimit (ltb length_limit f.stated)
 
 unfoldable pub is_http : List ℕ → Bool
 is_http v = same v (ascii "http") || same v (ascii "https")
@@ -85,28 +87,28 @@ is_path p m = begins (eqb 0x2f) p || (same (ascii "*") p && same (ascii "OPTIONS
 unfoldable pub sends_content : (method : List ℕ) → Bool
 sends_content m = (same m (ascii "PUT") || same m (ascii "POST")) || same m (ascii "PATCH")
 
-unfoldable pub by_request : (method scheme path : List ℕ) (stated : Bool) (first : ℕ) → ℕ
+unfoldable pub by_request : (method scheme path : List ℕ) (stated : Bool) (first : Maybe NamedReason) → Maybe NamedReason
 by_request m h p t n =
     lower_of
     (lower_of
     (lower_of
-    (lower_of n (at rules.connect) (same (ascii "CONNECT") m))
-    (at rules.other_scheme) (not (is_http h)))
-    (at rules.bad_path) (not (is_path p m)))
-    (at rules.no_length) (sends_content m && not t)
+    (lower_of n reason.Connect (same (ascii "CONNECT") m))
+    reason.OtherScheme (not (is_http h)))
+    reason.BadPath (not (is_path p m)))
+    reason.NoLength (sends_content m && not t)
 
-unfoldable pub by_authority : (authority : List ℕ) (given : Bool) (host : List ℕ) (hosted : Bool) (first : ℕ) → ℕ
+unfoldable pub by_authority : (authority : List ℕ) (given : Bool) (host : List ℕ) (hosted : Bool) (first : Maybe NamedReason) → Maybe NamedReason
 by_authority a ta h th n =
     lower_of
     (lower_of
     (lower_of
-    (lower_of n (at rules.no_authority) (not (ta || th)))
-    (at rules.empty_authority) ((ta && eqb (length a) 0) || (th && eqb (length h) 0)))
-    (at rules.authorities_differ) ((ta && th) && not (same a h)))
-    (at rules.at_in_authority) (any (eqb 0x40) a)
+    (lower_of n reason.NoAuthority (not (ta || th)))
+    reason.EmptyAuthority ((ta && eqb (length a) 0) || (th && eqb (length h) 0)))
+    reason.AuthoritiesDiffer ((ta && th) && not (same a h)))
+    reason.AtInAuthority (any (eqb 0x40) a)
 
-unfoldable pub by_trailers : Facts → ℕ
-by_trailers f = lower_of (lower_of (lower_of f.first (at rules.too_large) (ltb size_limit f.size)) (at rules.pseudo_in_trailers) f.pseudo) (at rules.length_in_trailers) (not (absent f content_length))
+unfoldable pub by_trailers : Facts → Maybe NamedReason
+by_trailers f = lower_of (lower_of (lower_of f.first reason.TooLarge (ltb size_limit f.size)) reason.PseudoInTrailers f.pseudo) reason.LengthInTrailers (not (absent f content_length))
 
 -- ---- a name is there where it has a value
 
@@ -208,27 +210,27 @@ module _ (s : Section) where
   unfolding at_check any
   at_sign = holds_by (any (eqb 0x40)) (value_of (name_at authority) s) refl
 
-  first_is : (facts_of s).first ≡ lowest (row_of s)
+  first_is : (facts_of s).first ≡ found (lowest (row_of s))
   unfolding facts_of
   first_is = refl
 
   pub header_lowest : by_authority (value_at s authority) (there authority) (value_at s host) (there host)
       (by_request (value_at s method) (value_at s scheme) (value_at s path) (there content_length) (by_places (facts_of s)))
-      ≡ lowest (header_row s)
+      ≡ found (lowest (header_row s))
   unfolding by_authority by_request by_places header_row row_of fill
   header_lowest =
-      and_then _ (at rules.at_in_authority) (at_check.broken s)
-      (and_then _ (at rules.authorities_differ) (differ_check.broken s)
-      (and_then _ (at rules.empty_authority) (empty_check.broken s)
-      (and_then _ (at rules.no_authority) (authority_check.broken s)
-      (and_then _ (at rules.no_length) (upload_check.broken s)
-      (and_then _ (at rules.bad_path) (path_check.broken s)
-      (and_then _ (at rules.other_scheme) (scheme_check.broken s)
-      (and_then _ (at rules.connect) (connect_check.broken s)
-      (and_then _ (at rules.length_past_limit) (length_check.broken s)
-      (and_then _ (at rules.no_scheme_or_path) (present_check.broken s)
-      (and_then _ (at rules.no_method) (no_method_check.broken s)
-      (and_then (row_of s) (at rules.too_large) (size_check.broken s) first_is
+      and_then _ reason.AtInAuthority (at_check.broken s)
+      (and_then _ reason.AuthoritiesDiffer (differ_check.broken s)
+      (and_then _ reason.EmptyAuthority (empty_check.broken s)
+      (and_then _ reason.NoAuthority (authority_check.broken s)
+      (and_then _ reason.NoLength (upload_check.broken s)
+      (and_then _ reason.BadPath (path_check.broken s)
+      (and_then _ reason.OtherScheme (scheme_check.broken s)
+      (and_then _ reason.Connect (connect_check.broken s)
+      (and_then _ reason.LengthPastLimit (length_check.broken s)
+      (and_then _ reason.NoSchemeOrPath (present_check.broken s)
+      (and_then _ reason.NoMethod (no_method_check.broken s)
+      (and_then (row_of s) reason.TooLarge (size_check.broken s) first_is
       (lit< tt) refl large)
       (lit< tt) refl no_method)
       (lit< tt) refl no_place)
@@ -250,12 +252,12 @@ module _ (s : Section) where
   unfolding facts_of length_in_trailers_check
   stated_there = there_is (name_at content_length) s
 
-  trailer_lowest : by_trailers (facts_of s) ≡ lowest (trailer_row s)
+  trailer_lowest : by_trailers (facts_of s) ≡ found (lowest (trailer_row s))
   unfolding by_trailers trailer_row row_of fill
   trailer_lowest =
-      and_then _ (at rules.length_in_trailers) (length_in_trailers_check.broken s)
-      (and_then _ (at rules.pseudo_in_trailers) (in_trailers_check.broken s)
-      (and_then (row_of s) (at rules.too_large) (size_check.broken s) first_is (lit< tt) refl large)
+      and_then _ reason.LengthInTrailers (length_in_trailers_check.broken s)
+      (and_then _ reason.PseudoInTrailers (in_trailers_check.broken s)
+      (and_then (row_of s) reason.TooLarge (size_check.broken s) first_is (lit< tt) refl large)
       (lit< tt) refl in_trailers)
       (lit< tt) refl stated_there
 
@@ -264,9 +266,9 @@ module _ (s : Section) where
   unfolding first_broken header_checks checks header_row first_in
   header_first = first_told checks (header_row s) refl
 
-  trailer_first : first_broken trailer_checks s ≡ told checks (by_trailers (facts_of s))
+  trailer_first : first_broken trailer_checks s ≡ told checks (lowest (trailer_row s))
   unfolding first_broken trailer_checks checks trailer_row first_in
-  trailer_first = first_told checks (trailer_row s) refl ∙ ap (told checks) (sym trailer_lowest)
+  trailer_first = first_told checks (trailer_row s) refl
 
   -- where no check is broken, each one passed
   passed : (cs : List Check) (i : ℕ) (d : Check) → i < length cs → first_broken cs s ≡ none → (get_or cs i d).broken s ≡ false
@@ -327,75 +329,89 @@ module _ (s : Section) where
   unfolding trailer_answer rules.trailers
   by_first' e = sym (ap (λ x. trailer_answer_by (unless x tt)) e)
 
-  module _ (n : ℕ) (h : n < unbroken) where
-    pub header_refused : n ≡ lowest (header_row s) → header.Refused n ≡ header_answer (readable s)
+  module _ (r : NamedReason) where
+    pub header_refused : Some r ≡ found (lowest (header_row s)) → Err (fault.Refused r) ≡ header_answer (readable s)
     unfolding header_answer_by unless
-    header_refused e = ap header.Refused (sym (number_at n h)) ∙ by_first (header_first s ∙ ap (told checks) (sym e) ∙ told_reason n h)
+    header_refused e = let f = found_some _ r e in ap (λ x. Err (fault.Refused x)) (sym f.1) ∙ by_first (header_first s ∙ f.0)
 
-    pub trailers_refused : n ≡ by_trailers (facts_of s) → trailer.Refused n ≡ trailer_answer (readable s)
+    pub trailers_refused : Some r ≡ by_trailers (facts_of s) → Err (fault.Refused r) ≡ trailer_answer (readable s)
     unfolding trailer_answer_by unless
-    trailers_refused e = ap trailer.Refused (sym (number_at n h)) ∙ by_first' (trailer_first s ∙ ap (told checks) (sym e) ∙ told_reason n h)
+    trailers_refused e = let f = found_some _ r (e ∙ trailer_lowest s) in ap (λ x. Err (fault.Refused x)) (sym f.1) ∙ by_first' (trailer_first s ∙ f.0)
 
-  module _ (n : ℕ) (h : unbroken ≤ n) where
-    pub header_sound : n ≡ lowest (header_row s) → (f : Facts) → f ≡ facts_of s → {t : Stated} → t ≡ stated_of (stated_by f)
-        → header.Sound (get_or f.from method 0) (get_or f.to method 0) t ≡ header_answer (readable s)
-    unfolding header_answer_by unless method_line facts_of
-    header_sound e f is states =
-        let none-broken = header_first s ∙ ap (told checks) (sym e) ∙ told_none n h in
-        ap (header.Sound (get_or f.from method 0) (get_or f.to method 0)) states
-        ∙ ap (λ (g : Facts). header.Sound (get_or g.from method 0) (get_or g.to method 0) (stated_of (stated_by g))) is
-        ∙ ap (λ o. header.Sound (get_or (facts_of s).from method 0) (get_or (facts_of s).to method 0) (stated_of o)) (stated_is s (length_passed s none-broken))
-        ∙ by_first none-broken
+  pub header_sound : None ≡ found (lowest (header_row s)) → (f : Facts) → f ≡ facts_of s → {t : Maybe ℕ} → t ≡ stated_of (stated_by f)
+      → Ok (record { method = get_or f.from method 0; end = get_or f.to method 0; stated = t }) ≡ header_answer (readable s)
+  unfolding header_answer_by unless method_line facts_of
+  header_sound e f is states =
+      let none-broken = header_first s ∙ found_none _ e in
+      let sounds : Facts → Maybe ℕ → HeaderAnswer = λ (g : Facts) (t : Maybe ℕ). Ok (record { method = get_or g.from method 0; end = get_or g.to method 0; stated = t }) in
+      ap (sounds f) states
+      ∙ ap (λ (g : Facts). sounds g (stated_of (stated_by g))) is
+      ∙ ap (λ o. sounds (facts_of s) (stated_of o)) (stated_is s (length_passed s none-broken))
+      ∙ by_first none-broken
 
-    pub trailers_sound : n ≡ by_trailers (facts_of s) → trailer.Sound ≡ trailer_answer (readable s)
-    unfolding trailer_answer_by unless
-    trailers_sound e = by_first' (trailer_first s ∙ ap (told checks) (sym e) ∙ told_none n h)
+  pub trailers_sound : None ≡ by_trailers (facts_of s) → Ok tt ≡ trailer_answer (readable s)
+  unfolding trailer_answer_by unless
+  trailers_sound e = by_first' (trailer_first s ∙ found_none _ (e ∙ trailer_lowest s))
 
-  -- an answer is a refusal whose number names its reason, or it is sound
-  pub header_by_cases : (P : HeaderAnswer → Judgement Head → Type 0) → ((r : Reason) → reason_at (at r) ≡ r → P (header.Refused (at r)) (refused r))
+  -- an answer is a refusal with its reason's name, or it is sound
+  pub header_by_cases : (P : HeaderAnswer → Judgement Head → Type 0) → ((r : Reason) → P (Err (fault.Refused (reason_named r))) (refused r))
       → ((h : Head) → P (header_answer_by s (sound h)) (sound h)) → P (header_answer (readable s)) (header_section s)
   unfolding header_answer header_section header_answer_by unless
   header_by_cases P p q = go (first_broken header_checks s) refl
     where
       go : (o : Option Reason) → first_broken header_checks s ≡ o → P (header_answer_by s (unless o (says s))) (unless o (says s))
       go none e = q (says s)
-      go (some r) e = p r (told_back (lowest (header_row s)) r (sym (header_first s) ∙ e))
+      go (some r) e = p r
 
-  pub trailers_by_cases : (P : TrailerAnswer → Judgement (Unit {0}) → Type 0) → ((r : Reason) → reason_at (at r) ≡ r → P (trailer.Refused (at r)) (refused r))
-      → P trailer.Sound (sound tt) → P (trailer_answer (readable s)) (rules.trailers s)
+  pub trailers_by_cases : (P : TrailerAnswer → Judgement (Unit {0}) → Type 0) → ((r : Reason) → P (Err (fault.Refused (reason_named r))) (refused r))
+      → P (Ok tt) (sound tt) → P (trailer_answer (readable s)) (rules.trailers s)
   unfolding trailer_answer rules.trailers trailer_answer_by unless
   trailers_by_cases P p q = go (first_broken trailer_checks s) refl
     where
       go : (o : Option Reason) → first_broken trailer_checks s ≡ o → P (trailer_answer_by (unless o tt)) (unless o tt)
       go none e = q
-      go (some r) e = p r (told_back (by_trailers (facts_of s)) r (sym (trailer_first s) ∙ e))
+      go (some r) e = p r
 
   pub header_number_lem : header_number (header_answer (readable s)) ≡ judged_number (header_section s)
   unfolding header_number judged_number header_answer_by
-  header_number_lem = header_by_cases (λ a j. header_number a ≡ judged_number j) (λ r e. ap (λ x. code_number (code_of x)) e) (λ h. refl)
+  header_number_lem = header_by_cases (λ a j. header_number a ≡ judged_number j) (λ r. ap (λ x. code_number (code_of x)) (reason_back r)) (λ h. refl)
 
   pub trailer_number_lem : trailer_number (trailer_answer (readable s)) ≡ judged_number (rules.trailers s)
   unfolding trailer_number judged_number
-  trailer_number_lem = trailers_by_cases (λ a j. trailer_number a ≡ judged_number j) (λ r e. ap (λ x. code_number (code_of x)) e) refl
+  trailer_number_lem = trailers_by_cases (λ a j. trailer_number a ≡ judged_number j) (λ r. ap (λ x. code_number (code_of x)) (reason_back r)) refl
 
-pub header_unread : (x : Lines) → is_readable x ≡ false → header.Unreadable ≡ header_answer x
-unfolding header_answer
-header_unread (unreadable f) e = refl
+-- the walk's answer is a fault where the block is unreadable
+pub header_unread : (x : Lines) {e : Fault} → Err e ≡ walked x → Err e ≡ header_answer x
+unfolding walked header_answer
+header_unread (unreadable f) e = cc
 header_unread (readable s) e = let z : ◌≡◌ {A = ℕ} 0 1 = cc in absurd (omega arith)
 
-pub trailers_unread : (x : Lines) → is_readable x ≡ false → trailer.Unreadable ≡ trailer_answer x
-unfolding trailer_answer
-trailers_unread (unreadable f) e = refl
+pub trailers_unread : (x : Lines) {e : Fault} → Err e ≡ walked x → Err e ≡ trailer_answer x
+unfolding walked trailer_answer
+trailers_unread (unreadable f) e = cc
 trailers_unread (readable s) e = let z : ◌≡◌ {A = ℕ} 0 1 = cc in absurd (omega arith)
 
+-- else it has the facts of all its lines
+pub walked_all : (block : List ℕ) {f : Facts} → Ok f ≡ walked (lines block) → (lines block ≡ readable (held block)) × (f ≡ facts_of (held block))
+unfolding walked
+walked_all block {f} = go (lines block) refl
+  where
+    go : (x : Lines) → lines block ≡ x → Ok f ≡ walked x → (x ≡ readable (held block)) × (f ≡ facts_of (held block))
+    go (unreadable g) p e = let z : ◌≡◌ {A = ℕ} 0 1 = cc in absurd (omega arith)
+    go (readable s) p e =
+        let there : readable s ≡ readable (held block) = sym p ∙ held_is block (ap is_readable p) in
+        let same_section : s ≡ held block = cc in
+        let facts : f ≡ facts_of s = cc in
+        (there, facts ∙ ap facts_of same_section)
+
 -- the bytes that a sound answer names are the method
-pub method_named : (block : List ℕ) (s : Section) (h : Head) {from to : ℕ} {t : Stated} → lines block ≡ readable s → header_section s ≡ sound h
-    → header_answer (lines block) ≡ header.Sound from to t → part from to block ≡ h.method
+pub method_named : (block : List ℕ) (s : Section) (h : Head) {a : Sound} → lines block ≡ readable s → header_section s ≡ sound h
+    → header_answer (lines block) ≡ Ok a → part a.method a.end block ≡ h.method
 unfolding header_answer header_answer_by method_line header_section unless
-method_named block s h {from} {to} {t} e f g =
-    let a : header.Sound (from_in s method_name) (to_in s method_name) (stated_of h.stated) ≡ header.Sound from to t = sym (ap header_answer e ∙ ap (header_answer_by s) f) ∙ g in
-    let b : from_in s method_name ≡ from = cc in
-    let c : to_in s method_name ≡ to = cc in
+method_named block s h {a = r} e f g =
+    let there-sound : ◌≡◌ {A = HeaderAnswer} (Ok (record { method = from_in s method_name; end = to_in s method_name; stated = stated_of h.stated })) (Ok r) = sym (ap header_answer e ∙ ap (header_answer_by s) f) ∙ g in
+    let b : from_in s method_name ≡ r.method = cc in
+    let c : to_in s method_name ≡ r.end = cc in
     let there : readable s ≡ readable (held block) = sym e ∙ held_is block (ap is_readable e) in
     let d : s ≡ held block = cc in
     rw (← b, ← c, d) (bytes_are method_name block ∙ ap (λ x. method_of (value_of method_name x)) (sym d) ∙ go (first_broken header_checks s) f)

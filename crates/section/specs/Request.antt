@@ -7,24 +7,22 @@ use Rattle.rules.specs.Section as rules
 use Rattle.rules.specs.Section.{header_section, code_of, holds, uploading, length_limit, decimal, stated_in, first_broken, header_checks, unless, value_of, length_check}
 use Rattle.rules.specs.Request.{Header, Trailer, header_by, trailer_by, document}
 use Rattle.rules.specs.Request as request
-use Rattle.section.specs.declared.HeaderAnswer.{HeaderAnswer}
-use Rattle.section.specs.declared.HeaderAnswer.TheVariants as header
-use Rattle.section.specs.declared.TrailerAnswer.{TrailerAnswer}
-use Rattle.section.specs.declared.TrailerAnswer.TheVariants as trailer
-use Rattle.section.specs.Checks.{reason_at}
-use Rattle.section.specs.Answer.{length_name, header_answer_by, header_answer, trailer_answer, read_stated, stated_read}
+use Rattle.rules.specs.Named.{reason_of, reason_back}
+use Rattle.std.specs.Prelude.{Ok, Err}
+use Rattle.section.specs.declared.Fault.TheVariants as fault
+use Rattle.section.specs.Answer.{HeaderAnswer, TrailerAnswer, length_name, header_answer_by, header_answer, trailer_answer, read_stated, stated_read}
 use Rattle.section.specs.Judging.{says, header_by_cases, trailers_by_cases, length_passed, upload_states}
 
 -- none where the block is unreadable
 unfoldable pub as_header : HeaderAnswer → Option Header
-as_header header.Unreadable = none
-as_header (header.Refused n) = some (request.Header.bad (code_of (reason_at n)))
-as_header (header.Sound method end s) = some (request.Header.good (read_stated s))
+as_header (Err fault.Unreadable) = none
+as_header (Err (fault.Refused r)) = some (request.Header.bad (code_of (reason_of r)))
+as_header (Ok s) = some (request.Header.good (read_stated s.stated))
 
 unfoldable pub as_trailer : TrailerAnswer → Option Trailer
-as_trailer trailer.Unreadable = none
-as_trailer (trailer.Refused n) = some (request.Trailer.bad (code_of (reason_at n)))
-as_trailer trailer.Sound = some request.Trailer.good
+as_trailer (Err fault.Unreadable) = none
+as_trailer (Err (fault.Refused r)) = some (request.Trailer.bad (code_of (reason_of r)))
+as_trailer (Ok u) = some request.Trailer.good
 
 unfoldable pub header_of : Lines → Option Header
 header_of (unreadable f) = none
@@ -38,12 +36,12 @@ pub header_is : (l : Lines) → as_header (header_answer l) ≡ header_of l
 unfolding as_header header_answer header_answer_by header_of document header_by
 header_is (unreadable f) = refl
 header_is (readable s) =
-    header_by_cases s (λ a j. as_header a ≡ some (header_by j)) (λ r e. ap (λ x. some (request.Header.bad (code_of x))) e) (λ h. ap (λ o. some (request.Header.good o)) (stated_read h.stated))
+    header_by_cases s (λ a j. as_header a ≡ some (header_by j)) (λ r. ap (λ x. some (request.Header.bad (code_of x))) (reason_back r)) (λ h. ap (λ o. some (request.Header.good o)) (stated_read h.stated))
 
 pub trailer_is : (l : Lines) → as_trailer (trailer_answer l) ≡ trailer_of l
 unfolding as_trailer trailer_answer trailer_of document trailer_by
 trailer_is (unreadable f) = refl
-trailer_is (readable s) = trailers_by_cases s (λ a j. as_trailer a ≡ some (trailer_by j)) (λ r e. ap (λ x. some (request.Trailer.bad (code_of x))) e) refl
+trailer_is (readable s) = trailers_by_cases s (λ a j. as_trailer a ≡ some (trailer_by j)) (λ r. ap (λ x. some (request.Trailer.bad (code_of x))) (reason_back r)) refl
 
 -- ---- a length that is stated is within the limit
 

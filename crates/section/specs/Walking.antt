@@ -1,17 +1,18 @@
 -- The one walk by places: what it holds at a place is what the rules say of the lines before it. Assumes nothing.
 use Prim.Native.Nat.{ℕ, suc, ◌+◌, ◌-◌, ◌≤◌, ◌<◌, ◌^◌}
-use Rattle.std.specs.Prelude.{◌≡◌, refl, List, [], ◌∷◌, ◌++◌, Bool, true, false, Ok, Some, None}
+use Rattle.std.specs.Prelude.{◌≡◌, refl, List, [], ◌∷◌, ◌++◌, true, false, Ok, Err, Some, None}
 use Rattle.std.proofs.Math.Path.{sym, ap}
 use Rattle.std.proofs.Common.{◌∙◌, append-nil, append_assoc, arith}
 use Rattle.std.proofs.Math.ListN.{length}
-use Rattle.rules.specs.Block.{Line, Section, lines}
+use Rattle.rules.specs.Block.{Line, Section, Lines, unreadable, readable, lines}
 use Rattle.fields.specs.declared.Line as code
 use Rattle.fields.specs.Walk.{no_record, part, record_at, line_of, section_from, held, is_readable, told_from}
 use Rattle.fields.specs.Decimal.{capped_le}
-use Rattle.fields.specs.Lines.{placed, walk_end, walk_flaw, walk_line, is_told, told_next, readable_is}
+use Rattle.fields.specs.Lines.{held_is, placed, walk_end, walk_flaw, walk_line, is_told, told_next, readable_is}
+use Rattle.section.specs.declared.Fault.TheVariants as fault
 use Rattle.section.specs.declared.Facts.{Facts}
 use Rattle.section.specs.Finding.{length_part, value_from}
-use Rattle.section.specs.Facts.{no_facts, none_yet, line_step, step_is, facts_of, Walks}
+use Rattle.section.specs.Facts.{no_facts, none_yet, line_step, step_is, facts_of, walked}
 use Rattle.section.specs.Places.{line_from, line_to}
 
 pub record Walking (block : List ℕ) (at : ℕ) (f : Facts) : Type 0 where
@@ -37,17 +38,22 @@ starts block f e = record {
 
 module _ (block : List ℕ) (at : ℕ) (f : Facts) (w : Walking block at f) where
   -- where no line comes any more
-  last : (t : Bool) → is_readable (lines block) ≡ t → section_from block w.number at ≡ [] → Walks block (record { readable = t; facts = f })
-  last t e none = record {
-    reads = sym e;
-    facts = w.facts ∙ ap facts_of (sym (w.all ∙ ap (λ (s : Section). w.done ++ s) none ∙ append-nil w.done));
-  }
+  last : section_from block w.number at ≡ [] → f ≡ facts_of (held block)
+  last none = w.facts ∙ ap facts_of (sym (w.all ∙ ap (λ (s : Section). w.done ++ s) none ∙ append-nil w.done))
 
-  pub ended : record_at block at ≡ Ok None → Walks block (record { readable = true; facts = f })
-  ended e = last true (w.told ∙ ap is_told (walk_end _ _ _ block w.number at e)) (walk_end _ _ _ block w.number at e)
+  pub ended : record_at block at ≡ Ok None → Ok f ≡ walked (lines block)
+  unfolding walked
+  ended e =
+      let reads : is_readable (lines block) ≡ true = w.told ∙ ap is_told (walk_end _ _ _ block w.number at e) in
+      ap Ok (last (walk_end _ _ _ block w.number at e)) ∙ sym (ap walked (held_is block reads))
 
-  pub flawed : record_at block at ≡ no_record → Walks block (record { readable = false; facts = f })
-  flawed e = last false (w.told ∙ ap is_told (walk_flaw _ _ _ block w.number at e)) (walk_flaw _ _ _ block w.number at e)
+  pub flawed : record_at block at ≡ no_record → Err fault.Unreadable ≡ walked (lines block)
+  unfolding walked
+  flawed e = go (lines block) (w.told ∙ ap is_told (walk_flaw _ _ _ block w.number at e))
+    where
+      go : (x : Lines) → is_readable x ≡ false → Err fault.Unreadable ≡ walked x
+      go (unreadable g) n = refl
+      go (readable s) n = let z : ◌≡◌ {A = ℕ} 0 1 = cc in absurd (omega arith)
 
   module _ (r : code.Line) (e : record_at block at ≡ Ok (Some r)) where
     -- the size so far, with the line's, has room

@@ -5,65 +5,48 @@
 ghost use Rattle.std.specs.Prelude.{◌≡◌, not, ◌||◌, ◌&&◌, [], ◌+◌, ◌<◌, ◌^◌, length};
 ghost use Rattle.rules.specs.Text.{all};
 ghost use Rattle.rules.specs.Block.{lines};
-ghost use Rattle.rules.specs.Numbers.{code_number};
+ghost use Rattle.rules.specs.Named.{code_named, reason_of};
 ghost use Rattle.rules.specs.Section.{is_empty, code_of};
 ghost use Rattle.fields.specs.Bytes.{is_in};
 ghost use Rattle.fields.specs.Walk.{held};
 ghost use Rattle.fields.specs.Decimal.{capped};
-ghost use Rattle.section.specs.Checks.{reason_at, lower_of, lowest};
+ghost use Rattle.section.specs.Checks.{lower_of, lowest, found};
 ghost use Rattle.section.specs.Names.{method, host, content_length, te, unknown, other_name, one_name, of_seven, of_ten, long_name, name_of};
-ghost use Rattle.section.specs.Facts.{no_facts, kept_of, keep_at, known_by, plain_by, note_by, line_step, facts_of, value_at, Walks};
+ghost use Rattle.section.specs.Facts.{no_facts, kept_of, keep_at, known_by, plain_by, note_by, line_step, facts_of, value_at, walked};
 ghost use Rattle.section.specs.Judging.{header_row, by_places, is_http, is_path, sends_content, by_request, by_authority, by_trailers, stated_by};
+ghost use Rattle.section.specs.declared.Fault.TheVariants as faults;
 ghost use Rattle.section.specs.Answer.{stated_of, header_answer, trailer_answer};
 
-use fields::{Class, Table};
+use fields::{Class, Table, Unreadable};
+use rules::codes::Code;
+use rules::reasons::Reason;
 
 // ---- reasons
 
-// No check is broken.
-const NONE: usize = 25;
-
 // The code of a refusal.
-pub fn code(reason: usize) -> u64
-    ensures { result ≡ code_number (code_of (reason_at reason)) }
+#[tactic(auto, unfolding(rules::specs::Section::fate_of, rules::specs::Section::code_of))]
+pub fn code(reason: Reason) -> Code
+    ensures { result ≡ code_named (code_of (reason_of reason)) }
 {
     match reason {
-        rules::reasons::CONNECT
-        | rules::reasons::OTHER_SCHEME
-        | rules::reasons::LENGTH_PAST_LIMIT
-        | rules::reasons::NO_LENGTH => { rules::REQUEST_REJECTED }
-        _ => rules::MESSAGE_ERROR,
+        Reason::Connect | Reason::OtherScheme | Reason::LengthPastLimit | Reason::NoLength => {
+            Code::RequestRejected
+        }
+        _ => Code::MessageError,
     }
 }
 
 // The lowest broken check, with one more.
-fn lower(first: usize, check: usize, broken: bool) -> usize
+fn lower(first: Option<Reason>, check: Reason, broken: bool) -> Option<Reason>
     ensures { result ≡ lower_of first check broken }
 {
-    if broken {
-        if check < first {
-            return check;
-        }
+    if !broken {
+        return first;
     }
-    first
-}
-
-fn either(a: bool, b: bool) -> bool
-    ensures { result ≡ (a || b) }
-{
-    if a {
-        return true;
+    match first {
+        Some(reason) if reason < check => first,
+        _ => Some(check),
     }
-    b
-}
-
-fn both(a: bool, b: bool) -> bool
-    ensures { result ≡ (a && b) }
-{
-    if a {
-        return b;
-    }
-    false
 }
 
 // ---- what a name is to the rules
@@ -172,7 +155,7 @@ const ABOVE: usize = 4_611_686_018_427_387_904;
 #[derive(Clone, Copy)]
 struct Facts {
     size: usize,
-    first: usize,
+    first: Option<Reason>,
     pseudo: bool,
     plain: bool,
     stated: u64,
@@ -185,7 +168,7 @@ fn nothing() -> Facts
 {
     Facts {
         size: 0,
-        first: NONE,
+        first: None,
         pseudo: false,
         plain: false,
         stated: 0,
@@ -222,8 +205,8 @@ fn known_line(f: Facts, k: usize, from: usize, to: usize) -> Facts
     requires { k < 6 }
     ensures { result ≡ known_by k f from to }
 {
-    let n = lower(f.first, rules::reasons::REPEATED_PSEUDO, f.to[k] != 0);
-    let first = lower(n, rules::reasons::LATE_PSEUDO, f.plain);
+    let n = lower(f.first, Reason::RepeatedPseudo, f.to[k] != 0);
+    let first = lower(n, Reason::LatePseudo, f.plain);
     let mut g = keep(f, k, from, to);
     g.first = first;
     g.pseudo = true;
@@ -246,7 +229,7 @@ fn method_line<'a>(f: Facts, table: &'a Table, value: &'a [u8], from: usize, to:
     let mut g = known_line(f, METHOD, from, to);
     let first = lower(
         g.first,
-        rules::reasons::BAD_METHOD,
+        Reason::BadMethod,
         not_all(table, value, Class::Token),
     );
     g.first = first;
@@ -254,7 +237,7 @@ fn method_line<'a>(f: Facts, table: &'a Table, value: &'a [u8], from: usize, to:
 }
 
 // A line that is no pseudo-field.
-fn plain_line(f: Facts, first: usize) -> Facts
+fn plain_line(f: Facts, first: Option<Reason>) -> Facts
     ensures { result ≡ plain_by f first }
 {
     let mut g = f;
@@ -266,7 +249,7 @@ fn plain_line(f: Facts, first: usize) -> Facts
 fn host_line(f: Facts, from: usize, to: usize) -> Facts
     ensures { result ≡ note_by host f [] from to }
 {
-    let first = lower(f.first, rules::reasons::REPEATED_HOST, f.to[HOST] != 0);
+    let first = lower(f.first, Reason::RepeatedHost, f.to[HOST] != 0);
     let mut g = keep(f, HOST, from, to);
     g.first = first;
     g.plain = true;
@@ -287,13 +270,9 @@ fn length_line<'a>(f: Facts, table: &'a Table, value: &'a [u8], from: usize, to:
 {
     let there = f.to[LENGTH];
     let number = fields::decimal_of(value);
-    let n = lower(f.first, rules::reasons::REPEATED_LENGTH, there != 0);
-    let n = lower(
-        n,
-        rules::reasons::NO_DIGITS,
-        not_all(table, value, Class::Digit),
-    );
-    let first = lower(n, rules::reasons::LENGTH_ABOVE, LARGEST < number);
+    let n = lower(f.first, Reason::RepeatedLength, there != 0);
+    let n = lower(n, Reason::NoDigits, not_all(table, value, Class::Digit));
+    let first = lower(n, Reason::LengthAbove, LARGEST < number);
     let stated = kept_number(there, f.stated, number);
     let mut g = keep(f, LENGTH, from, to);
     g.first = first;
@@ -307,7 +286,7 @@ fn te_line(f: Facts, value: &[u8]) -> Facts
 {
     let first = lower(
         f.first,
-        rules::reasons::OTHER_TE,
+        Reason::OtherTe,
         !fields::same_bytes(value, b"trailers"),
     );
     plain_line(f, first)
@@ -316,22 +295,15 @@ fn te_line(f: Facts, value: &[u8]) -> Facts
 fn unknown_line(f: Facts) -> Facts
     ensures { result ≡ note_by unknown f [] 0 0 }
 {
-    let n = lower(f.first, rules::reasons::UNKNOWN_PSEUDO, true);
-    let first = lower(n, rules::reasons::LATE_PSEUDO, f.plain);
+    let n = lower(f.first, Reason::UnknownPseudo, true);
+    let first = lower(n, Reason::LatePseudo, f.plain);
     let mut g = f;
     g.first = first;
     g.pseudo = true;
     g
 }
 
-fn noted<'a>(
-    f: Facts,
-    table: &'a Table,
-    k: usize,
-    value: &'a [u8],
-    from: usize,
-    to: usize,
-) -> Facts
+fn noted<'a>(f: Facts, table: &'a Table, k: usize, value: &'a [u8], from: usize, to: usize) -> Facts
     requires { k < 10 }
     ensures { result ≡ note_by k f value.now from to }
 {
@@ -344,7 +316,7 @@ fn noted<'a>(
         LENGTH => length_line(f, table, value, from, to),
         TE => te_line(f, value),
         CONNECTION => {
-            let first = lower(f.first, rules::reasons::CONNECTION_FIELD, true);
+            let first = lower(f.first, Reason::ConnectionField, true);
             plain_line(f, first)
         }
         UNKNOWN => unknown_line(f),
@@ -374,52 +346,41 @@ fn with_line<'a>(
     let size = held_below(f.size + (name.len() + value.len() + 32));
     let bad = table.bad_line(name, value);
     let mut g = noted(f, table, name_of(name), value, from, to);
-    let first = lower(g.first, rules::reasons::BAD_BYTES, bad);
+    let first = lower(g.first, Reason::BadBytes, bad);
     g.size = size;
     g.first = first;
     g
 }
 
-#[derive(Clone, Copy)]
-struct Walked {
-    readable: bool,
-    facts: Facts,
+// Why a block is no sound section.
+#[derive(Clone, Copy, Debug, PartialEq, Eq)]
+pub enum Fault {
+    Unreadable,
+    Refused(Reason),
 }
 
-// The one walk of the lines: those of an unreadable block up to the flaw.
-fn walk_lines(block: &[u8]) -> Walked
-    ensures { Walks block.now result }
+impl From<Unreadable> for Fault {
+    ghost from_gives = { λ _ fault. fault ≡ faults.Unreadable };
+
+    fn from(_unreadable: Unreadable) -> Fault {
+        Fault::Unreadable
+    }
+}
+
+// The one walk of the lines.
+fn walk_lines(block: &[u8]) -> Result<Facts, Fault>
+    ensures { result ≡ walked (lines block.now) }
 {
     let table = fields::classes();
     let mut at = 0;
-    let mut f = nothing();
-    loop {
-        match fields::line_at(block, at) {
-            Ok(None) => {
-                return Walked {
-                    readable: true,
-                    facts: f,
-                };
-            }
-            Err(_) => {
-                return Walked {
-                    readable: false,
-                    facts: f,
-                };
-            }
-            Ok(Some(line)) => {
-                f = with_line(
-                    f,
-                    &table,
-                    &block[line.name..line.value],
-                    &block[line.value..line.next],
-                    line.value,
-                    line.next,
-                );
-                at = line.next;
-            }
-        }
+    let mut facts = nothing();
+    while let Some(line) = fields::line_at(block, at)? {
+        let name = &block[line.name..line.value];
+        let value = &block[line.value..line.next];
+        facts = with_line(facts, &table, name, value, line.value, line.next);
+        at = line.next;
     }
+    Ok(facts)
 }
 
 // ---- a header section
@@ -435,48 +396,36 @@ fn value_of(block: &[u8], f: Facts, k: usize) -> &[u8]
 }
 
 // The size, and what must be there.
-fn places_fault(f: Facts) -> usize
+fn places_fault(f: Facts) -> Option<Reason>
     ensures { result ≡ by_places f }
 {
-    let n = lower(f.first, rules::reasons::TOO_LARGE, SIZE_LIMIT < f.size);
-    let n = lower(n, rules::reasons::NO_METHOD, f.to[METHOD] == 0);
-    let two = both(f.to[SCHEME] != 0, f.to[PATH] != 0);
-    let n = lower(n, rules::reasons::NO_SCHEME_OR_PATH, !two);
-    lower(
-        n,
-        rules::reasons::LENGTH_PAST_LIMIT,
-        LENGTH_LIMIT < f.stated,
-    )
+    let n = lower(f.first, Reason::TooLarge, SIZE_LIMIT < f.size);
+    let n = lower(n, Reason::NoMethod, f.to[METHOD] == 0);
+    let two = f.to[SCHEME] != 0 && f.to[PATH] != 0;
+    let n = lower(n, Reason::NoSchemeOrPath, !two);
+    lower(n, Reason::LengthPastLimit, LENGTH_LIMIT < f.stated)
 }
 
 fn is_http(scheme: &[u8]) -> bool
     ensures { result ≡ is_http scheme.now }
 {
-    either(
-        fields::same_bytes(scheme, b"http"),
-        fields::same_bytes(scheme, b"https"),
-    )
+    fields::same_bytes(scheme, b"http") || fields::same_bytes(scheme, b"https")
 }
 
 // `*` is fine with OPTIONS.
 fn is_path<'a>(path: &'a [u8], method: &'a [u8]) -> bool
     ensures { result ≡ is_path path.now method.now }
 {
-    let star = both(
-        fields::same_bytes(b"*", path),
-        fields::same_bytes(b"OPTIONS", method),
-    );
-    either(fields::begins_with(path, b'/'), star)
+    fields::begins_with(path, b'/')
+        || (fields::same_bytes(b"*", path) && fields::same_bytes(b"OPTIONS", method))
 }
 
 fn sends_content(method: &[u8]) -> bool
     ensures { result ≡ sends_content method.now }
 {
-    let two = either(
-        fields::same_bytes(method, b"PUT"),
-        fields::same_bytes(method, b"POST"),
-    );
-    either(two, fields::same_bytes(method, b"PATCH"))
+    fields::same_bytes(method, b"PUT")
+        || fields::same_bytes(method, b"POST")
+        || fields::same_bytes(method, b"PATCH")
 }
 
 // What the method, the scheme and the path say, and whether a length is stated.
@@ -485,22 +434,14 @@ fn request_fault<'a>(
     scheme: &'a [u8],
     path: &'a [u8],
     stated: bool,
-    n: usize,
-) -> usize
+    n: Option<Reason>,
+) -> Option<Reason>
     ensures { result ≡ by_request method.now scheme.now path.now stated n }
 {
-    let n = lower(
-        n,
-        rules::reasons::CONNECT,
-        fields::same_bytes(b"CONNECT", method),
-    );
-    let n = lower(n, rules::reasons::OTHER_SCHEME, !is_http(scheme));
-    let n = lower(n, rules::reasons::BAD_PATH, !is_path(path, method));
-    lower(
-        n,
-        rules::reasons::NO_LENGTH,
-        both(sends_content(method), !stated),
-    )
+    let n = lower(n, Reason::Connect, fields::same_bytes(b"CONNECT", method));
+    let n = lower(n, Reason::OtherScheme, !is_http(scheme));
+    let n = lower(n, Reason::BadPath, !is_path(path, method));
+    lower(n, Reason::NoLength, sends_content(method) && !stated)
 }
 
 // What the authority and the host say, each with whether it is there.
@@ -509,28 +450,21 @@ fn authority_fault<'a>(
     given: bool,
     host: &'a [u8],
     hosted: bool,
-    n: usize,
-) -> usize
+    n: Option<Reason>,
+) -> Option<Reason>
     ensures { result ≡ by_authority authority.now given host.now hosted n }
 {
-    let n = lower(n, rules::reasons::NO_AUTHORITY, !either(given, hosted));
-    let empty = either(
-        both(given, authority.len() == 0),
-        both(hosted, host.len() == 0),
-    );
-    let n = lower(n, rules::reasons::EMPTY_AUTHORITY, empty);
-    let differ = both(both(given, hosted), !fields::same_bytes(authority, host));
-    let n = lower(n, rules::reasons::AUTHORITIES_DIFFER, differ);
-    lower(
-        n,
-        rules::reasons::AT_IN_AUTHORITY,
-        fields::has_byte(authority, b'@'),
-    )
+    let n = lower(n, Reason::NoAuthority, !(given || hosted));
+    let empty = (given && authority.is_empty()) || (hosted && host.is_empty());
+    let n = lower(n, Reason::EmptyAuthority, empty);
+    let differ = given && hosted && !fields::same_bytes(authority, host);
+    let n = lower(n, Reason::AuthoritiesDiffer, differ);
+    lower(n, Reason::AtInAuthority, fields::has_byte(authority, b'@'))
 }
 
-fn header_fault(block: &[u8], f: Facts) -> usize
+fn header_fault(block: &[u8], f: Facts) -> Option<Reason>
     requires { f ≡ facts_of (held block.now) }
-    ensures { result ≡ lowest (header_row (held block.now)) }
+    ensures { result ≡ found (lowest (header_row (held block.now))) }
 {
     let n = request_fault(
         value_of(block, f, METHOD),
@@ -548,81 +482,55 @@ fn header_fault(block: &[u8], f: Facts) -> usize
     )
 }
 
-// The Content-Length that a header section states.
-#[derive(Clone, Copy)]
-pub enum Stated {
-    Nothing,
-    Length(u64),
+// Where in the block the method begins and ends, and the Content-Length that is stated.
+#[derive(Clone, Copy, Debug, PartialEq, Eq)]
+pub struct Sound {
+    pub method: usize,
+    pub end: usize,
+    pub stated: Option<u64>,
 }
 
-// Refused with the number of the reason (rules::reasons); or sound, with where in the block the method begins and ends, and the length that is stated.
-#[derive(Clone, Copy)]
-pub enum HeaderAnswer {
-    Unreadable,
-    Refused(usize),
-    Sound {
-        method: usize,
-        end: usize,
-        stated: Stated,
-    },
-}
-
-fn stated_length(f: Facts) -> Stated
+#[tactic(auto, unfolding(crate::specs::Judging::stated_by))]
+fn stated_length(f: Facts) -> Option<u64>
     ensures { result ≡ stated_of (stated_by f) }
 {
     if f.to[LENGTH] == 0 {
-        return Stated::Nothing;
+        None
+    } else {
+        Some(f.stated)
     }
-    Stated::Length(f.stated)
 }
 
-pub fn header_section(block: &[u8]) -> HeaderAnswer
+pub fn header_section(block: &[u8]) -> Result<Sound, Fault>
     ensures { result ≡ header_answer (lines block.now) }
 {
-    let walked = walk_lines(block);
-    if !walked.readable {
-        return HeaderAnswer::Unreadable;
-    }
-    let f = walked.facts;
-    let n = header_fault(block, f);
-    if n < NONE {
-        return HeaderAnswer::Refused(n);
-    }
-    HeaderAnswer::Sound {
-        method: f.from[METHOD],
-        end: f.to[METHOD],
-        stated: stated_length(f),
+    let facts = walk_lines(block)?;
+    match header_fault(block, facts) {
+        Some(reason) => Err(Fault::Refused(reason)),
+        None => Ok(Sound {
+            method: facts.from[METHOD],
+            end: facts.to[METHOD],
+            stated: stated_length(facts),
+        }),
     }
 }
 
 // ---- trailers
 
-#[derive(Clone, Copy)]
-pub enum TrailerAnswer {
-    Unreadable,
-    Refused(usize),
-    Sound,
-}
-
-fn trailer_fault(f: Facts) -> usize
+fn trailer_fault(f: Facts) -> Option<Reason>
     ensures { result ≡ by_trailers f }
 {
-    let n = lower(f.first, rules::reasons::TOO_LARGE, SIZE_LIMIT < f.size);
-    let n = lower(n, rules::reasons::PSEUDO_IN_TRAILERS, f.pseudo);
-    lower(n, rules::reasons::LENGTH_IN_TRAILERS, f.to[LENGTH] != 0)
+    let n = lower(f.first, Reason::TooLarge, SIZE_LIMIT < f.size);
+    let n = lower(n, Reason::PseudoInTrailers, f.pseudo);
+    lower(n, Reason::LengthInTrailers, f.to[LENGTH] != 0)
 }
 
-pub fn trailers(block: &[u8]) -> TrailerAnswer
+pub fn trailers(block: &[u8]) -> Result<(), Fault>
     ensures { result ≡ trailer_answer (lines block.now) }
 {
-    let walked = walk_lines(block);
-    if !walked.readable {
-        return TrailerAnswer::Unreadable;
+    let facts = walk_lines(block)?;
+    match trailer_fault(facts) {
+        Some(reason) => Err(Fault::Refused(reason)),
+        None => Ok(()),
     }
-    let f = walked.facts;
-    let n = trailer_fault(f);
-    if n < NONE {
-        return TrailerAnswer::Refused(n);
-    }
-    TrailerAnswer::Sound
 }

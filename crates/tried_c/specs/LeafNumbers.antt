@@ -1,17 +1,16 @@
 -- What the rules say, as the numbers that cross to another language; a refusal leaves `out` as it was. Assumes nothing.
-use Rattle.std.specs.Prelude.{ℕ, ◌≡◌, List, Bool, true, false, set}
-use Rattle.std.proofs.Common.{ap, ◌∙◌}
+use Rattle.std.specs.Prelude.{ℕ, ◌≡◌, List, Bool, true, false, set, Result, Ok, Err}
+use Rattle.std.proofs.Common.{refl, ap, ◌∙◌}
 use Rattle.std.proofs.Math.Option.{Option, none, some}
 use Rattle.rules.specs.Integers.{Int, cut, got}
 use Rattle.meaning.specs.NumberLaws.{Numbered, stops, goes}
 use Rattle.rules.specs.Control.{Settings}
 use Rattle.rules.specs.Writer.{Write}
-use Rattle.varint.specs.Write.{Meets, wrote_of, left_in}
-use Rattle.varint.specs.declared.Wrote.{Wrote}
-use Rattle.varint.specs.declared.Wrote.TheVariants.{Refused, Count}
-use Rattle.section.specs.declared.HeaderAnswer.{HeaderAnswer}
-use Rattle.section.specs.declared.HeaderAnswer.TheVariants as header
-use Rattle.section.specs.Answer.{read_stated}
+use Rattle.rules.specs.declared.codes.House.{House}
+use Rattle.varint.specs.Write.{Wrote, Meets, wrote_of, answer_of, left_in}
+use mir.Val.{bool_byte}
+use Rattle.std.specs.Prelude.{Option as Maybe, Some, None, is_some, unwrap_or}
+use Rattle.section.specs.Answer.{HeaderAnswer, read_stated}
 
 -- ---- an optional number is two: whether it is there, and itself or 0
 
@@ -22,6 +21,14 @@ stated (some n) = 1
 abbrev pub value_or0 : Option ℕ → ℕ
 value_or0 none = 0
 value_or0 (some n) = n
+
+pub stated_told : (o : Maybe ℕ) → bool_byte (is_some o) ≡ stated (read_stated o)
+stated_told None = refl
+stated_told (Some n) = refl
+
+pub value_told : (o : Maybe ℕ) → unwrap_or o 0 ≡ value_or0 (read_stated o)
+value_told None = refl
+value_told (Some n) = refl
 
 -- ---- SETTINGS
 
@@ -47,10 +54,9 @@ read_out (got value next rest) out = set (set out 0 value) 1 next
 -- ---- a header section
 
 unfoldable pub header_out : HeaderAnswer → List ℕ → List ℕ
-header_out header.Unreadable out = out
-header_out (header.Refused reason) out = out
-header_out (header.Sound method end length) out =
-    set (set (set (set out 0 (stated (read_stated length))) 1 (value_or0 (read_stated length))) 2 method) 3 end
+header_out (Err e) out = out
+header_out (Ok s) out =
+    set (set (set (set out 0 (stated (read_stated s.stated))) 1 (value_or0 (read_stated s.stated))) 2 s.method) 3 s.end
 
 -- ---- a write
 
@@ -59,20 +65,20 @@ given true n = some n
 given false n = none
 
 abbrev pub wrote_number : Wrote → ℕ
-wrote_number (Refused number) = number
-wrote_number (Count n) = 0
+wrote_number (Err number) = number
+wrote_number (Ok n) = 0
 
 abbrev pub wrote_out : Wrote → List ℕ → List ℕ
-wrote_out (Refused number) out = out
-wrote_out (Count n) out = set out 0 n
+wrote_out (Err number) out = out
+wrote_out (Ok n) out = set out 0 n
 
 pub record Written (w : Write) (room out : List ℕ) (r : ℕ) (room_left out-left : List ℕ) : Type 0 where
   pub answers : r ≡ wrote_number (wrote_of w)
   pub leaves : room_left ≡ left_in w room
   pub counts : out-left ≡ wrote_out (wrote_of w) out
 
-pub written : {w : Write} {room out room_left out-left : List ℕ} {r : ℕ} {a : Wrote}
-    → Meets w room a room_left → r ≡ wrote_number a → out-left ≡ wrote_out a out → Written w room out r room_left out-left
+pub written : {w : Write} {room out room_left out-left : List ℕ} {r : ℕ} {a : Result ℕ House}
+    → Meets w room a room_left → r ≡ wrote_number (answer_of a) → out-left ≡ wrote_out (answer_of a) out → Written w room out r room_left out-left
 written {out} m e f = record {
   answers = e ∙ ap wrote_number m.answers;
   leaves = m.leaves;

@@ -1,13 +1,12 @@
 // Calls on one stream for a tester in another language (tests/feeds): by value, in numbers, for any numbers.
 ghost use Rattle.std.specs.Prelude.{◌≡◌};
-ghost use Rattle.varint.specs.ByByte.{part, Good};
-ghost use Rattle.frames.specs.Answers.{Sane};
 ghost use Rattle.frames.specs.End.{Ends};
+ghost use Rattle.record.specs.Sound.{Decides};
 ghost use Rattle.requests.specs.Taken.{given_of};
 ghost use Rattle.oneway.specs.Stands.{OneSound};
 ghost use Rattle.control.specs.Judged.{judged_of};
-ghost use Rattle.tried_c.specs.StreamNumbers.{Tells, refused, report_of, Reported};
-ghost use Rattle.tried_c.specs.OneWayNumbers.{way_report_of, WayReported};
+ghost use Rattle.tried_c.specs.StreamNumbers.{refused, report_of, Reported};
+ghost use Rattle.tried_c.specs.OneWayNumbers.{way_refused, way_report_of, WayReported};
 
 use control::{Kept, Verdict};
 use frames::{Answer, Cells};
@@ -27,49 +26,10 @@ pub struct Report {
     pub cells: Cells,
 }
 
-// ---- which cells a stream can be at
-
-// Whether reading leaves an integer so: the bytes due keep the whole below 2^62.
-fn is_part(acc: u64, due: u64) -> bool
-    ensures { Tells result (Good (part acc due)) }
-{
-    if 7 < due {
-        return false;
-    }
-    acc < 0x4000000000000000 >> (8 * due)
-}
-
-fn is_sane(c: Cells) -> bool
-    ensures { Tells result (Sane c) }
-{
-    if frames::IN_CANCEL_PUSH < c.mode {
-        return false;
-    }
-    if 0x4000000000000000 <= c.acc {
-        return false;
-    }
-    if 0x4000000000000000 <= c.ftype {
-        return false;
-    }
-    if 0x4000000000000000 < c.sum {
-        return false;
-    }
-    if 0x4000000000000000 < c.stated {
-        return false;
-    }
-    if c.mode < frames::IN_SKIPPED {
-        return is_part(c.acc, c.due);
-    }
-    if c.mode == frames::HEADER_SECTION_DUE {
-        return true;
-    }
-    if c.mode == frames::TRAILERS_DUE {
-        return true;
-    }
-    0 < c.acc
-}
-
 // ---- the calls
+
+// The number beside those of rules: at such numbers there is no stream.
+const NO_STREAM: u64 = 10;
 
 fn refusal(number: u64, at: Cells) -> Report
     ensures { result ≡ refused number at }
@@ -86,30 +46,25 @@ fn refusal(number: u64, at: Cells) -> Report
 }
 
 // A fault leaves the stream where it stood.
+#[tactic(auto, unfolding(crate::specs::StreamNumbers::fault_or))]
 fn reported(a: Answer, at: Cells) -> Report
     ensures { result ≡ report_of at a }
 {
     if a.event == rules::FAULT {
-        Report {
-            number: a.len,
-            event: rules::NOTHING,
-            start: 0,
-            len: 0,
+        return Report {
             used: a.used,
             heads: a.heads,
-            cells: at,
-        }
-    } else {
-        let cells = a.cells;
-        Report {
-            number: 0,
-            event: a.event,
-            start: a.start,
-            len: a.len,
-            used: a.used,
-            heads: a.heads,
-            cells,
-        }
+            ..refusal(a.len, at)
+        };
+    }
+    Report {
+        number: rules::ACCEPTED,
+        event: a.event,
+        start: a.start,
+        len: a.len,
+        used: a.used,
+        heads: a.heads,
+        cells: a.cells,
     }
 }
 
@@ -118,16 +73,12 @@ fn reported(a: Answer, at: Cells) -> Report
 pub extern "C" fn eist_feed(at: Cells, piece: &[u8], allow: u64) -> Report
     ensures { Reported at piece.now allow result }
 {
-    if is_sane(at) {
-        if at.mode == frames::HEADER_SECTION_DUE {
-            return refusal(4, at);
-        }
-        if at.mode == frames::TRAILERS_DUE {
-            return refusal(4, at);
-        }
-        reported(frames::feed(piece, at, allow), at)
-    } else {
-        refusal(10, at)
+    if !record::is_sane(at) {
+        return refusal(NO_STREAM, at);
+    }
+    match at.mode {
+        frames::HEADER_SECTION_DUE | frames::TRAILERS_DUE => refusal(rules::SECTION_DUE, at),
+        _ => reported(frames::feed(piece, at, allow), at),
     }
 }
 
@@ -162,51 +113,53 @@ pub struct WayReport {
     pub stream: OneWay,
 }
 
+#[tactic(auto, unfolding(oneway::specs::Stands::OneSoundAt))]
 fn is_sound(w: OneWay) -> bool
-    ensures { Tells result (OneSound w) }
+    ensures { Decides (OneSound w) result }
 {
-    let c = w.cells;
-    if w.kind < record::UNTYPED {
-        return false;
+    match w.kind {
+        record::FREE | record::REQUEST => false,
+        record::UNTYPED => record::is_part(w.cells.acc, w.cells.due),
+        record::CONTROL => frames::UNSET <= w.cells.phase && record::is_sane(w.cells),
+        _ => true,
     }
-    if w.kind == record::UNTYPED {
-        return is_part(c.acc, c.due);
-    }
-    if record::CONTROL < w.kind {
-        return true;
-    }
-    if c.phase < frames::UNSET {
-        return false;
-    }
-    is_sane(c)
 }
 
+fn way_refusal(number: u64, at: OneWay) -> WayReport
+    ensures { result ≡ way_refused number at }
+{
+    WayReport {
+        number,
+        event: rules::NOTHING,
+        start: 0,
+        len: 0,
+        used: 0,
+        heads: 0,
+        payload: 0,
+        stream: at,
+    }
+}
+
+#[tactic(auto, unfolding(crate::specs::OneWayNumbers::way_fault_or))]
 fn way_reported(a: OneAnswer, at: OneWay) -> WayReport
     ensures { result ≡ way_report_of at a }
 {
     if a.event == rules::FAULT {
-        WayReport {
-            number: a.len,
-            event: rules::NOTHING,
-            start: 0,
-            len: 0,
+        return WayReport {
             used: a.used,
             heads: a.heads,
-            payload: 0,
-            stream: at,
-        }
-    } else {
-        let stream = a.stream;
-        WayReport {
-            number: 0,
-            event: a.event,
-            start: a.start,
-            len: a.len,
-            used: a.used,
-            heads: a.heads,
-            payload: a.payload,
-            stream,
-        }
+            ..way_refusal(a.len, at)
+        };
+    }
+    WayReport {
+        number: rules::ACCEPTED,
+        event: a.event,
+        start: a.start,
+        len: a.len,
+        used: a.used,
+        heads: a.heads,
+        payload: a.payload,
+        stream: a.stream,
     }
 }
 
@@ -217,16 +170,7 @@ pub extern "C" fn eist_feed_way(at: OneWay, came: Seen, piece: &[u8], allow: u64
     if is_sound(at) {
         way_reported(oneway::feed(piece, at, came, allow), at)
     } else {
-        WayReport {
-            number: 10,
-            event: rules::NOTHING,
-            start: 0,
-            len: 0,
-            used: 0,
-            heads: 0,
-            payload: 0,
-            stream: at,
-        }
+        way_refusal(NO_STREAM, at)
     }
 }
 

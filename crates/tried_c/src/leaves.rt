@@ -3,40 +3,18 @@ ghost use Rattle.std.specs.Prelude.{◌≡◌, length, drop};
 ghost use Rattle.rules.specs.Integers.{integer};
 ghost use Rattle.rules.specs.Control.{settings_of};
 ghost use Rattle.rules.specs.Writer.{write_integer, write_header, write_integer_frame, write_opening, write_goaway};
-ghost use Rattle.control.specs.Answers.{size_is};
 ghost use Rattle.rules.specs.Block.{lines};
-ghost use Rattle.section.specs.Answer.{read_stated, header_answer, header_number, trailer_answer, trailer_number};
-ghost use Rattle.wire.specs.Goaway.{sent_of};
+ghost use Rattle.section.specs.Answer.{header_answer, header_number, trailer_answer, trailer_number};
+ghost use Rattle.varint.specs.Write.{answer_of};
 ghost use Rattle.meaning.specs.NumberLaws.{numbered};
-ghost use Rattle.tried_c.specs.LeafNumbers.{stated, value_or0, settings_number, settings_out, read_number, read_out, header_out, wrote_number, wrote_out, given, Written};
+ghost use Rattle.tried_c.specs.LeafNumbers.{settings_number, settings_out, read_number, read_out, header_out, wrote_number, wrote_out, given, Written};
 
-use control::settings::{Judged, SectionSize};
-use section::{HeaderAnswer, Stated, TrailerAnswer};
-use varint::{Whole, Wrote};
-use wire::Sent;
+use rules::codes::House;
+use section::Fault;
+use varint::Whole;
 use wire::ids::StreamId;
 
 // ---- SETTINGS
-
-// Whether a section size is stated: 1 or 0.
-fn is_limited(size: SectionSize) -> u64
-    ensures { result ≡ stated (size_is size) }
-{
-    match size {
-        SectionSize::Unlimited => 0,
-        SectionSize::AtMost(_) => 1,
-    }
-}
-
-// The section size; 0 where none is stated.
-fn limit(size: SectionSize) -> u64
-    ensures { result ≡ value_or0 (size_is size) }
-{
-    match size {
-        SectionSize::Unlimited => 0,
-        SectionSize::AtMost(n) => n,
-    }
-}
 
 // 0, or the code of a SETTINGS payload. out, where it is 0: whether 6 is there, 6, 1, 7.
 #[unsafe(no_mangle)]
@@ -45,11 +23,10 @@ pub extern "C" fn eist_settings(payload: &[u8], out: &mut [u64; 4]) -> u64
     ensures out_after { out.new ≡ settings_out (numbered (settings_of payload.now)) out.old }
 {
     match control::settings::judge(payload) {
-        Judged::Refused(code) => code,
-        Judged::Kept(s) => {
-            let size = s.size;
-            out[0] = is_limited(size);
-            out[1] = limit(size);
+        Err(code) => code.number(),
+        Ok(s) => {
+            out[0] = u64::from(s.size.is_some());
+            out[1] = s.size.unwrap_or(0);
             out[2] = s.capacity;
             out[3] = s.blocked;
             0
@@ -66,8 +43,8 @@ pub extern "C" fn eist_read(bytes: &[u8], at: usize, out: &mut [u64; 2]) -> u64
     ensures out_after { out.new ≡ read_out (integer at (drop at bytes.now)) out.old }
 {
     match varint::read(bytes, at) {
-        Whole::Short => 0,
-        Whole::Value { value, next } => {
+        None => 0,
+        Some(Whole { value, next }) => {
             out[0] = value;
             out[1] = next as u64;
             1
@@ -77,26 +54,6 @@ pub extern "C" fn eist_read(bytes: &[u8], at: usize, out: &mut [u64; 2]) -> u64
 
 // ---- sections
 
-// Whether a Content-Length is stated: 1 or 0.
-fn is_stated(length: Stated) -> u64
-    ensures { result ≡ stated (read_stated length) }
-{
-    match length {
-        Stated::Nothing => 0,
-        Stated::Length(_) => 1,
-    }
-}
-
-// The Content-Length; 0 where none is stated.
-fn length_of(length: Stated) -> u64
-    ensures { result ≡ value_or0 (read_stated length) }
-{
-    match length {
-        Stated::Nothing => 0,
-        Stated::Length(n) => n,
-    }
-}
-
 // 0, 6, or the code of a header section. out, where it is 0: whether a Content-Length is stated, which, and where the method begins and ends.
 #[unsafe(no_mangle)]
 pub extern "C" fn eist_header_section(block: &[u8], out: &mut [u64; 4]) -> u64
@@ -104,17 +61,13 @@ pub extern "C" fn eist_header_section(block: &[u8], out: &mut [u64; 4]) -> u64
     ensures out_after { out.new ≡ header_out (header_answer (lines block.now)) out.old }
 {
     match section::header_section(block) {
-        HeaderAnswer::Unreadable => 6,
-        HeaderAnswer::Refused(reason) => section::code(reason),
-        HeaderAnswer::Sound {
-            method,
-            end,
-            stated: length,
-        } => {
-            out[0] = is_stated(length);
-            out[1] = length_of(length);
-            out[2] = method as u64;
-            out[3] = end as u64;
+        Err(Fault::Unreadable) => 6,
+        Err(Fault::Refused(reason)) => section::code(reason).number(),
+        Ok(sound) => {
+            out[0] = u64::from(sound.stated.is_some());
+            out[1] = sound.stated.unwrap_or(0);
+            out[2] = sound.method as u64;
+            out[3] = sound.end as u64;
             0
         }
     }
@@ -126,21 +79,21 @@ pub extern "C" fn eist_trailers(block: &[u8]) -> u64
     ensures { result ≡ trailer_number (trailer_answer (lines block.now)) }
 {
     match section::trailers(block) {
-        TrailerAnswer::Unreadable => 6,
-        TrailerAnswer::Refused(reason) => section::code(reason),
-        TrailerAnswer::Sound => 0,
+        Err(Fault::Unreadable) => 6,
+        Err(Fault::Refused(reason)) => section::code(reason).number(),
+        Ok(()) => 0,
     }
 }
 
 // ---- the writer: 0, 7 or 8. out, where it is 0: how many bytes were written.
 
-fn told(w: Wrote, out: &mut [u64; 1]) -> u64
-    ensures value { result ≡ wrote_number w }
-    ensures out_after { out.new ≡ wrote_out w out.old }
+fn told(w: Result<usize, House>, out: &mut [u64; 1]) -> u64
+    ensures value { result ≡ wrote_number (answer_of w) }
+    ensures out_after { out.new ≡ wrote_out (answer_of w) out.old }
 {
     match w {
-        Wrote::Refused(number) => number,
-        Wrote::Count(n) => {
+        Err(refusal) => refusal.number(),
+        Ok(n) => {
             out[0] = n as u64;
             0
         }
@@ -185,16 +138,6 @@ pub extern "C" fn eist_write_opening(room: &mut [u8], out: &mut [u64; 1]) -> u64
     told(wire::write_opening(room), out)
 }
 
-fn sent_of(sent: bool, up: u64) -> Sent
-    ensures { sent_of result ≡ given sent up }
-{
-    if sent {
-        Sent::Up(StreamId(up))
-    } else {
-        Sent::Nothing
-    }
-}
-
 // sent: whether a GOAWAY was sent before, and up to which ID.
 #[unsafe(no_mangle)]
 pub extern "C" fn eist_write_goaway(
@@ -206,8 +149,6 @@ pub extern "C" fn eist_write_goaway(
 ) -> u64
     ensures { Written (write_goaway (given sent up) (length room.old) id) room.old out.old result room.new out.new }
 {
-    told(
-        wire::write_goaway(sent_of(sent, up), StreamId(id), room),
-        out,
-    )
+    let sent = sent.then_some(StreamId(up));
+    told(wire::write_goaway(sent, StreamId(id), room), out)
 }

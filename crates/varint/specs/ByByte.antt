@@ -5,8 +5,12 @@ use Rattle.std.proofs.Math.Nat.{pow-le-pow_right, one-le-pow}
 use Rattle.rules.specs.Integers.{extra}
 use Rattle.meaning.specs.Machine.{Prog, fresh, need, Fed, going, value, after, fed}
 use Rattle.varint.specs.declared.Part.{Part}
-use Rattle.varint.specs.declared.Step.{Step}
-use Rattle.varint.specs.declared.Step.TheVariants.{More, Done}
+use Rattle.std.specs.declared.ops.ControlFlow.{ControlFlow}
+use Rattle.std.specs.declared.ops.ControlFlow.TheVariants.{Continue, Break}
+
+-- a byte read: go on with the part, or break with the whole value
+abbrev pub Step : Type 0
+Step = ControlFlow ℕ Part
 
 abbrev pub part : (acc due : ℕ) → Part
 part acc due = record { acc = acc; due = due }
@@ -24,16 +28,16 @@ abbrev pub prog_of : Part → Prog
 prog_of p = prog p.due p.acc
 
 unfoldable pub read_as : Step → Fed
-read_as (More p) = going (prog_of p)
-read_as (Done v) = value v
+read_as (Continue p) = going (prog_of p)
+read_as (Break v) = value v
 
 unfoldable pub part_of : Prog → Part
 part_of fresh = fresh_part
 part_of (need k v) = part v (suc k)
 
 unfoldable pub step_as : Fed → Step
-step_as (going g) = More (part_of g)
-step_as (value v) = Done v
+step_as (going g) = Continue (part_of g)
+step_as (value v) = Break v
 
 unfoldable pub step_of : Part → ℕ → Step
 step_of p b = step_as (fed (prog_of p) b)
@@ -53,11 +57,11 @@ pub step_reads : (p : Part) (b : ℕ) → read_as (step_of p b) ≡ fed (prog_of
 unfolding step_of
 step_reads p b = kept_step (fed (prog_of p) b)
 
-pub step_more : (p : Part) (b : ℕ) {n : Part} → step_of p b ≡ More n → fed (prog_of p) b ≡ going (prog_of n)
+pub step_more : (p : Part) (b : ℕ) {n : Part} → step_of p b ≡ Continue n → fed (prog_of p) b ≡ going (prog_of n)
 unfolding read_as
 step_more p b e = sym (step_reads p b) ∙ ap read_as e
 
-pub step_done : (p : Part) (b : ℕ) {v : ℕ} → step_of p b ≡ Done v → fed (prog_of p) b ≡ value v
+pub step_done : (p : Part) (b : ℕ) {v : ℕ} → step_of p b ≡ Break v → fed (prog_of p) b ≡ value v
 unfolding read_as
 step_done p b e = sym (step_reads p b) ∙ ap read_as e
 
@@ -73,8 +77,8 @@ pub record Good (p : Part) : Type 0 where
   pub small : p.acc < 64 * 256 ^ (7 - p.due)
 
 abbrev pub GoodStep : Step → Type 0
-GoodStep (More p) = Good p
-GoodStep (Done v) = v < 2 ^ 62
+GoodStep (Continue p) = Good p
+GoodStep (Break v) = v < 2 ^ 62
 
 pub record Stepped (p : Part) (b : ℕ) (r : Step) : Type 0 where
   pub is : r ≡ step_of p b
@@ -128,11 +132,11 @@ unfolding step_as after part_of
 after_good zero v g = small g
 after_good (suc k) v g = g
 
-pub onward_done : (k v : ℕ) → k ≡ 0 → Done v ≡ step_as (after k v)
+pub onward_done : (k v : ℕ) → k ≡ 0 → Break v ≡ step_as (after k v)
 unfolding step_as after
 onward_done k v e = rw e
 
-pub onward_more : (k v : ℕ) → (k ≡ 0 → ⊥) → More (part v k) ≡ step_as (after k v)
+pub onward_more : (k v : ℕ) → (k ≡ 0 → ⊥) → Continue (part v k) ≡ step_as (after k v)
 unfolding step_as after part_of
 onward_more zero v n = absurd (n refl)
 onward_more (suc k) v n = refl

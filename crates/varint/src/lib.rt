@@ -7,9 +7,12 @@ ghost use Rattle.rules.specs.Integers.{extra, integer, written};
 ghost use Rattle.rules.specs.Writer.{write_integer};
 ghost use Rattle.meaning.specs.Machine.{after};
 ghost use Rattle.varint.specs.ByByte.{fresh_part, Good, step_as, Stepped};
-ghost use Rattle.varint.specs.Whole.{whole_at, end_of, whole_is, Ended, Valued};
-ghost use Rattle.varint.specs.Shortest.{form_of, size_of, bytes_of, Room};
+ghost use Rattle.varint.specs.Whole.{IsWhole, whole_is, Ended, Valued};
+ghost use Rattle.varint.specs.Shortest.{form_of, sized, bytes_of, Room};
 ghost use Rattle.varint.specs.Write.{Meets};
+
+use rules::codes::House;
+use std::ops::ControlFlow;
 
 // ---- a byte at a time
 
@@ -18,18 +21,6 @@ ghost use Rattle.varint.specs.Write.{Meets};
 pub struct Part {
     pub acc: u64,
     pub due: u64,
-}
-
-#[derive(Clone, Copy)]
-pub enum Step {
-    More(Part),
-    Done(u64),
-}
-
-fn wide(x: u8) -> u64
-    ensures { result ≡ x }
-{
-    x as u64
 }
 
 // How many bytes follow a first byte x.
@@ -41,13 +32,13 @@ fn follow(x: u64) -> u64
 }
 
 // The value so far, with k bytes to come.
-fn onward(k: u64, v: u64) -> Step
+fn onward(k: u64, v: u64) -> ControlFlow<u64, Part>
     ensures { result ≡ step_as (after k v) }
 {
     if k == 0 {
-        Step::Done(v)
+        ControlFlow::Break(v)
     } else {
-        Step::More(Part { acc: v, due: k })
+        ControlFlow::Continue(Part { acc: v, due: k })
     }
 }
 
@@ -58,11 +49,11 @@ pub fn fresh() -> Part
 }
 
 // One byte more.
-pub fn read_step(p: Part, b: u8) -> Step
+pub fn read_step(p: Part, b: u8) -> ControlFlow<u64, Part>
     requires { Good p }
     ensures { Stepped p b result }
 {
-    let x = wide(b);
+    let x = u64::from(b);
     if p.due == 0 {
         onward(follow(x), x % 64)
     } else {
@@ -72,90 +63,74 @@ pub fn read_step(p: Part, b: u8) -> Step
 
 // ---- whole in a slice
 
+// An integer that is whole, and the place behind it.
 #[derive(Clone, Copy)]
-pub enum Whole {
-    Value { value: u64, next: usize },
-    Short,
+pub struct Whole {
+    pub value: u64,
+    pub next: usize,
 }
 
-// Where the integer at at ends; 0: it is not whole in s.
-pub fn ends(s: &[u8], at: usize) -> usize
+// Where the integer at at ends, if it is whole in s.
+pub fn ends(s: &[u8], at: usize) -> Option<usize>
     ensures { Ended s.now at result }
 {
-    let n = s.len();
-    if n <= at {
-        return 0;
-    }
-    let x = wide(s[at]);
+    let x = u64::from(*s.get(at)?);
     if x < 64 {
-        return at + 1;
+        return Some(at + 1);
     }
     let m = follow(x) as usize;
-    if n - at <= m { 0 } else { at + 1 + m }
+    if s.len() - at <= m {
+        None
+    } else {
+        Some(at + 1 + m)
+    }
 }
 
 // The value of the integer at at, by any number of bytes.
 fn long(s: &[u8], at: usize) -> u64
-    requires { 0 < end_of (whole_at s.now at) }
+    requires { IsWhole s.now at }
     ensures { Valued s.now at result }
 {
-    let x = wide(s[at]);
-    let mut due = follow(x);
+    let x = u64::from(s[at]);
+    let from = at + 1;
+    let due = follow(x) as usize;
     let mut acc = x % 64;
-    let mut i = at + 1;
-    while 0 < due {
-        acc = acc * 256 + wide(s[i]);
-        i += 1;
-        due -= 1;
+    for b in &s[from..from + due] {
+        acc = acc * 256 + u64::from(*b);
     }
     acc
 }
 
-// The value of the integer at at, which `ends` found to be whole.
+// The value of the integer at at, which `ends` found to be whole. Two bytes have a way of their own: most lengths of DATA are so written.
 pub fn value(s: &[u8], at: usize) -> u64
-    requires { 0 < end_of (whole_at s.now at) }
+    requires { IsWhole s.now at }
     ensures { Valued s.now at result }
 {
-    let x = wide(s[at]);
-    if x < 64 { x } else { long(s, at) }
-}
-
-// The same, with a way of its own for two bytes: most lengths of DATA are so written.
-pub fn near_value(s: &[u8], at: usize) -> u64
-    requires { 0 < end_of (whole_at s.now at) }
-    ensures { Valued s.now at result }
-{
-    let x = wide(s[at]);
+    let x = u64::from(s[at]);
     if x < 64 {
         return x;
     }
     if x < 128 {
-        return (x - 64) * 256 + wide(s[at + 1]);
+        return (x - 64) * 256 + u64::from(s[at + 1]);
     }
     long(s, at)
 }
 
 // The integer at at.
-pub fn read(s: &[u8], at: usize) -> Whole
+pub fn read(s: &[u8], at: usize) -> Option<Whole>
     ensures { whole_is s.now result ≡ integer at (drop at s.now) }
 {
-    let next = ends(s, at);
-    if next == 0 {
-        return Whole::Short;
-    }
-    Whole::Value {
+    let next = ends(s, at)?;
+    Some(Whole {
         value: value(s, at),
         next,
-    }
+    })
 }
 
 // ---- the shortest form
 
-#[derive(Clone, Copy)]
-pub enum Wrote {
-    Refused(u64),
-    Count(usize),
-}
+// 2^62-1: no form holds more.
+pub const LARGEST: u64 = 4611686018427387903;
 
 // A form of an integer: its top two bits, and its size in bytes.
 #[derive(Clone, Copy)]
@@ -164,72 +139,49 @@ struct Form {
     size: usize,
 }
 
-// The shortest form that holds v, by RFC 9000's table; size 0: none does.
-fn form_of(v: u64) -> Form
+// The shortest form that holds v, by RFC 9000's table.
+fn form_of(v: u64) -> Option<Form>
     ensures { result ≡ form_of v }
 {
     if v <= 63 {
-        Form { mark: 0, size: 1 }
+        Some(Form { mark: 0, size: 1 })
     } else if v <= 16383 {
-        Form { mark: 1, size: 2 }
+        Some(Form { mark: 1, size: 2 })
     } else if v <= 1073741823 {
-        Form { mark: 2, size: 4 }
-    } else if v <= 4611686018427387903 {
-        Form { mark: 3, size: 8 }
+        Some(Form { mark: 2, size: 4 })
+    } else if v <= LARGEST {
+        Some(Form { mark: 3, size: 8 })
     } else {
-        Form { mark: 0, size: 0 }
+        None
     }
 }
 
-// How many bytes v takes; 0: it is above 2^62-1.
-pub fn size(v: u64) -> usize
-    ensures { result ≡ size_of v }
+// How many bytes v takes; none above 2^62-1.
+pub fn size(v: u64) -> Option<usize>
+    ensures { result ≡ sized v }
 {
-    form_of(v).size
+    Some(form_of(v)?.size)
 }
 
-// v without its k last bytes.
-fn without(v: u64, k: usize) -> u64
-    requires { k ≤ 7 }
-    ensures { result ≡ v / 256 ^ k }
-{
-    v >> (8 * k)
-}
-
-fn last(x: u64) -> u8
-    ensures { result ≡ x % 256 }
-{
-    (x % 256) as u8
-}
-
-// Stores v in its shortest form from at on: `size` gave a size other than 0, and the room reaches so far.
+// Stores v in its shortest form from at on: `size` gave a size, and the room reaches so far.
 pub fn put(v: u64, room: &mut [u8], at: usize)
     requires { Room v at room.old }
     ensures { room.new ≡ sets room.old at (bytes_of (written v)) }
 {
-    let f = form_of(v);
-    let mut k = f.size - 1;
-    room[at] = last(f.mark * 64 + without(v, k));
-    let mut i = at + 1;
-    while 0 < k {
-        k -= 1;
-        room[i] = last(without(v, k));
-        i += 1;
-    }
+    let form = form_of(v).unwrap();
+    let marked = v + (form.mark << (8 * form.size - 2));
+    room[at..at + form.size].copy_from_slice(&marked.to_be_bytes()[8 - form.size..]);
 }
 
-// v in its shortest form at the start of the room: 8 above 2^62-1, then 7 where the room is too short.
+// v in its shortest form at the start of the room: BadValue above 2^62-1, then RoomShort where the room is too short.
 // It reads back (meaning, WriterLaws, integer_back).
-pub fn write(v: u64, room: &mut [u8]) -> Wrote
+pub fn write(v: u64, room: &mut [u8]) -> Result<usize, House>
     ensures { Meets (write_integer (length room.old) v) room.old result room.new }
 {
-    let n = size(v);
-    if n == 0 {
-        return Wrote::Refused(rules::BAD_VALUE);
-    }
+    let n = size(v).ok_or(House::BadValue)?;
     if room.len() < n {
-        return Wrote::Refused(rules::ROOM_SHORT);
+        return Err(House::RoomShort);
     }
     put(v, room, 0);
-    Wrote::Count(n)
+    Ok(n)
 }

@@ -1,11 +1,7 @@
--- The first i records are swept. Assumes nothing.
-use Rattle.std.proofs.Common.{◌≡◌, length, ◌-◌}
+-- The records before r are swept. Assumes nothing.
+use Rattle.std.proofs.Common.{◌≡◌, ◌++◌, map, take, drop, length}
 use Rattle.connection.specs.Turned.{swept_of}
-use Rattle.calls.specs.Rows.{changed}
 use Rattle.calls.proofs.empty.Given as goal
 
-abbrev pub invariant-loop-i : goal.invariant-loop-i
-invariant-loop-i l = l.row ≡ changed (swept_of (length l.initial.row)) l.initial.row l.i
-
-abbrev pub decreases-loop-i : goal.decreases-loop-i
-decreases-loop-i l = length l.initial.row - l.i
+abbrev pub invariant-loop-r : goal.invariant-loop-r
+invariant-loop-r l = l.row ≡ map (swept_of (length l.initial.row)) (take l.r-index l.initial.row) ++ drop l.r-index l.initial.row

@@ -3,5 +3,5 @@ use Rattle.std.specs.Prelude.{refl}
 use Rattle.connection.specs.Nearly.{turned_near}
 use Rattle.calls.proofs.settle.Goals as goal
 
-pub returns : goal.returns
-returns c = turned_near c.answer-n.ensures c.if-n.false refl
+pub returns-in-Some : goal.returns-in-Some
+returns-in-Some c = turned_near c.in-Some.ensures refl

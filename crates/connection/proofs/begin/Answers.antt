@@ -1,8 +1,8 @@
-use Rattle.connection.specs.Ways.{begun_fresh, begun_other}
+use Rattle.connection.proofs.Ways.{started_fresh, started_other}
 use Rattle.connection.proofs.begin.Goals as goal
 
-pub returns-then-len-eq24 : goal.returns-then-len-eq24
-returns-then-len-eq24 c = begun_fresh _ _ c.if-len-eq24.true c.fresh.ensures
+pub returns-then-len-eq-ROW : goal.returns-then-len-eq-ROW
+returns-then-len-eq-ROW c = started_fresh _ c.if-len-eq-ROW.true c.fresh.ensures
 
-pub returns-else-len-eq24 : goal.returns-else-len-eq24
-returns-else-len-eq24 c = begun_other _ _ c.if-len-eq24.false
+pub returns-else-len-eq-ROW : goal.returns-else-len-eq-ROW
+returns-else-len-eq-ROW c = started_other _ c.if-len-eq-ROW.false

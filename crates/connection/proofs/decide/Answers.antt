@@ -1,11 +1,8 @@
-use Rattle.connection.specs.Nearly.{turned_near, turned_opens, turned_aside}
+use Rattle.connection.specs.Nearly.{turned_near, turned_aside}
 use Rattle.connection.proofs.decide.Goals as goal
 
-pub returns-then-n : goal.returns-then-n
-returns-then-n c = turned_aside c.answer-n.ensures c.if-n.true c.in-On.is c.heed.ensures c.heard_turn.ensures
+pub returns-in-Some-default : goal.returns-in-Some-default
+returns-in-Some-default c = turned_near c.in-Some-default.ensures c.near_turn.ensures
 
-pub returns-in-Open : goal.returns-in-Open
-returns-in-Open c = turned_opens c.answer-n.ensures c.in-Open.is c.near_turn.ensures
-
-pub returns-else-n : goal.returns-else-n
-returns-else-n c = turned_near c.answer-n.ensures c.if-n.false c.near_turn-in-On.ensures
+pub returns-in-None-On : goal.returns-in-None-On
+returns-in-None-On c = turned_aside c.in-None-On.ensures c.in-None-On.is-1 c.answer_one_way.ensures c.heard_turn.ensures

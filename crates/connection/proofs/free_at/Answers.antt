@@ -1,8 +1,13 @@
-use Rattle.connection.specs.Ways.{some_at, none_at}
+use Rattle.std.specs.Prelude.{◌≡◌, Bool, true, false, ltb}
+use Rattle.std.proofs.Common.{refl, ◌∙◌}
+use Rattle.std.specs.Int.{from_bool}
+use Rattle.connection.specs.Turned.{free_at}
 use Rattle.connection.proofs.free_at.Goals as goal
 
-pub returns-then-at-lt24 : goal.returns-then-at-lt24
-returns-then-at-lt24 c = some_at _ c.if-at-lt24.true
+one_if : (b : Bool) → from_bool b ≡ elim b [ true ↦ 1 | false ↦ 0 ]
+one_if true = refl
+one_if false = refl
 
-pub returns-else-at-lt24 : goal.returns-else-at-lt24
-returns-else-at-lt24 c = none_at _ c.if-at-lt24.false
+pub returns : goal.returns
+unfolding free_at
+returns c = c.from.ensures ∙ one_if (ltb c.args.at 24)

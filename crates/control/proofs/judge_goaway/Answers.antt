@@ -1,11 +1,15 @@
+use mathlib.Core.Path.{refl}
+use Rattle.std.proofs.Common.{rules}
+use Rattle.std.specs.Prelude.{◌<◌, ◌≤◌}
 use Rattle.control.specs.Judged.{goaway_first, goaway_above, goaway_lower}
+use Rattle.control.proofs.judge_goaway.Goals.{else-kept-ne0-via-then-kept-ne0+else-lt, else-kept-ne0-via-else-kept-ne0}
 use Rattle.control.proofs.judge_goaway.Goals as goal
 
-pub returns-then-kept-eq0 : goal.returns-then-kept-eq0
-returns-then-kept-eq0 c = let a = c.args in goaway_first a.kept a.id c.if-kept-eq0.true c.with_goaway.ensures
+pub returns-then-lt : goal.returns-then-lt
+returns-then-lt c = let h : c.args.kept.goaway.0 < c.args.id.0 = search rules in goaway_above c.args.kept c.args.id c.if-kept-ne0.true h c.refused.ensures
 
-pub returns-then-earlier-id : goal.returns-then-earlier-id
-returns-then-earlier-id c = let a = c.args in goaway_above a.kept a.id c.if-kept-eq0.false c.if-earlier-id.true c.refused.ensures
-
-pub returns-else-earlier-id : goal.returns-else-earlier-id
-returns-else-earlier-id c = let a = c.args in goaway_lower a.kept a.id c.if-earlier-id.false c.with_goaway-else-earlier-id.ensures
+pub returns : goal.returns
+returns c = elim c.else-kept-ne0.branch [
+  | else-kept-ne0-via-then-kept-ne0+else-lt w ↦ let h : c.args.id.0 ≤ c.args.kept.goaway.0 = search rules in goaway_lower c.args.kept c.args.id h refl
+  | else-kept-ne0-via-else-kept-ne0 w ↦ goaway_first c.args.kept c.args.id w.if-kept-ne0.false refl
+]

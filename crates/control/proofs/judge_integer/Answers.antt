@@ -1,8 +1,8 @@
 use Rattle.control.specs.Judged.{integer_not, integer_is}
 use Rattle.control.proofs.judge_integer.Goals as goal
 
-pub returns-in-Not : goal.returns-in-Not
-returns-in-Not c = let a = c.args in integer_not a.which a.kept a.payload.now _ c.only.ensures c.in-Not.is c.refused.ensures
+pub returns-in-None : goal.returns-in-None
+returns-in-None c = let a = c.args in integer_not a.which a.kept a.payload.now _ c.only.ensures c.in-None.is c.refused.ensures
 
-pub returns-in-Is : goal.returns-in-Is
-returns-in-Is c = let a = c.args in integer_is a.which a.kept a.payload.now _ c.only.ensures c.in-Is.is c.judge_id.ensures
+pub returns-in-Some : goal.returns-in-Some
+returns-in-Some c = let a = c.args in integer_is a.which a.kept a.payload.now _ c.only.ensures c.in-Some.is c.judge_id.ensures

@@ -1,8 +1,7 @@
-use Rattle.control.specs.Judged.{size_unlimited, size_limited}
+use mathlib.Core.Path.{◌∙◌, ap}
+use mir.Val.{bool_byte}
+use Rattle.control.specs.Judged.{kept_is}
 use Rattle.control.proofs.keep_settings.Goals as goal
 
-pub returns-in-Unlimited : goal.returns-in-Unlimited
-returns-in-Unlimited c = size_unlimited c.args.s c.in-Unlimited.is c.limits.ensures
-
-pub returns-in-AtMost : goal.returns-in-AtMost
-returns-in-AtMost c = size_limited c.args.s c.in-AtMost.is c.limits-in-AtMost.ensures
+pub returns : goal.returns
+returns c = rw c.unwrap_or.ensures (kept_is c.args.s (c.from.ensures ∙ ap bool_byte c.is_some.ensures))

@@ -1,6 +1,7 @@
 use native.Mathlib.Omega.{arith}
 use Prim.Native.Nat.{ℕ, ◌+◌, ◌-◌, ◌*◌, ◌<◌, ◌≤◌}
 use mathlib.Core.Path.{◌≡◌, sym, subst, ◌∙◌}
+use Rattle.varint.specs.Whole.{ended_whole}
 use Rattle.frames.specs.Uses.{not_none}
 use Rattle.frames.specs.Stops.{ruling_lawful, stop_header, stop_here, header_stop, passed_fits, pass_stop, found, unready_type, unready_length}
 use Rattle.frames.proofs.+header_payload.Goals as goal
@@ -14,17 +15,17 @@ further n at m a t e h l = subst (λ x. (n - m) + 2 * (a - 1) + 1 < x) e falls-s
 pub header-returns-then-allow-eq0 : goal.header-returns-then-allow-eq0
 header-returns-then-allow-eq0 t c = let a = c.args in stop_header a.s.now a.phase a.has a.stated a.sum a.at a.allow c.requires.0 (λ q. absurd (omega (arith, q, c.if-allow-eq0.true)))
 
-pub header-returns-then-n-eq0 : goal.header-returns-then-n-eq0
-header-returns-then-n-eq0 t c = let a = c.args in stop_header a.s.now a.phase a.has a.stated a.sum a.at a.allow c.requires.0 (λ q. unready_type a.s.now a.at _ c.ends-n.ensures c.if-n-eq0.true)
+pub header-returns-in_default : goal.header-returns-in_default
+header-returns-in_default t c = let a = c.args in stop_header a.s.now a.phase a.has a.stated a.sum a.at a.allow c.requires.0 (λ q. unready_type a.s.now a.at c.in_default.ensures)
 
-pub header-returns-then-m-eq0 : goal.header-returns-then-m-eq0
-header-returns-then-m-eq0 t c = let a = c.args in stop_header a.s.now a.phase a.has a.stated a.sum a.at a.allow c.requires.0 (λ q. unready_length a.s.now a.at _ _ c.ends-n.ensures c.ends-m.ensures c.if-m-eq0.true)
+pub header-returns-in_default-ends : goal.header-returns-in_default-ends
+header-returns-in_default-ends t c = let a = c.args in stop_header a.s.now a.phase a.has a.stated a.sum a.at a.allow c.requires.0 (λ q. unready_length a.s.now a.at _ c.in-Some.ensures c.in_default-ends.ensures)
 
 pub header-value-l-requires : goal.header-value-l-requires
-header-value-l-requires t c = omega (arith, c.ends-m.ensures.is, c.if-m-eq0.false)
+header-value-l-requires t c = ended_whole c.args.s.now _ c.in-Some-ends.ensures
 
 pub header-value-requires : goal.header-value-requires
-header-value-requires t c = omega (arith, c.ends-n.ensures.is, c.if-n-eq0.false)
+header-value-requires t c = ended_whole c.args.s.now _ c.in-Some.ensures
 
 pub header-ruled-k-requires : goal.header-ruled-k-requires
 header-ruled-k-requires t c = (c.requires.1, c.value-l.ensures.small)
@@ -33,15 +34,13 @@ pub header-overflow_sub-allow : goal.header-overflow_sub-allow
 header-overflow_sub-allow t c = omega (arith, c.if-allow-eq0.false)
 
 pub header-payload-requires : goal.header-payload-requires
-header-payload-requires t c = (let h = c.ends-n.ensures.past (omega (arith, c.if-n-eq0.false)) in let g = c.ends-m.ensures.past (omega (arith, c.if-m-eq0.false)) in further _ _ _ _ _ c.decreases (omega (arith, h, g)) (omega (arith, c.if-allow-eq0.false)), (c.ends-m.ensures.within, c.requires.1, c.requires.2, (λ e. not_none _ _ _ (sym c.ruled-k.ensures ∙ e)), c.value-l.ensures.small, ruling_lawful _ _ _ _ _ _ _ c.requires.2 c.ruled-k.ensures))
+header-payload-requires t c = (let h = c.in-Some.ensures.past in let g = c.in-Some-ends.ensures.past in further _ _ _ _ _ c.decreases (omega (arith, h, g)) (omega (arith, c.if-allow-eq0.false)), (c.in-Some-ends.ensures.within, c.requires.1, c.requires.2, (λ e. not_none _ _ _ (sym c.ruled-k.ensures ∙ e)), c.value-l.ensures.small, ruling_lawful _ _ _ _ _ _ _ c.requires.2 c.ruled-k.ensures))
 
 pub header-returns : goal.header-returns
 header-returns t c = let a = c.args in
-    let h = c.ends-n.ensures in
-    let g = c.ends-m.ensures in
-    let n0 = c.if-n-eq0.false in
-    let m0 = c.if-m-eq0.false in
-    header_stop a.s.now a.phase a.has a.stated a.sum a.at a.allow _ _ _ _ _ (found _ _ _ _ h n0 c.value.ensures) (found _ _ _ _ g m0 c.value-l.ensures) c.if-allow-eq0.false c.ruled-k.ensures (λ e. not_none _ _ _ (sym c.ruled-k.ensures ∙ e)) (omega (arith, h.past (omega (arith, n0)), g.past (omega (arith, m0)))) c.payload.ensures
+    let h = c.in-Some.ensures in
+    let g = c.in-Some-ends.ensures in
+    header_stop a.s.now a.phase a.has a.stated a.sum a.at a.allow _ _ _ _ _ (found _ _ _ _ h c.value.ensures) (found _ _ _ _ g c.value-l.ensures) c.if-allow-eq0.false c.ruled-k.ensures (λ e. not_none _ _ _ (sym c.ruled-k.ensures ∙ e)) (omega (arith, h.past, g.past)) c.payload.ensures
 
 pub payload-overflow_sub-s : goal.payload-overflow_sub-s
 payload-overflow_sub-s t c = omega arith

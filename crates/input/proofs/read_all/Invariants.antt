@@ -2,8 +2,8 @@
 use Rattle.std.proofs.Common.{length, ◌-◌, ◌≡◌, ◌≤◌}
 use Rattle.input.proofs.read_all.Given as goal
 
-abbrev pub invariant-loop-n : goal.invariant-loop-n
-invariant-loop-n g l = (l.n ≤ length l.room) × (length l.room ≡ length l.fn.room)
+abbrev pub invariant-loop-count : goal.invariant-loop-count
+invariant-loop-count g l = (l.count ≤ length l.room) × (length l.room ≡ length l.fn.room)
 
-abbrev pub decreases-loop-n : goal.decreases-loop-n
-decreases-loop-n g l = length l.room - l.n
+abbrev pub decreases-loop-count : goal.decreases-loop-count
+decreases-loop-count g l = length l.room - l.count

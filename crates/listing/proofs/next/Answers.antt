@@ -1,5 +1,6 @@
 -- `listing::next` meets its contract: one law of specs, At, for each way that the input can go on. Assumes nothing.
 use Rattle.std.proofs.Common.{◌≡◌, ◌<◌, ◌∙◌, arith, Option, None}
+use Rattle.varint.specs.Whole.{ended_whole}
 use Rattle.listing.specs.declared.Phase.{Phase}
 use Rattle.listing.specs.Lines.{phase_number}
 use Rattle.listing.specs.At.{line_too_long, line_heading, line-end, line-cut-type, line-cut-length, line-header}
@@ -18,11 +19,17 @@ returns-in_default c = let a = c.args in line_heading a.s.now a.p (omega (arith,
 pub returns-then-at-total : goal.returns-then-at-total
 returns-then-at-total c = let a = c.args in c.end_line.ensures ∙ line-end a.s.now a.p (omega (arith, c.if-total-gt-LIMIT.false)) (listed _ c.in-Some.is) (omega (arith, c.if-at-total.true))
 
-pub returns-then-here-eq0 : goal.returns-then-here-eq0
-returns-then-here-eq0 c = let a = c.args in line-cut-type a.s.now a.p (omega (arith, c.if-total-gt-LIMIT.false)) (listed _ c.in-Some.is) (λ e. omega (arith, c.if-at-total.false)) c.ends-here.ensures c.if-here-eq0.true
+pub returns-in_default-ends : goal.returns-in_default-ends
+returns-in_default-ends c = let a = c.args in line-cut-type a.s.now a.p (omega (arith, c.if-total-gt-LIMIT.false)) (listed _ c.in-Some.is) (λ e. omega (arith, c.if-at-total.false)) c.in_default-ends.ensures
 
-pub returns-then-from-eq0 : goal.returns-then-from-eq0
-returns-then-from-eq0 c = let a = c.args in line-cut-length a.s.now a.p (omega (arith, c.if-total-gt-LIMIT.false)) (listed _ c.in-Some.is) _ _ c.ends-here.ensures c.if-here-eq0.false c.value-ftype.ensures c.ends-from.ensures c.if-from-eq0.true
+pub value-ftype-requires : goal.value-ftype-requires
+value-ftype-requires c = ended_whole c.args.s.now _ c.in-Some-ends.ensures
+
+pub returns-in_default-ends-2 : goal.returns-in_default-ends-2
+returns-in_default-ends-2 c = let a = c.args in line-cut-length a.s.now a.p (omega (arith, c.if-total-gt-LIMIT.false)) (listed _ c.in-Some.is) _ _ c.in-Some-ends.ensures c.value-ftype.ensures c.in_default-ends-2.ensures
+
+pub value-requires : goal.value-requires
+value-requires c = ended_whole c.args.s.now _ c.in-Some-ends-2.ensures
 
 pub returns : goal.returns
-returns c = let a = c.args in line-header a.s.now a.p (omega (arith, c.if-total-gt-LIMIT.false)) (listed _ c.in-Some.is) _ _ c.ends-here.ensures c.if-here-eq0.false c.value-ftype.ensures _ _ c.ends-from.ensures c.if-from-eq0.false c.value.ensures c.ruled_line.ensures
+returns c = let a = c.args in line-header a.s.now a.p (omega (arith, c.if-total-gt-LIMIT.false)) (listed _ c.in-Some.is) _ _ c.in-Some-ends.ensures c.value-ftype.ensures _ _ c.in-Some-ends-2.ensures c.value.ensures c.ruled_line.ensures

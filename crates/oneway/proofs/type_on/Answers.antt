@@ -8,14 +8,11 @@ loop-i-init c = type_begins _ _ _ c.requires
 pub read_step-requires : goal.read_step-requires
 read_step-requires c = c.loop-i.invariant.good
 
-pub loop-i-smaller : goal.loop-i-smaller
-loop-i-smaller c = omega (arith, c.loop-i-test.true)
-
 pub loop-i-preserved : goal.loop-i-preserved
-loop-i-preserved c = type_on _ _ _ _ _ c.loop-i.invariant c.loop-i-test.true c.read_step.ensures c.in-More.is
+loop-i-preserved c = type_on _ _ _ _ _ c.loop-i.invariant c.loop-i-test.true c.read_step.ensures c.in-Continue.is
 
-pub returns-in-Done : goal.returns-in-Done
-returns-in-Done c = type_whole _ _ _ _ _ c.loop-i.invariant c.loop-i-test.true c.read_step.ensures c.in-Done.is
+pub returns-in-Break : goal.returns-in-Break
+returns-in-Break c = type_whole _ _ _ _ _ c.loop-i.invariant c.loop-i-test.true c.read_step.ensures c.in-Break.is
 
 pub returns : goal.returns
-returns c = type_ends _ _ _ _ _ c.loop-i.invariant c.loop-i-test.false
+returns c = type_ends _ _ _ _ _ c.loop-i.invariant (omega (arith, c.loop-i-test.false))

@@ -1,19 +1,16 @@
 use native.Mathlib.Omega.{arith}
-use Rattle.record.specs.Tidy.{tidy_type, tidy_length, tidy_due, tidy_payload}
-use Rattle.rules.specs.Reading.{header_section, trailers}
+use Rattle.record.specs.Tidy.{tidy_type, tidy_length, tidy_waiting, tidy_payload}
 use Rattle.record.proofs.tidy_head.Goals as goal
+use Rattle.record.proofs.tidy_head.Goals.{in_default-via-then-c-lt6, in_default-via-else-c-lt6+else-c-lt8}
 
-pub returns-then-c-eq-IN_TYPE : goal.returns-then-c-eq-IN_TYPE
-returns-then-c-eq-IN_TYPE c = tidy_type _ c.if-c-eq-IN_TYPE.true c.value_so_far.ensures c.headed.ensures
+pub returns-in-0 : goal.returns-in-0
+returns-in-0 c = tidy_type _ c.in-0.is c.value_so_far.ensures c.headed.ensures
 
-pub returns-then-c-eq-IN_LENGTH : goal.returns-then-c-eq-IN_LENGTH
-returns-then-c-eq-IN_LENGTH c = tidy_length _ c.if-c-eq-IN_LENGTH.true c.value_so_far-then-c-eq-IN_LENGTH.ensures c.headed-then-c-eq-IN_LENGTH.ensures
+pub returns-in-1 : goal.returns-in-1
+returns-in-1 c = tidy_length _ c.in-1.is c.value_so_far-in-1.ensures c.headed-in-1.ensures
 
-pub returns-then-c-eq-HEADER_SECTION_DUE : goal.returns-then-c-eq-HEADER_SECTION_DUE
-returns-then-c-eq-HEADER_SECTION_DUE c = tidy_due _ header_section c.if-c-eq-HEADER_SECTION_DUE.true c.headed-then-c-eq-HEADER_SECTION_DUE.ensures
+pub returns-in-6 : goal.returns-in-6
+returns-in-6 c = tidy_waiting _ (omega arith) (omega arith) c.headed-in-6.ensures
 
-pub returns-then-c-eq-TRAILERS_DUE : goal.returns-then-c-eq-TRAILERS_DUE
-returns-then-c-eq-TRAILERS_DUE c = tidy_due _ trailers c.if-c-eq-TRAILERS_DUE.true c.headed-then-c-eq-TRAILERS_DUE.ensures
-
-pub returns : goal.returns
-returns c = tidy_payload _ c.requires (omega arith) c.if-c-eq-HEADER_SECTION_DUE.false c.if-c-eq-TRAILERS_DUE.false c.headed-2.ensures
+pub returns-in_default : goal.returns-in_default
+returns-in_default c = elim c.in_default.branch [ in_default-via-then-c-lt6 w ↦ tidy_payload _ c.requires (omega arith) (λ e. omega arith) (λ e. omega arith) c.headed-in_default.ensures | in_default-via-else-c-lt6+else-c-lt8 w ↦ tidy_payload _ c.requires (omega arith) (λ e. omega arith) (λ e. omega arith) c.headed-in_default.ensures ]

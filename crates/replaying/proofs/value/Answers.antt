@@ -5,9 +5,9 @@ use Rattle.replaying.specs.Calls.{read_cut, read_value}
 use Rattle.replaying.specs.Puts.{puts_as, more, puts_word}
 use Rattle.replaying.proofs.value.Goals as goal
 
-pub returns-in-Short : goal.returns-in-Short
+pub returns-in-None : goal.returns-in-None
 unfolding ascii
-returns-in-Short c = let a = c.args in puts_as (read_cut a.bytes.now c.read.ensures c.in-Short.is) (more (puts_word c.put.ensures) (omega arith))
+returns-in-None c = let a = c.args in puts_as (read_cut a.bytes.now c.read.ensures c.in-None.is) (more (puts_word c.put.ensures) (omega arith))
 
-pub returns-in-Value : goal.returns-in-Value
-returns-in-Value c = let a = c.args in puts_as (read_value a.bytes.now c.read.ensures c.in-Value.is) c.value_line.ensures
+pub returns-in-Some : goal.returns-in-Some
+returns-in-Some c = let a = c.args in puts_as (read_value a.bytes.now c.read.ensures c.in-Some.is) c.value_line.ensures

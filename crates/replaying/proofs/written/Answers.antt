@@ -3,8 +3,8 @@ use Rattle.replaying.specs.Calls.{write_refused, write_count}
 use Rattle.replaying.specs.Puts.{puts_as}
 use Rattle.replaying.proofs.written.Goals as goal
 
-pub returns-in-Refused : goal.returns-in-Refused
-returns-in-Refused c = puts_as (write_refused _ c.wrote.ensures c.in-Refused.is) c.written_line.ensures
+pub returns-in-Err : goal.returns-in-Err
+returns-in-Err c = puts_as (write_refused _ c.wrote.ensures c.in-Err.is) (rw c.number.ensures at c.written_line.ensures)
 
-pub returns-in-Count : goal.returns-in-Count
-returns-in-Count c = puts_as (write_count _ c.wrote.ensures c.in-Count.is) c.written_line-in-Count.ensures
+pub returns-in-Ok : goal.returns-in-Ok
+returns-in-Ok c = puts_as (write_count _ c.wrote.ensures c.in-Ok.is) c.written_line-in-Ok.ensures

@@ -1,36 +1,42 @@
 use native.Mathlib.Omega.{arith}
-use mathlib.Core.Path.{ap}
+use mathlib.Core.Path.{ap, refl}
 use Rattle.rules.specs.Reading.{header_section, trailers}
 use Rattle.frames.specs.Fed.{Fed}
 use Rattle.record.specs.Sound.{cells_in}
-use Rattle.requests.specs.Reply.{fed_as}
-use Rattle.requests.specs.Answered.{read_open, read_shut, keeps_shut}
+use Rattle.record.specs.Tests.{some_cells}
 use Rattle.requests.specs.Feeds.{feed_due, feed_fault, feed-fit, feed-quiet, feed-late, feed-part}
 use Rattle.requests.proofs.feed.Goals as goal
+use Rattle.requests.proofs.feed.Goals.{then-c-eq-HEADER_SECTION_DUE-via-then-c-eq-HEADER_SECTION_DUE, then-c-eq-HEADER_SECTION_DUE-via-else-c-eq-HEADER_SECTION_DUE+then-c-eq-TRAILERS_DUE, then-a-eq-NOTHING-via-then-a-eq-NOTHING, then-a-eq-NOTHING-via-else-a-eq-NOTHING+then-a-gt-FAULT}
 
 pub returns-then-c-eq-HEADER_SECTION_DUE : goal.returns-then-c-eq-HEADER_SECTION_DUE
-returns-then-c-eq-HEADER_SECTION_DUE c = let g = c.args in let o = read_open g.r _ c.read-s.ensures c.if-s-eq-REQUEST.true in let m = ap (λ x. x.mode) o.1 in feed_due g.r o.0 g.piece.now g.allow header_section (omega (arith, m, c.if-c-eq-HEADER_SECTION_DUE.true)) c.told.ensures
-
-pub returns-then-c-eq-TRAILERS_DUE : goal.returns-then-c-eq-TRAILERS_DUE
-returns-then-c-eq-TRAILERS_DUE c = let g = c.args in let o = read_open g.r _ c.read-s.ensures c.if-s-eq-REQUEST.true in let m = ap (λ x. x.mode) o.1 in feed_due g.r o.0 g.piece.now g.allow trailers (omega (arith, m, c.if-c-eq-TRAILERS_DUE.true)) c.told-then-c-eq-TRAILERS_DUE.ensures
-
-pub feed-a-requires : goal.feed-a-requires
-feed-a-requires c = let g = c.args in let o = read_open g.r _ c.read-s.ensures c.if-s-eq-REQUEST.true in let e = o.1 in rw e o.0.sound.fit.sane
+returns-then-c-eq-HEADER_SECTION_DUE c =
+    let g = c.args in
+    let o = some_cells _ c.in-Some.ensures in
+    let m = ap (λ x. x.mode) o.1 in
+    let q = c.told-then-c-eq-HEADER_SECTION_DUE.ensures in
+    elim c.then-c-eq-HEADER_SECTION_DUE.branch [
+      | then-c-eq-HEADER_SECTION_DUE-via-then-c-eq-HEADER_SECTION_DUE w ↦ feed_due g.r o.0 g.piece.now g.allow header_section (omega (arith, m, w.if-c-eq-HEADER_SECTION_DUE.true)) q
+      | then-c-eq-HEADER_SECTION_DUE-via-else-c-eq-HEADER_SECTION_DUE+then-c-eq-TRAILERS_DUE w ↦ feed_due g.r o.0 g.piece.now g.allow trailers (omega (arith, m, w.if-c-eq-TRAILERS_DUE.true)) q
+    ]
 
 pub returns-then-a-eq-FAULT : goal.returns-then-a-eq-FAULT
-returns-then-a-eq-FAULT c = let g = c.args in let o = read_open g.r _ c.read-s.ensures c.if-s-eq-REQUEST.true in let e = o.1 in let m = ap (λ x. x.mode) e in let f : Fed (cells_in g.r) g.piece.now g.allow _ = rw e at c.feed-a.ensures in feed_fault g.r o.0 g.piece.now g.allow (λ x. omega (arith, x, m, c.if-c-eq-HEADER_SECTION_DUE.false)) (λ x. omega (arith, x, m, c.if-c-eq-TRAILERS_DUE.false)) _ f c.if-a-eq-FAULT.true c.left.ensures
+returns-then-a-eq-FAULT c = let g = c.args in let o = some_cells _ c.in-Some.ensures in let e = o.1 in let m = ap (λ x. x.mode) e in let f : Fed (cells_in g.r) g.piece.now g.allow _ = rw e at c.feed-a.ensures in let q = c.refused.ensures in rw q (feed_fault g.r o.0 g.piece.now g.allow (λ x. omega (arith, x, m, c.if-c-eq-HEADER_SECTION_DUE.false)) (λ x. omega (arith, x, m, c.if-c-eq-TRAILERS_DUE.false)) _ f c.if-a-eq-FAULT.true refl)
 
-pub kept-q-requires : goal.kept-q-requires
-kept-q-requires c = let g = c.args in let o = read_open g.r _ c.read-s.ensures c.if-s-eq-REQUEST.true in let e = o.1 in let m = ap (λ x. x.mode) e in let f : Fed (cells_in g.r) g.piece.now g.allow _ = rw e at c.feed-a.ensures in feed-fit g.r o.0 g.piece.now g.allow (λ x. omega (arith, x, m, c.if-c-eq-HEADER_SECTION_DUE.false)) (λ x. omega (arith, x, m, c.if-c-eq-TRAILERS_DUE.false)) _ f c.if-a-eq-FAULT.false
+pub kept-requires : goal.kept-requires
+kept-requires c = let g = c.args in let o = some_cells _ c.in-Some.ensures in let e = o.1 in let m = ap (λ x. x.mode) e in let f : Fed (cells_in g.r) g.piece.now g.allow _ = rw e at c.feed-a.ensures in feed-fit g.r o.0 g.piece.now g.allow (λ x. omega (arith, x, m, c.if-c-eq-HEADER_SECTION_DUE.false)) (λ x. omega (arith, x, m, c.if-c-eq-TRAILERS_DUE.false)) _ f c.if-a-eq-FAULT.false
 
 pub returns-then-a-eq-NOTHING : goal.returns-then-a-eq-NOTHING
-returns-then-a-eq-NOTHING c = let g = c.args in let o = read_open g.r _ c.read-s.ensures c.if-s-eq-REQUEST.true in let e = o.1 in let m = ap (λ x. x.mode) e in let f : Fed (cells_in g.r) g.piece.now g.allow _ = rw e at c.feed-a.ensures in feed-quiet g.r o.0 g.piece.now g.allow (λ x. omega (arith, x, m, c.if-c-eq-HEADER_SECTION_DUE.false)) (λ x. omega (arith, x, m, c.if-c-eq-TRAILERS_DUE.false)) _ f c.if-a-eq-FAULT.false _ c.kept-q.ensures c.if-a-eq-NOTHING.true
+returns-then-a-eq-NOTHING c =
+    let g = c.args in
+    let o = some_cells _ c.in-Some.ensures in
+    let e = o.1 in
+    let m = ap (λ x. x.mode) e in
+    let f : Fed (cells_in g.r) g.piece.now g.allow _ = rw e at c.feed-a.ensures in
+    let q = c.told-2.ensures in
+    rw q (elim c.then-a-eq-NOTHING.branch [
+      | then-a-eq-NOTHING-via-then-a-eq-NOTHING w ↦ feed-quiet g.r o.0 g.piece.now g.allow (λ x. omega (arith, x, m, c.if-c-eq-HEADER_SECTION_DUE.false)) (λ x. omega (arith, x, m, c.if-c-eq-TRAILERS_DUE.false)) _ f c.if-a-eq-FAULT.false _ c.kept.ensures w.if-a-eq-NOTHING.true
+      | then-a-eq-NOTHING-via-else-a-eq-NOTHING+then-a-gt-FAULT w ↦ feed-late g.r o.0 g.piece.now g.allow (λ x. omega (arith, x, m, c.if-c-eq-HEADER_SECTION_DUE.false)) (λ x. omega (arith, x, m, c.if-c-eq-TRAILERS_DUE.false)) _ f c.if-a-eq-FAULT.false _ c.kept.ensures w.if-a-gt-FAULT.true
+    ])
 
-pub returns-then-a-gt-FAULT : goal.returns-then-a-gt-FAULT
-returns-then-a-gt-FAULT c = let g = c.args in let o = read_open g.r _ c.read-s.ensures c.if-s-eq-REQUEST.true in let e = o.1 in let m = ap (λ x. x.mode) e in let f : Fed (cells_in g.r) g.piece.now g.allow _ = rw e at c.feed-a.ensures in feed-late g.r o.0 g.piece.now g.allow (λ x. omega (arith, x, m, c.if-c-eq-HEADER_SECTION_DUE.false)) (λ x. omega (arith, x, m, c.if-c-eq-TRAILERS_DUE.false)) _ f c.if-a-eq-FAULT.false _ c.kept-q.ensures c.if-a-gt-FAULT.true
-
-pub returns-else-a-gt-FAULT : goal.returns-else-a-gt-FAULT
-returns-else-a-gt-FAULT c = let g = c.args in let o = read_open g.r _ c.read-s.ensures c.if-s-eq-REQUEST.true in let e = o.1 in let m = ap (λ x. x.mode) e in let f : Fed (cells_in g.r) g.piece.now g.allow _ = rw e at c.feed-a.ensures in feed-part g.r o.0 g.piece.now g.allow (λ x. omega (arith, x, m, c.if-c-eq-HEADER_SECTION_DUE.false)) (λ x. omega (arith, x, m, c.if-c-eq-TRAILERS_DUE.false)) _ f c.if-a-eq-FAULT.false _ c.kept-q.ensures c.if-a-eq-NOTHING.false c.if-a-gt-FAULT.false
-
-pub returns-else-s-eq-REQUEST : goal.returns-else-s-eq-REQUEST
-returns-else-s-eq-REQUEST c = let g = c.args in keeps_shut g.r (fed_as g.r g.allow g.piece.now) (read_shut g.r _ c.read-s.ensures c.if-s-eq-REQUEST.false) c.told-else-s-eq-REQUEST.ensures
+pub returns : goal.returns
+returns c = let g = c.args in let o = some_cells _ c.in-Some.ensures in let e = o.1 in let m = ap (λ x. x.mode) e in let f : Fed (cells_in g.r) g.piece.now g.allow _ = rw e at c.feed-a.ensures in let q = c.told-2.ensures in rw q (feed-part g.r o.0 g.piece.now g.allow (λ x. omega (arith, x, m, c.if-c-eq-HEADER_SECTION_DUE.false)) (λ x. omega (arith, x, m, c.if-c-eq-TRAILERS_DUE.false)) _ f c.if-a-eq-FAULT.false _ c.kept.ensures c.if-a-eq-NOTHING.false (omega (arith, c.if-a-gt-FAULT.false)))

@@ -1,17 +1,12 @@
-use Rattle.requests.specs.Severity.{freed_rejected, freed_cancelled, freed_incomplete, freed_malformed, left_alone}
+use native.Mathlib.Omega.{arith}
+use Rattle.requests.specs.Severity.{freed_between, left_alone}
 use Rattle.requests.proofs.left.Goals as goal
 
-pub returns-then-number-eq-REQUEST_REJECTED : goal.returns-then-number-eq-REQUEST_REJECTED
-returns-then-number-eq-REQUEST_REJECTED c = freed_rejected c.args.r _ c.if-number-eq-REQUEST_REJECTED.true c.free.ensures
+pub returns-in-267 : goal.returns-in-267
+returns-in-267 c = freed_between c.args.r _ (omega arith) (omega arith) c.free.ensures
 
-pub returns-then-number-eq-REQUEST_CANCELLED : goal.returns-then-number-eq-REQUEST_CANCELLED
-returns-then-number-eq-REQUEST_CANCELLED c = freed_cancelled c.args.r _ c.if-number-eq-REQUEST_CANCELLED.true c.free-then-number-eq-REQUEST_CANCELLED.ensures
+pub returns-in_default : goal.returns-in_default
+returns-in_default c = left_alone _ _ ((λ e. omega arith), (λ e. omega arith), (λ e. omega arith), (λ e. omega arith))
 
-pub returns-then-number-eq-REQUEST_INCOMPLETE : goal.returns-then-number-eq-REQUEST_INCOMPLETE
-returns-then-number-eq-REQUEST_INCOMPLETE c = freed_incomplete c.args.r _ c.if-number-eq-REQUEST_INCOMPLETE.true c.free-then-number-eq-REQUEST_INCOMPLETE.ensures
-
-pub returns-then-number-eq-MESSAGE_ERROR : goal.returns-then-number-eq-MESSAGE_ERROR
-returns-then-number-eq-MESSAGE_ERROR c = freed_malformed c.args.r _ c.if-number-eq-MESSAGE_ERROR.true c.free-then-number-eq-MESSAGE_ERROR.ensures
-
-pub returns : goal.returns
-returns c = left_alone _ _ (c.if-number-eq-REQUEST_REJECTED.false, c.if-number-eq-REQUEST_CANCELLED.false, c.if-number-eq-REQUEST_INCOMPLETE.false, c.if-number-eq-MESSAGE_ERROR.false)
+pub returns-in_default-2 : goal.returns-in_default-2
+returns-in_default-2 c = left_alone _ _ ((λ e. omega arith), (λ e. omega arith), (λ e. omega arith), (λ e. omega arith))

@@ -1,16 +1,23 @@
 -- `section::header_section` meets its contract. Assumes nothing.
-use mathlib.Core.Path.{sym, ap, ◌∙◌}
-use borrow.Author.Tests.{not-true, not-false}
-use Rattle.fields.specs.Lines.{held_is}
+use mathlib.Core.Path.{◌≡◌, sym, ap, ◌∙◌}
+use Rattle.std.specs.Prelude.{Err}
 use Rattle.section.specs.Answer.{header_answer}
-use Rattle.section.specs.Judging.{header_unread, header_refused, header_sound}
+use Rattle.section.specs.Judging.{walked_all, header_unread, header_refused, header_sound}
 use Rattle.section.proofs.header_section.Goals as goal
+use native.Mathlib.Omega.{arith}
 
-pub returns-then-not-walked : goal.returns-then-not-walked
-returns-then-not-walked c = header_unread _ (sym c.walk_lines-walked.ensures.reads ∙ not-true _ c.if-not-walked.true)
+pub returns-in_err-facts : goal.returns-in_err-facts
+returns-in_err-facts c =
+    let passed : c.from_residual.result ≡ Err c.in_err-facts.field-0.0 = grind arith in
+    passed ∙ header_unread _ (sym c.in_err-facts.was ∙ c.walk_lines.ensures)
 
-pub returns-then-n-lt-NONE : goal.returns-then-n-lt-NONE
-returns-then-n-lt-NONE c = header_refused _ _ c.if-n-lt-NONE.true c.header_fault-n.ensures ∙ sym (ap header_answer (held_is _ (sym c.walk_lines-walked.ensures.reads ∙ not-false _ c.if-not-walked.false)))
+pub header_fault-requires : goal.header_fault-requires
+header_fault-requires c = (walked_all _ (sym c.in_ok-facts.was ∙ c.walk_lines.ensures)).1
 
-pub returns : goal.returns
-returns c = header_sound _ _ c.if-n-lt-NONE.false c.header_fault-n.ensures _ c.walk_lines-walked.ensures.facts c.stated_length.ensures ∙ sym (ap header_answer (held_is _ (sym c.walk_lines-walked.ensures.reads ∙ not-false _ c.if-not-walked.false)))
+pub returns-in-Some : goal.returns-in-Some
+returns-in-Some c = header_refused _ _ (sym c.in-Some.is ∙ c.header_fault.ensures) ∙ sym (ap header_answer (walked_all _ (sym c.in_ok-facts.was ∙ c.walk_lines.ensures)).0)
+
+pub returns-in-None : goal.returns-in-None
+returns-in-None c =
+    let w = walked_all _ (sym c.in_ok-facts.was ∙ c.walk_lines.ensures) in
+    header_sound _ (sym c.in-None.is ∙ c.header_fault.ensures) _ w.1 c.stated_length.ensures ∙ sym (ap header_answer w.0)

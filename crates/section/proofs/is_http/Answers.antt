@@ -1,8 +1,14 @@
 -- `section::is_http` meets its contract. Assumes nothing.
 use Rattle.rules.specs.Text.{ascii}
 use Rattle.section.specs.Judging.{is_http}
+use Rattle.std.proofs.lemmas.Grind.{common_steps}
+use native.Mathlib.Omega.{arith}
 use Rattle.section.proofs.is_http.Goals as goal
 
-pub returns : goal.returns
+pub returns-then-same_bytes : goal.returns-then-same_bytes
 unfolding is_http ascii
-returns c = rw (c.either.ensures, c.same_bytes-2.ensures, c.same_bytes.ensures)
+returns-then-same_bytes c = grind (arith, common_steps)
+
+pub returns-else-same_bytes : goal.returns-else-same_bytes
+unfolding is_http ascii
+returns-else-same_bytes c = grind (arith, common_steps)

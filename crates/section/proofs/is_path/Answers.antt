@@ -1,8 +1,18 @@
 -- `section::is_path` meets its contract. Assumes nothing.
 use Rattle.rules.specs.Text.{ascii}
 use Rattle.section.specs.Judging.{is_path}
+use Rattle.std.proofs.lemmas.Grind.{common_steps}
+use native.Mathlib.Omega.{arith}
 use Rattle.section.proofs.is_path.Goals as goal
 
-pub returns : goal.returns
+pub returns-then-begins_with : goal.returns-then-begins_with
 unfolding is_path ascii
-returns c = rw (c.either.ensures, c.begins_with.ensures, c.both-star.ensures, c.same_bytes-2.ensures, c.same_bytes.ensures)
+returns-then-begins_with c = grind (arith, common_steps)
+
+pub returns-then-same_bytes : goal.returns-then-same_bytes
+unfolding is_path ascii
+returns-then-same_bytes c = grind (arith, common_steps)
+
+pub returns-else-same_bytes : goal.returns-else-same_bytes
+unfolding is_path ascii
+returns-else-same_bytes c = grind (arith, common_steps)

@@ -1,8 +1,14 @@
 -- `section::sends_content` meets its contract. Assumes nothing.
 use Rattle.rules.specs.Text.{ascii}
 use Rattle.section.specs.Judging.{sends_content}
+use Rattle.std.proofs.lemmas.Grind.{common_steps}
+use native.Mathlib.Omega.{arith}
 use Rattle.section.proofs.sends_content.Goals as goal
 
-pub returns : goal.returns
+pub returns-then-same_bytes-2 : goal.returns-then-same_bytes-2
 unfolding sends_content ascii
-returns c = rw (c.either.ensures, c.same_bytes-3.ensures, c.either-two.ensures, c.same_bytes-2.ensures, c.same_bytes.ensures)
+returns-then-same_bytes-2 c = grind (arith, common_steps)
+
+pub returns-else-same_bytes-2 : goal.returns-else-same_bytes-2
+unfolding sends_content ascii
+returns-else-same_bytes-2 c = grind (arith, common_steps)

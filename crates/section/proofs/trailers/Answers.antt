@@ -1,16 +1,22 @@
 -- `section::trailers` meets its contract. Assumes nothing.
-use mathlib.Core.Path.{sym, ap, ◌∙◌}
-use borrow.Author.Tests.{not-true, not-false}
-use Rattle.fields.specs.Lines.{held_is}
+use mathlib.Core.Path.{◌≡◌, sym, ap, ◌∙◌}
+use Rattle.std.specs.Prelude.{Err}
 use Rattle.section.specs.Answer.{trailer_answer}
-use Rattle.section.specs.Judging.{by_trailers, trailers_unread, trailers_refused, trailers_sound}
+use Rattle.section.specs.Judging.{by_trailers, walked_all, trailers_unread, trailers_refused, trailers_sound}
 use Rattle.section.proofs.trailers.Goals as goal
+use native.Mathlib.Omega.{arith}
 
-pub returns-then-not-walked : goal.returns-then-not-walked
-returns-then-not-walked c = trailers_unread _ (sym c.walk_lines-walked.ensures.reads ∙ not-true _ c.if-not-walked.true)
+pub returns-in_err-facts : goal.returns-in_err-facts
+returns-in_err-facts c =
+    let passed : c.from_residual.result ≡ Err c.in_err-facts.field-0.0 = grind arith in
+    passed ∙ trailers_unread _ (sym c.in_err-facts.was ∙ c.walk_lines.ensures)
 
-pub returns-then-n-lt-NONE : goal.returns-then-n-lt-NONE
-returns-then-n-lt-NONE c = trailers_refused _ _ c.if-n-lt-NONE.true (c.trailer_fault-n.ensures ∙ ap by_trailers c.walk_lines-walked.ensures.facts) ∙ sym (ap trailer_answer (held_is _ (sym c.walk_lines-walked.ensures.reads ∙ not-false _ c.if-not-walked.false)))
+pub returns-in-Some : goal.returns-in-Some
+returns-in-Some c =
+    let w = walked_all _ (sym c.in_ok-facts.was ∙ c.walk_lines.ensures) in
+    trailers_refused _ _ (sym c.in-Some.is ∙ c.trailer_fault.ensures ∙ ap by_trailers w.1) ∙ sym (ap trailer_answer w.0)
 
-pub returns : goal.returns
-returns c = trailers_sound _ _ c.if-n-lt-NONE.false (c.trailer_fault-n.ensures ∙ ap by_trailers c.walk_lines-walked.ensures.facts) ∙ sym (ap trailer_answer (held_is _ (sym c.walk_lines-walked.ensures.reads ∙ not-false _ c.if-not-walked.false)))
+pub returns-in-None : goal.returns-in-None
+returns-in-None c =
+    let w = walked_all _ (sym c.in_ok-facts.was ∙ c.walk_lines.ensures) in
+    trailers_sound _ (sym c.in-None.is ∙ c.trailer_fault.ensures ∙ ap by_trailers w.1) ∙ sym (ap trailer_answer w.0)

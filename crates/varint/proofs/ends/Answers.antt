@@ -1,19 +1,27 @@
 -- No byte, one byte, cut, whole. Assumes nothing.
-use native.Mathlib.Omega.{arith}
+use mathlib.Core.Path.{◌≡◌}
+use Rattle.std.proofs.Common.{rules}
+use Rattle.std.specs.Prelude.{length, get_or, ◌<◌, ◌≤◌}
 use Rattle.varint.specs.Whole.{ends_none, ends_one, ends_short, ends_whole}
 use Rattle.varint.proofs.ends.Goals as goal
 
-pub returns-then-n-at : goal.returns-then-n-at
-returns-then-n-at c = let s = c.args in ends_none s.s.now s.at c.if-n-at.true
+pub returns-in_err-get : goal.returns-in_err-get
+returns-in_err-get c = let h : length c.args.s.now ≤ c.args.at = search rules in rw c.from_residual.ensures (ends_none c.args.s.now c.args.at h)
 
 pub returns-then-x-lt64 : goal.returns-then-x-lt64
-returns-then-x-lt64 c = let s = c.args in ends_one s.s.now s.at _ c.wide-x.ensures c.if-x-lt64.true c.if-n-at.false
+returns-then-x-lt64 c =
+    let h : c.args.at < length c.args.s.now = search rules in
+    let x : c.from-x.result ≡ get_or c.args.s.now c.args.at 0 = search rules in
+    ends_one c.args.s.now c.args.at _ x c.if-x-lt64.true h
 
-pub follow-m-requires : goal.follow-m-requires
-follow-m-requires c = omega (arith, c.wide-x.ensures, (c.shared_slice_known-2-1.given c.args.at).fits)
+pub returns-then-s-at : goal.returns-then-s-at
+returns-then-s-at c =
+    let h : c.args.at < length c.args.s.now = search rules in
+    let x : c.from-x.result ≡ get_or c.args.s.now c.args.at 0 = search rules in
+    ends_short c.args.s.now c.args.at _ _ x c.follow-m.ensures h c.if-s-at.true
 
-pub returns-then-n-at-2 : goal.returns-then-n-at-2
-returns-then-n-at-2 c = let s = c.args in ends_short s.s.now s.at _ _ c.wide-x.ensures c.follow-m.ensures c.if-n-at.false (omega arith)
-
-pub returns-else-n-at-2 : goal.returns-else-n-at-2
-returns-else-n-at-2 c = let s = c.args in ends_whole s.s.now s.at _ _ c.wide-x.ensures c.follow-m.ensures c.if-n-at.false (omega arith)
+pub returns-else-s-at : goal.returns-else-s-at
+returns-else-s-at c =
+    let h : c.args.at < length c.args.s.now = search rules in
+    let x : c.from-x.result ≡ get_or c.args.s.now c.args.at 0 = search rules in
+    ends_whole c.args.s.now c.args.at _ _ x c.follow-m.ensures h c.if-s-at.false

@@ -16,10 +16,10 @@ pub returns-then-v-le1073741823 : goal.returns-then-v-le1073741823
 unfolding rows first_form
 returns-then-v-le1073741823 c = rw (first_form, lt-leb _ _ c.if-v-le63.false, first_form, lt-leb _ _ c.if-v-le16383.false, first_form, le-leb _ _ c.if-v-le1073741823.true)
 
-pub returns-then-v-le4611686018427387903 : goal.returns-then-v-le4611686018427387903
+pub returns-then-v-le-LARGEST : goal.returns-then-v-le-LARGEST
 unfolding rows first_form
-returns-then-v-le4611686018427387903 c = rw (first_form, lt-leb _ _ c.if-v-le63.false, first_form, lt-leb _ _ c.if-v-le16383.false, first_form, lt-leb _ _ c.if-v-le1073741823.false, first_form, le-leb _ _ c.if-v-le4611686018427387903.true)
+returns-then-v-le-LARGEST c = rw (first_form, lt-leb _ _ c.if-v-le63.false, first_form, lt-leb _ _ c.if-v-le16383.false, first_form, lt-leb _ _ c.if-v-le1073741823.false, first_form, le-leb _ _ c.if-v-le-LARGEST.true)
 
-pub returns-else-v-le4611686018427387903 : goal.returns-else-v-le4611686018427387903
+pub returns-else-v-le-LARGEST : goal.returns-else-v-le-LARGEST
 unfolding rows first_form
-returns-else-v-le4611686018427387903 c = rw (first_form, lt-leb _ _ c.if-v-le63.false, first_form, lt-leb _ _ c.if-v-le16383.false, first_form, lt-leb _ _ c.if-v-le1073741823.false, first_form, lt-leb _ _ c.if-v-le4611686018427387903.false)
+returns-else-v-le-LARGEST c = rw (first_form, lt-leb _ _ c.if-v-le63.false, first_form, lt-leb _ _ c.if-v-le16383.false, first_form, lt-leb _ _ c.if-v-le1073741823.false, first_form, lt-leb _ _ c.if-v-le-LARGEST.false)

@@ -1,53 +1,36 @@
--- The invariant: the bytes to come bring the room to where the whole form brings it. Assumes nothing.
-use mathlib.Core.Path.{◌∙◌}
+-- The eight bytes of v with its mark on top, from the first that counts. Assumes nothing.
+use mathlib.Core.Path.{sym, ap, ◌∙◌}
 use native.Mathlib.Omega.{arith}
-use lib.ListN.{length-set}
-use Rattle.varint.specs.Shortest.{holds, store_start, store_step, store_end, put_all}
+use Rattle.std.specs.Prelude.{length}
+use Rattle.varint.specs.Shortest.{form_there, holds, put_fits, mark_whole, put_all, part_lengths}
 use Rattle.varint.proofs.put.Goals as goal
 
-pub overflow_sub-k : goal.overflow_sub-k
-overflow_sub-k c = let s = c in let h = holds s.args.v c.form_of-f.ensures s.requires.holds in omega (arith, h.some)
+pub unwrap-form-requires : goal.unwrap-form-requires
+unwrap-form-requires c = rw c.form_of.ensures (form_there c.args.v c.requires.holds)
 
-pub overflow_mul-f : goal.overflow_mul-f
-overflow_mul-f c = let s = c in let h = holds s.args.v c.form_of-f.ensures s.requires.holds in omega (arith, h.mark)
+pub overflow_mul-marked : goal.overflow_mul-marked
+overflow_mul-marked c = let h = holds c.args.v (sym c.unwrap-form.ensures ∙ c.form_of.ensures) in omega (arith, h.few)
 
-pub without-requires : goal.without-requires
-without-requires c = let s = c in let h = holds s.args.v c.form_of-f.ensures s.requires.holds in omega (arith, h.few)
+pub overflow_sub-marked : goal.overflow_sub-marked
+overflow_sub-marked c = let h = holds c.args.v (sym c.unwrap-form.ensures ∙ c.form_of.ensures) in omega (arith, h.some)
 
-pub overflow_add-f : goal.overflow_add-f
-overflow_add-f c = let s = c in let h = holds s.args.v c.form_of-f.ensures s.requires.holds in omega (arith, h.mark, h.high, c.without.ensures)
+pub overflow_shl-marked : goal.overflow_shl-marked
+overflow_shl-marked c = let h = holds c.args.v (sym c.unwrap-form.ensures ∙ c.form_of.ensures) in omega (arith, h.few)
 
-pub bounds-room-at : goal.bounds-room-at
-bounds-room-at c = let s = c in omega (arith, s.requires.holds, s.requires.fits)
+pub overflow_add-marked : goal.overflow_add-marked
+overflow_add-marked c = let h = holds c.args.v (sym c.unwrap-form.ensures ∙ c.form_of.ensures) in omega (arith, put_fits c.args.v c.unwrap-form.result h, mark_whole c.args.v c.unwrap-form.result h)
 
-pub overflow_add-i : goal.overflow_add-i
-overflow_add-i c = let s = c in omega (arith, s.requires.holds, s.requires.fits)
+pub overflow_add-at : goal.overflow_add-at
+overflow_add-at c = let h = holds c.args.v (sym c.unwrap-form.ensures ∙ c.form_of.ensures) in omega (arith, h.size, c.requires.fits)
 
-pub loop-k-init : goal.loop-k-init
-loop-k-init c = let s = c in let h = holds s.args.v c.form_of-f.ensures s.requires.holds in
-    store_start _ _ _ _ (omega (arith, h.size, h.some, s.requires.fits, length-set s.args.room.now s.args.at c.last.result)) (omega (arith, h.few))
+pub slice_bounds-copy_from_slice-end : goal.slice_bounds-copy_from_slice-end
+slice_bounds-copy_from_slice-end c = let h = holds c.args.v (sym c.unwrap-form.ensures ∙ c.form_of.ensures) in omega (arith, h.size, c.requires.fits)
 
-pub overflow_sub-k-in-loop-k : goal.overflow_sub-k-in-loop-k
-overflow_sub-k-in-loop-k c = omega arith
+pub overflow_sub-form : goal.overflow_sub-form
+overflow_sub-form c = let h = holds c.args.v (sym c.unwrap-form.ensures ∙ c.form_of.ensures) in omega (arith, h.few)
 
-pub without-requires-in-loop-k : goal.without-requires-in-loop-k
-without-requires-in-loop-k c = omega (arith, c.loop-k.invariant.few)
-
-pub bounds-room-i : goal.bounds-room-i
-bounds-room-i c = omega (arith, c.loop-k.invariant.fits)
-
-pub overflow_add-i-in-loop-k : goal.overflow_add-i-in-loop-k
-overflow_add-i-in-loop-k c = omega (arith, c.loop-k.invariant.fits, c.loop-k.invariant.same, length-set c.args.room.now c.args.at c.last.result, c.well_formed)
-
-pub loop-k-smaller : goal.loop-k-smaller
-loop-k-smaller c = omega arith
-
-pub loop-k-preserved : goal.loop-k-preserved
-loop-k-preserved c = store_step _ _ _ _ _ _ _ c.loop-k.invariant _ _ c.loop-k-test.true c.without-in-loop-k.ensures c.last-in-loop-k.ensures
-
-pub shape_of-room : goal.shape_of-room
-shape_of-room c = c.loop-k.invariant.same ∙ length-set c.args.room.now c.args.at c.last.result
+pub copy_from_slice-requires : goal.copy_from_slice-requires
+copy_from_slice-requires c = let h = holds c.args.v (sym c.unwrap-form.ensures ∙ c.form_of.ensures) in part_lengths c.args.at c.args.room.now c.to_be_bytes.result c.unwrap-form.result.size h.few (omega (arith, h.size, c.requires.fits)) (ap length c.to_be_bytes.ensures)
 
 pub returns : goal.returns
-returns c = let s = c in let h = holds s.args.v c.form_of-f.ensures s.requires.holds in
-    store_end _ _ _ _ _ _ _ c.loop-k.invariant c.loop-k-test.false ∙ put_all s.args.v s.args.room.now s.args.at c.form_of-f.result _ _ h c.without.ensures c.last.ensures
+returns c = let h = holds c.args.v (sym c.unwrap-form.ensures ∙ c.form_of.ensures) in put_all c.args.v c.args.at c.args.room.now c.to_be_bytes.result _ c.unwrap-form.result h (omega (arith, h.size, c.requires.fits)) c.to_be_bytes.ensures c.copy_from_slice.ensures.after

@@ -1,27 +1,43 @@
 -- A value above 2^62-1, a room too short, or the three integers stored. Assumes nothing.
+use mathlib.Core.Path.{◌≡◌, sym, ◌∙◌}
 use native.Mathlib.Omega.{arith}
-use Rattle.varint.specs.Shortest.{size_few}
+use Rattle.std.proofs.Common.{rules}
+use Rattle.std.specs.Prelude.{Some, None, Result, Err, ℕ}
+use Rattle.rules.specs.declared.codes.House.{House}
+use Rattle.rules.specs.declared.codes.House.TheVariants.{BadValue}
+use Rattle.varint.specs.Shortest.{sized, sized_some, size_few}
 use Rattle.wire.specs.Frame.{length_one, frame_no_type, frame_no_value, frame_short, frame_done}
 use Rattle.wire.proofs.write_integer_frame.Goals as goal
 
-pub returns-then-a-eq0 : goal.returns-then-a-eq0
-returns-then-a-eq0 c = let s = c.args in frame_no_type s.room.now s.ftype s.value _ _ c.size-a.ensures c.size-p.ensures c.if-a-eq0.true
+pub returns-in_err-a : goal.returns-in_err-a
+returns-in_err-a c =
+    let e : None ≡ sized c.args.ftype = sym c.in_err-a.ensures.ok_part ∙ c.size.ensures in
+    let r : ◌≡◌ {A = Result ℕ House} c.from_residual.result (Err BadValue) = search rules in
+    rw r (frame_no_type c.args.room.now c.args.ftype c.args.value e)
 
-pub returns-then-p-eq0 : goal.returns-then-p-eq0
-returns-then-p-eq0 c = let s = c.args in frame_no_value s.room.now s.ftype s.value _ _ c.size-a.ensures c.size-p.ensures c.if-p-eq0.true
+pub returns-in_err-p : goal.returns-in_err-p
+returns-in_err-p c =
+    let e : None ≡ sized c.args.value = sym c.in_err-p.ensures.ok_part ∙ c.size-2.ensures in
+    let r : ◌≡◌ {A = Result ℕ House} c.from_residual-in_err-p.result (Err BadValue) = search rules in
+    rw r (frame_no_value c.args.room.now c.args.ftype c.args.value e)
 
 pub overflow_add-n : goal.overflow_add-n
-overflow_add-n c = let s = c.args in omega (arith, c.size-a.ensures, size_few s.ftype)
-
-pub overflow_add-n-2 : goal.overflow_add-n-2
-overflow_add-n-2 c = let s = c.args in omega (arith, c.size-a.ensures, c.size-p.ensures, size_few s.ftype, size_few s.value)
+overflow_add-n c = let a : Some c.in_ok-a.a ≡ sized c.args.ftype = sym c.in_ok-a.ensures.ok_part ∙ c.size.ensures in let b : Some c.in_ok-p.p ≡ sized c.args.value = sym c.in_ok-p.ensures.ok_part ∙ c.size-2.ensures in let s = sized_some c.args.ftype a in let t = sized_some c.args.value b in omega (arith, s.0, t.0, size_few c.args.ftype, size_few c.args.value)
 
 pub returns-then-room-n : goal.returns-then-room-n
-returns-then-room-n c = let s = c.args in frame_short s.room.now s.ftype s.value _ _ c.size-a.ensures c.size-p.ensures (omega arith) (omega arith) c.if-room-n.true
+returns-then-room-n c = let a : Some c.in_ok-a.a ≡ sized c.args.ftype = sym c.in_ok-a.ensures.ok_part ∙ c.size.ensures in let b : Some c.in_ok-p.p ≡ sized c.args.value = sym c.in_ok-p.ensures.ok_part ∙ c.size-2.ensures in frame_short c.args.room.now c.args.ftype c.args.value a b c.if-room-n.true
 
-pub put-requires-2 : goal.put-requires-2
-put-requires-2 c = let s = c.args in let o = length_one s.room.now s.ftype s.value _ _ c.size-a.ensures c.size-p.ensures in
-    record { holds = omega (arith, o); fits = omega (arith, o) }
+pub put-requires : goal.put-requires
+put-requires c = let a : Some c.in_ok-a.a ≡ sized c.args.ftype = sym c.in_ok-a.ensures.ok_part ∙ c.size.ensures in let b : Some c.in_ok-p.p ≡ sized c.args.value = sym c.in_ok-p.ensures.ok_part ∙ c.size-2.ensures in let s = sized_some c.args.ftype a in let t = sized_some c.args.value b in record { holds = omega (arith, s.0, s.1); fits = omega (arith, s.0, c.if-room-n.false) }
 
 pub returns : goal.returns
-returns c = let s = c.args in frame_done s.room.now s.ftype s.value _ _ c.size-a.ensures c.size-p.ensures (omega arith) (omega arith) _ _ _ c.if-room-n.false c.put.ensures c.put-2.ensures c.put-3.ensures
+returns c = let a : Some c.in_ok-a.a ≡ sized c.args.ftype = sym c.in_ok-a.ensures.ok_part ∙ c.size.ensures in let b : Some c.in_ok-p.p ≡ sized c.args.value = sym c.in_ok-p.ensures.ok_part ∙ c.size-2.ensures in frame_done c.args.room.now c.args.ftype c.args.value a b _ _ _ c.if-room-n.false c.put.ensures c.put-2.ensures c.put-3.ensures
+
+pub overflow_add-n-2 : goal.overflow_add-n-2
+overflow_add-n-2 c = let a : Some c.in_ok-a.a ≡ sized c.args.ftype = sym c.in_ok-a.ensures.ok_part ∙ c.size.ensures in let b : Some c.in_ok-p.p ≡ sized c.args.value = sym c.in_ok-p.ensures.ok_part ∙ c.size-2.ensures in let s = sized_some c.args.ftype a in let t = sized_some c.args.value b in omega (arith, s.0, t.0, size_few c.args.ftype, size_few c.args.value)
+
+pub put-requires-2 : goal.put-requires-2
+put-requires-2 c = let a : Some c.in_ok-a.a ≡ sized c.args.ftype = sym c.in_ok-a.ensures.ok_part ∙ c.size.ensures in let b : Some c.in_ok-p.p ≡ sized c.args.value = sym c.in_ok-p.ensures.ok_part ∙ c.size-2.ensures in let o = length_one c.args.room.now c.args.ftype c.args.value a b in record { holds = omega (arith, o); fits = omega (arith, o, c.if-room-n.false) }
+
+pub put-requires-3 : goal.put-requires-3
+put-requires-3 c = let a : Some c.in_ok-a.a ≡ sized c.args.ftype = sym c.in_ok-a.ensures.ok_part ∙ c.size.ensures in let b : Some c.in_ok-p.p ≡ sized c.args.value = sym c.in_ok-p.ensures.ok_part ∙ c.size-2.ensures in let s = sized_some c.args.ftype a in let t = sized_some c.args.value b in record { holds = omega (arith, t.0, t.1); fits = omega (arith, t.0, c.if-room-n.false) }

@@ -3,16 +3,14 @@ use Rattle.varint.specs.Whole.{whole_is}
 use Rattle.control.specs.OnlyLaws.{only_cut, only_is, only_not}
 use Rattle.control.proofs.settings.only.Goals as goal
 
-pub returns-in-Short : goal.returns-in-Short
+pub returns-in_err-whole : goal.returns-in_err-whole
 unfolding whole_is
-returns-in-Short c = only_cut _ (rw c.in-Short.is at c.read.ensures)
+returns-in_err-whole c = rw c.from_residual.ensures (only_cut _ c.in_err-whole.ensures)
 
-pub returns-then-next-payload : goal.returns-then-next-payload
+pub returns-then-whole-payload : goal.returns-then-whole-payload
 unfolding whole_is
-returns-then-next-payload c =
-    only_is _ (rw c.in-Value.is at c.read.ensures) c.if-next-payload.true
+returns-then-whole-payload c = only_is _ c.in_ok-whole.ensures c.if-whole-payload.true
 
-pub returns-else-next-payload : goal.returns-else-next-payload
+pub returns-else-whole-payload : goal.returns-else-whole-payload
 unfolding whole_is
-returns-else-next-payload c =
-    only_not _ (rw c.in-Value.is at c.read.ensures) c.if-next-payload.false
+returns-else-whole-payload c = only_not _ c.in_ok-whole.ensures c.if-whole-payload.false

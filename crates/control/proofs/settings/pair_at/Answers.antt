@@ -4,22 +4,18 @@ use Rattle.varint.specs.Whole.{whole_is}
 use Rattle.control.specs.Walk.{identifier_cut, value_cut}
 use Rattle.control.proofs.settings.pair_at.Goals as goal
 
-pub returns-in-Short : goal.returns-in-Short
+pub returns-in_err-identifier : goal.returns-in_err-identifier
 unfolding whole_is
-returns-in-Short c = identifier_cut (sym (rw c.in-Short.is at c.read.ensures))
+returns-in_err-identifier c = rw c.from_residual.ensures (identifier_cut (sym c.in_err-identifier.ensures))
 
-pub returns-in-Short-read : goal.returns-in-Short-read
+pub returns-in_err-value : goal.returns-in_err-value
 unfolding whole_is
-returns-in-Short-read c =
-    value_cut
-    (sym (rw c.in-Value.is at c.read.ensures))
-    (sym (rw c.in-Short-read.is at c.read-in-Value.ensures))
+returns-in_err-value c = rw c.from_residual-in_err-value.ensures (value_cut (sym c.in_ok-identifier.ensures) (sym c.in_err-value.ensures))
 
-pub returns-in-Value-read : goal.returns-in-Value-read
+pub returns : goal.returns
 unfolding whole_is
-returns-in-Value-read c =
-    record {
-      middle = c.in-Value.next;
-      identifies = sym (rw c.in-Value.is at c.read.ensures);
-      holds = sym (rw c.in-Value-read.is at c.read-in-Value.ensures);
-    }
+returns c = record {
+  middle = c.in_ok-identifier.identifier.next;
+  identifies = sym c.in_ok-identifier.ensures;
+  holds = sym c.in_ok-value.ensures;
+}

@@ -8,23 +8,23 @@ use Rattle.control.proofs.settings.seen.Goals as goal
 pub loop-at-init : goal.loop-at-init
 loop-at-init c = λ r k. k
 
-pub returns-in-Cut : goal.returns-in-Cut
-returns-in-Cut c =
-    c.loop-at.invariant false (look_cut _ _ _ _ c.loop-at-test.true (rw c.in-Cut.is at c.pair_at.ensures))
+pub returns-in_default : goal.returns-in_default
+returns-in_default c =
+    c.loop-at.invariant false (look_cut _ _ _ _ c.loop-at-test.true c.in_default.ensures)
 
-pub returns-then-identifier-sought : goal.returns-then-identifier-sought
-returns-then-identifier-sought c =
+pub returns-then-pair-sought : goal.returns-then-pair-sought
+returns-then-pair-sought c =
     c.loop-at.invariant true
-    (look_here _ _ _ _ c.loop-at-test.true (rw c.in-Pair.is at c.pair_at.ensures) c.if-identifier-sought.true)
+    (look_here _ _ _ _ c.loop-at-test.true c.in-Some.ensures c.if-pair-sought.true)
 
 pub loop-at-smaller : goal.loop-at-smaller
 loop-at-smaller c =
-    omega (arith, pair_shortens _ (rw c.in-Pair.is at c.pair_at.ensures))
+    omega (arith, pair_shortens _ c.in-Some.ensures)
 
 pub loop-at-preserved : goal.loop-at-preserved
 loop-at-preserved c =
     λ r k. c.loop-at.invariant r
-    (look_on _ _ _ _ r c.loop-at-test.true (rw c.in-Pair.is at c.pair_at.ensures) c.if-identifier-sought.false k)
+    (look_on _ _ _ _ r c.loop-at-test.true c.in-Some.ensures c.if-pair-sought.false k)
 
 pub returns : goal.returns
 returns c = c.loop-at.invariant false (look_none _ _ _ _ c.loop-at-test.false)

@@ -1,9 +1,17 @@
--- `control::settings::set` meets its contract. Assumes nothing.
-use borrow.Author.Tests.{eq-eqb, ne_eqb}
+-- The identifier is 6, 1, 7 or another. Assumes nothing.
+use native.Mathlib.Omega.{arith}
+use Rattle.control.specs.WalkLaws.{set_six, set_one, set_seven, set_other}
+use Rattle.control.specs.Answers.{settings_is}
 use Rattle.control.proofs.settings.set.Goals as goal
 
-pub returns-then-identifier-which : goal.returns-then-identifier-which
-returns-then-identifier-which c = simp (eq-eqb _ _ c.if-identifier-which.true)
+pub returns-in-6 : goal.returns-in-6
+returns-in-6 c = set_six c.args.pair.identifier c.args.pair.value (settings_is c.args.kept) c.in-6.is
 
-pub returns-else-identifier-which : goal.returns-else-identifier-which
-returns-else-identifier-which c = simp (ne_eqb _ _ c.if-identifier-which.false)
+pub returns-in-1 : goal.returns-in-1
+returns-in-1 c = set_one c.args.pair.identifier c.args.pair.value (settings_is c.args.kept) c.in-1.is
+
+pub returns-in-7 : goal.returns-in-7
+returns-in-7 c = set_seven c.args.pair.identifier c.args.pair.value (settings_is c.args.kept) c.in-7.is
+
+pub returns-in_default : goal.returns-in_default
+returns-in_default c = set_other c.args.pair.identifier c.args.pair.value (settings_is c.args.kept) (λ e. omega arith) (λ e. omega arith) (λ e. omega arith)

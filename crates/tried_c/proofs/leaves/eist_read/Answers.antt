@@ -3,14 +3,14 @@ use Rattle.varint.specs.Whole.{whole_is}
 use Rattle.tried_c.specs.LeafNumbers.{read_number, read_out}
 use Rattle.tried_c.proofs.leaves.eist_read.Goals as goal
 
-pub returns-in-Short : goal.returns-in-Short
+pub returns-in-None : goal.returns-in-None
 unfolding whole_is read_number read_out
-returns-in-Short c =
-    let e = rw c.in-Short.is at c.read.ensures in
+returns-in-None c =
+    let e = rw c.in-None.is at c.read.ensures in
     record { value = rw (← e); out_after = rw (← e) }
 
-pub returns-in-Value : goal.returns-in-Value
+pub returns-in-Some : goal.returns-in-Some
 unfolding whole_is read_number read_out
-returns-in-Value c =
-    let e = rw c.in-Value.is at c.read.ensures in
+returns-in-Some c =
+    let e = rw c.in-Some.is at c.read.ensures in
     record { value = rw (← e); out_after = rw (← e) }

@@ -2,14 +2,14 @@
 use Rattle.tried_c.specs.LeafNumbers.{settings_number, settings_out}
 use Rattle.tried_c.proofs.leaves.eist_settings.Goals as goal
 
-pub returns-in-Refused : goal.returns-in-Refused
+pub returns-in-Err : goal.returns-in-Err
 unfolding settings_number settings_out
-returns-in-Refused c =
-    let e = rw c.in-Refused.is at c.judge.ensures in
-    record { value = rw (← e); out_after = rw (← e) }
+returns-in-Err c =
+    let e = rw c.in-Err.is at c.judge.ensures in
+    record { value = rw (c.number.ensures, ← e); out_after = rw (← e) }
 
-pub returns-in-Kept : goal.returns-in-Kept
+pub returns-in-Ok : goal.returns-in-Ok
 unfolding settings_number settings_out
-returns-in-Kept c =
-    let e = rw c.in-Kept.is at c.judge.ensures in
+returns-in-Ok c =
+    let e = rw c.in-Ok.is at c.judge.ensures in
     record { value = rw (← e); out_after = rw (← e, c.is_limited.ensures, c.limit.ensures) }

@@ -1,5 +1,5 @@
 -- `tried_c::leaves::told` meets its contract, in each case. Assumes nothing.
 use Rattle.tried_c.proofs.leaves.told.Goals as goal
 
-pub returns-in-Count : goal.returns-in-Count
-returns-in-Count c = record { value = rw c.in-Count.is; out_after = rw c.in-Count.is }
+pub returns-in-Ok : goal.returns-in-Ok
+returns-in-Ok c = record { value = rw c.in-Ok.is; out_after = rw c.in-Ok.is }

@@ -1,6 +1,0 @@
-use mathlib.Core.Path.{ap}
-use Rattle.connection.specs.Turned.{near}
-use Rattle.connection.proofs.refused.Goals as goal
-
-pub returns : goal.returns
-returns c = let a = c.args in ap (near a.d a.f.row) c.numbered_report.ensures

@@ -1,9 +1,0 @@
--- `tried_c::feeds::reported` meets its contract, beside a fault and without one. Assumes nothing.
-use Rattle.tried_c.specs.StreamNumbers.{report_fault, report_left}
-use Rattle.tried_c.proofs.feeds.reported.Goals as goal
-
-pub returns-then-a-eq-FAULT : goal.returns-then-a-eq-FAULT
-returns-then-a-eq-FAULT c = report_fault c.args.at c.args.a c.if-a-eq-FAULT.true
-
-pub returns-else-a-eq-FAULT : goal.returns-else-a-eq-FAULT
-returns-else-a-eq-FAULT c = report_left c.args.at c.args.a c.if-a-eq-FAULT.false
