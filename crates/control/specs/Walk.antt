@@ -1,5 +1,5 @@
 -- What the walk over a SETTINGS payload goes by: its pairs, looking again at those passed, and what is kept so far. Assumes nothing.
-use Rattle.std.specs.Prelude.{◌≡◌, ℕ, List, [], ◌∷◌, Bool, ◌||◌, length, drop, Option as Maybe, Some, None, Result}
+use Rattle.std.specs.Prelude.{◌≡◌, ℕ, List, [], ◌∷◌, Bool, ◌||◌, length, drop, Option as Maybe, Some, None, Result, Ok, Err}
 use Rattle.rules.specs.Text.{is_one_of}
 use Rattle.rules.specs.Integers.{cut, got, integer}
 use Rattle.rules.specs.Reading.{Next}
@@ -46,3 +46,8 @@ rest seen s bs = pairs (length bs) seen s bs
 -- the answer at a place that is reached with s kept
 abbrev pub Walked : List ℕ → (at : ℕ) → Settings → Result kept.Settings Code → Type 0
 Walked l at s r = (seen : List ℕ) → Passed l 0 at [] seen → judged_is r ≡ numbered (rest seen s (drop at l))
+
+-- the answer, with what is kept
+abbrev pub kept_by : Result (Unit {0}) Code → kept.Settings → Result kept.Settings Code
+kept_by (Ok u) k = Ok k
+kept_by (Err c) k = Err c

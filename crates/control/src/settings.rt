@@ -5,7 +5,7 @@ ghost use Rattle.rules.specs.Integers.{integer};
 ghost use Rattle.rules.specs.Control.{reserved_identifiers, set_to, settings_of, only as the-only};
 ghost use Rattle.meaning.specs.NumberLaws.{numbered};
 ghost use Rattle.control.specs.Answers.{judged_is, single_is, settings_is};
-ghost use Rattle.control.specs.Walk.{FoundAt, Looked};
+ghost use Rattle.control.specs.Walk.{FoundAt, Looked, Walked, kept_by};
 
 use rules::codes::Code;
 
@@ -65,27 +65,33 @@ fn reserved(identifier: u64) -> bool
 }
 
 // What is kept once a pair has come.
-fn set(kept: Settings, pair: Pair) -> Settings
-    ensures { settings_is result ≡ set_to pair.identifier pair.value (settings_is kept) }
+fn set(kept: &mut Settings, pair: Pair)
+    ensures { settings_is kept.new ≡ set_to pair.identifier pair.value (settings_is kept.old) }
 {
     match pair.identifier {
-        6 => Settings {
-            size: Some(pair.value),
-            ..kept
-        },
-        1 => Settings {
-            capacity: pair.value,
-            ..kept
-        },
-        7 => Settings {
-            blocked: pair.value,
-            ..kept
-        },
-        _ => kept,
+        6 => kept.size = Some(pair.value),
+        1 => kept.capacity = pair.value,
+        7 => kept.blocked = pair.value,
+        _ => {}
     }
 }
 
-// A complete SETTINGS payload: pair by pair, each identifier once.
+// The payload from `at` on is an identifier and value followed by a shorter payload, or nothing. What is kept so far is lent: no level holds a copy.
+fn walk(payload: &[u8], at: usize, kept: &mut Settings) -> Result<(), Code>
+    ensures { Walked payload.now at (settings_is kept.old) (kept_by result kept.new) }
+{
+    if payload.len() <= at {
+        return Ok(());
+    }
+    let pair = pair_at(payload, at).ok_or(Code::FrameError)?;
+    if reserved(pair.identifier) || seen(payload, at, pair.identifier) {
+        return Err(Code::SettingsError);
+    }
+    set(kept, pair);
+    walk(payload, pair.shorter, kept)
+}
+
+// A complete SETTINGS payload.
 pub fn judge(payload: &[u8]) -> Result<Settings, Code>
     ensures { judged_is result ≡ numbered (settings_of payload.now) }
 {
@@ -94,15 +100,7 @@ pub fn judge(payload: &[u8]) -> Result<Settings, Code>
         capacity: 0,
         blocked: 0,
     };
-    let mut at = 0;
-    while at < payload.len() {
-        let pair = pair_at(payload, at).ok_or(Code::FrameError)?;
-        if reserved(pair.identifier) || seen(payload, at, pair.identifier) {
-            return Err(Code::SettingsError);
-        }
-        kept = set(kept, pair);
-        at = pair.shorter;
-    }
+    walk(payload, 0, &mut kept)?;
     Ok(kept)
 }
 

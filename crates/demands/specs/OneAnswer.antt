@@ -109,8 +109,9 @@ use Rattle.section.specs.contracts.header_section as section-header-section
 use Rattle.section.proofs.header_section.Symbol as section-header-section-is
 use Rattle.section.specs.contracts.trailers as section-trailers
 use Rattle.section.proofs.trailers.Symbol as section-trailers-is
-use Rattle.frames.specs.contracts.ruled as streams-ruled
-use Rattle.frames.proofs.ruled.Symbol as streams-ruled-is
+use Rattle.frames.specs.Wants.{ruled_in, ruled_one}
+use Rattle.frames.specs.contracts.Place.rule as streams-rule
+use Rattle.frames.proofs.Place.rule.Symbol as streams-rule-is
 use Rattle.frames.specs.contracts.end as streams-end
 use Rattle.frames.proofs.end.Symbol as streams-end-is
 use Rattle.frames.proofs.feed.Symbol as streams-feed-is
@@ -280,6 +281,9 @@ one_write m n = meets_one m n
 pub one_ended : (c : Cells) {x y : ℕ} → Ends c x → Ends c y → x ≡ y
 one_ended c e f = one (e (own_place c) [] a_place) (f (own_place c) [] a_place)
 
+pub one_ruling : {number : ℕ} {x y : _} → ruled_in x ≡ number → ruled_in y ≡ number → x ≡ y
+one_ruling {number} {x} {y} e f = ruled_one x y (one e f)
+
 pub one_closed : (w : OneWay) {x y : Result Unit Code} → Closes w x → Closes w y → x ≡ y
 one_closed w e f = one (e unset []) (f unset [])
 
@@ -377,7 +381,7 @@ module _ (w : World) where
 
   abbrev of_streams : List Function
   of_streams =
-      function streams-ruled-is.symbol streams-ruled.ended (streams-ruled.clauses w.𝓛 w.𝓜.mem w.𝓡.returns) (λ κs a g r q ws vs. equal)
+      function streams-rule-is.symbol streams-rule.ended (streams-rule.clauses w.𝓛 w.𝓜.mem w.𝓡.returns) (λ κs a g r q ws vs. facts (λ x y. (one_ruling x y, refl)))
       ∷ function streams-end-is.symbol streams-end.ended (streams-end.clauses w.𝓛 w.𝓜.mem w.𝓡.returns) (λ κs a g r q ws vs. facts (λ x y. (one_ended a.0 x y, refl)))
       ∷ []
 
@@ -473,7 +477,7 @@ module _ (w : World) where
       "control::settings::judge" ∷ "control::settings::only" ∷
       "fields::has_byte" ∷ "fields::begins_with" ∷ "fields::same_bytes" ∷ "fields::Table::any_outside" ∷ "fields::Table::bad_line" ∷ "fields::decimal_of" ∷ "fields::Table::line_spot" ∷ "fields::line_at" ∷
       "section::code" ∷ "section::header_section" ∷ "section::trailers" ∷
-      "frames::ruled" ∷ "frames::end" ∷
+      "frames::Place::rule" ∷ "frames::end" ∷
       "record::cells_in" ∷ "record::free" ∷ "record::is_free" ∷ "record::is_part" ∷ "record::is_sane" ∷ "record::read" ∷ "record::row" ∷ "record::write" ∷ "record::in_content" ∷
       "requests::given::give" ∷
       "oneway::close" ∷

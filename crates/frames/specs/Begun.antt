@@ -1,5 +1,5 @@
 -- Where a feed begins: a payload, or a header from the bytes read of it; and a header that the piece ends in. Assumes nothing.
-use Rattle.std.specs.Prelude.{◌≡◌, List, [], length, drop}
+use Rattle.std.specs.Prelude.{◌≡◌, List, [], length, drop, Option, Some, None, Result, Ok}
 use Rattle.std.proofs.Math.Path.{refl, sym, ap}
 use Rattle.std.proofs.Common.{◌∙◌, add-zero, inl, inr, drop_of_length-le}
 use Prim.Native.Nat.{ℕ, zero, suc, ◌+◌, ◌-◌, ◌≤◌, ◌<◌, ◌^◌, zero-le}
@@ -19,10 +19,14 @@ use Rattle.frames.specs.declared.Head.{Head}
 use Rattle.frames.specs.declared.HeadEnd.{HeadEnd}
 use Rattle.frames.specs.declared.Answer.{Answer}
 use Rattle.frames.specs.declared.Start.{Start}
+use Rattle.frames.specs.declared.Use.{Use}
+use Rattle.frames.specs.declared.Use.TheVariants.{Skipped}
+use Rattle.rules.specs.declared.codes.Code.{Code}
 use Rattle.frames.specs.Both.{Place, rule, both}
 use Rattle.frames.specs.Uses.{place_of, number_of, ruling_at, ruling_back, number_stands}
+use Rattle.frames.specs.Wants.{ruled_in, wanted_in, ruled_not_none}
 use Rattle.frames.specs.Heads.{head_state, goes_on, head_goes, GoodHead, HeadRead}
-use Rattle.frames.specs.Stops.{header_of, payload_of, stop_of, not_header, Unready, Lawful, nothing_lawful}
+use Rattle.frames.specs.Stops.{header_of, payload_of, stop_of, not_header, Unready, Lawful, nothing_lawful, ruling_lawful}
 use Rattle.frames.specs.Answers.{mode_state, state_at, state_of, place_in, StandsIn, answer_at, Sane, Numbers, Answers, place_same, answer}
 use Rattle.frames.specs.Handed.{behind}
 use Rattle.frames.specs.Stopped.{more_sum, from_stop}
@@ -144,11 +148,11 @@ numbers_more c d len e h k = rw e (h, k)
 
 -- ---- where a feed begins
 
--- at a payload (number, left) that is `at` bytes and `heads` headers on, or, of no use, nowhere: the cells are what is left
+-- at a payload (wanted, left) that is `at` bytes and `heads` headers on, or, with nothing wanted, nowhere: the cells are what is left
 pub record Started (c : Cells) (s : List ℕ) (allow : ℕ) (r : Start) : Type 0 where
-  pub goes : (r.number ≡ NO-USE → ⊥) → (p : Place) (k : List ℕ) → StandsIn c p
-      → feed both allow (state_of c p k) s ≡ past r.at r.heads (stop_of s r.number r.left (allow - r.heads) r.at p)
-  pub stays : r.number ≡ NO-USE → (p : Place) (k : List ℕ) → StandsIn c p
+  pub goes : (wanted_in r.wanted ≡ NO-USE → ⊥) → (p : Place) (k : List ℕ) → StandsIn c p
+      → feed both allow (state_of c p k) s ≡ past r.at r.heads (stop_of s (wanted_in r.wanted) r.left (allow - r.heads) r.at p)
+  pub stays : wanted_in r.wanted ≡ NO-USE → (p : Place) (k : List ℕ) → StandsIn c p
       → feed both allow (state_of c p k) s ≡ record { used = r.at; heads = 0; event = quiet; after = lives (state_of r.cells p k) }
   pub within : r.at ≤ length s
   pub small : r.left < 2 ^ 62
@@ -156,10 +160,10 @@ pub record Started (c : Cells) (s : List ℕ) (allow : ℕ) (r : Start) : Type 0
   pub sane : Sane r.cells
   pub place : (p : Place) → place_in r.cells p ≡ place_in c p
   pub phase : r.cells.phase ≡ c.phase
-  pub lawful : Lawful r.number c.phase c.sum r.left
+  pub lawful : Lawful (wanted_in r.wanted) c.phase c.sum r.left
 
-abbrev start : (at left number heads : ℕ) → Cells → Start
-start at left number heads c = record { at = at; left = left; number = number; heads = heads; cells = c }
+abbrev pub start : (at left : ℕ) → Option (Result Use Code) → (heads : ℕ) → Cells → Start
+start at left wanted heads c = record { at = at; left = left; wanted = wanted; heads = heads; cells = c }
 
 module _ (c : Cells) (s : List ℕ) (allow : ℕ) (sane : Sane c) where
   -- a skipped payload, of some bytes or of none
@@ -176,7 +180,7 @@ module _ (c : Cells) (s : List ℕ) (allow : ℕ) (sane : Sane c) where
       let z = sub-zero allow in
       rw z (sym (past_none (stop_of s USE-SKIPPED left allow 0 p) ∙ not_header s USE-SKIPPED left allow 0 p (λ e. omega arith)))
 
-  pub begin_skip : c.mode ≡ IN-SKIPPED → Started c s allow (start 0 c.acc USE-SKIPPED 0 c)
+  pub begin_skip : c.mode ≡ IN-SKIPPED → Started c s allow (start 0 c.acc (Some (Ok Skipped)) 0 c)
   unfolding mode_state mode_of
   begin_skip m =
       let lo = sane.some (omega arith) (λ e. omega arith) (λ e. omega arith) in
@@ -193,7 +197,7 @@ module _ (c : Cells) (s : List ℕ) (allow : ℕ) (sane : Sane c) where
         lawful = nothing_lawful c.phase c.sum c.acc (inl refl);
       }
 
-  pub begin_fresh : c.mode ≡ IN-TYPE → c.due ≡ 0 → Started c s allow (start 0 0 USE-SKIPPED 0 c)
+  pub begin_fresh : c.mode ≡ IN-TYPE → c.due ≡ 0 → Started c s allow (start 0 0 (Some (Ok Skipped)) 0 c)
   unfolding mode_state mode_of head_state prog
   begin_fresh m d = record {
     goes = λ n p k st. rw (m, d) (sym (none_from p) ∙ from_here 0 p);
@@ -212,7 +216,7 @@ module _ (c : Cells) (s : List ℕ) (allow : ℕ) (sane : Sane c) where
   head_held zero a d t p h = feed_held both (prog d a) p s
   head_held (suc m) a d t p h = feed_held_length both t (prog d a) p s
 
-  pub begin_held : c.mode < IN-SKIPPED → allow ≡ 0 → Started c s allow (start 0 0 NO-USE 0 c)
+  pub begin_held : c.mode < IN-SKIPPED → allow ≡ 0 → Started c s allow (start 0 0 None 0 c)
   unfolding halt
   begin_held m z = record {
     goes = λ n. absurd (n refl);
@@ -239,7 +243,7 @@ module _ (c : Cells) (s : List ℕ) (allow : ℕ) (sane : Sane c) where
   begun_feed : (n : ℕ) (p : Place) (k : List ℕ) → c.mode < IN-SKIPPED → allow ≡ suc n → feed both allow (state_of c p k) s ≡ head_goes n cells_head p (drop 0 s)
   begun_feed n p k m e = rw e (begun_goes c.mode c.acc c.due c.ftype n p k m)
 
-  pub begin_cut : (r : HeadEnd) (d : Cells) → c.mode < IN-SKIPPED → (allow ≡ 0 → ⊥) → HeadRead s 0 cells_head r → r.head.mode < HEAD-WHOLE → d ≡ head_cells r.head c → Started c s allow (start (length s) 0 NO-USE 0 d)
+  pub begin_cut : (r : HeadEnd) (d : Cells) → c.mode < IN-SKIPPED → (allow ≡ 0 → ⊥) → HeadRead s 0 cells_head r → r.head.mode < HEAD-WHOLE → d ≡ head_cells r.head c → Started c s allow (start (length s) 0 None 0 d)
   begin_cut r d m n0 h q e =
       let z : allow ≡ suc (allow - 1) = omega arith in
       let u : length s - 0 ≡ length s = omega arith in
@@ -260,11 +264,13 @@ module _ (c : Cells) (s : List ℕ) (allow : ℕ) (sane : Sane c) where
   unfolding goes_on
   whole_goes n mode a d t p bs e = rw e refl
 
-  pub begin_whole : (r : HeadEnd) (number : ℕ) → c.mode < IN-SKIPPED → (allow ≡ 0 → ⊥) → HeadRead s 0 cells_head r → r.head.mode ≡ HEAD-WHOLE
-      → number ≡ number_of (rule (place_of c.phase c.has c.stated c.sum) r.head.ftype r.head.acc) → (number ≡ NO-USE → ⊥) → Lawful number c.phase c.sum r.head.acc
-      → Started c s allow (start r.next r.head.acc number 1 c)
+  pub begin_whole : (r : HeadEnd) (ruled : Result Use Code) → c.mode < IN-SKIPPED → (allow ≡ 0 → ⊥) → HeadRead s 0 cells_head r → r.head.mode ≡ HEAD-WHOLE
+      → ruled_in ruled ≡ number_of (rule (place_of c.phase c.has c.stated c.sum) r.head.ftype r.head.acc)
+      → Started c s allow (start r.next r.head.acc (Some ruled) 1 c)
   unfolding payload_of
-  begin_whole r number m n0 h q known n9 law =
+  begin_whole r ruled m n0 h q known =
+      let number = ruled_in ruled in
+      let n9 = ruled_not_none ruled in
       let z : allow ≡ suc (allow - 1) = omega arith in
       let u : r.next - 0 ≡ r.next = omega arith in
       record {
@@ -283,5 +289,5 @@ module _ (c : Cells) (s : List ℕ) (allow : ℕ) (sane : Sane c) where
         sane = sane;
         place = λ p. refl;
         phase = refl;
-        lawful = law;
+        lawful = ruling_lawful number c.phase c.has c.stated c.sum r.head.ftype r.head.acc sane.stateds known;
       }

@@ -2,16 +2,16 @@
 use Rattle.std.specs.Prelude.{◌≡◌, List}
 use Rattle.std.proofs.Math.Path.{refl}
 use Rattle.std.proofs.Common.{sym, ap, ◌∙◌, arith, eq-eqb, ne_eqb}
-use Prim.Native.Nat.{ℕ, zero, suc, ◌<◌}
+use Prim.Native.Nat.{ℕ, zero, suc, ◌<◌, ◌≤◌}
 use Rattle.rules.specs.Numbers.{CLOSED-CRITICAL-STREAM, FRAME-ERROR, REQUEST-INCOMPLETE, MESSAGE-ERROR, ACCEPTED, SECTION-DUE, of_connection, closed_critical_stream, code_number}
-use Rattle.rules.specs.Reading.{Part, End, complete, lacking, Verdict, whole, fault, waits, ended}
+use Rattle.rules.specs.Reading.{End, complete, lacking, Verdict, whole, fault, waits, ended}
 use Rattle.rules.specs.Message.{Message, unequal, all_come, lacks, ends, tally}
 use Rattle.rules.specs.Request.{Rules, request, end_of_ended, code_of}
 use Rattle.rules.specs.Control.{Control, control}
 use Rattle.meaning.specs.Machine.{fresh, need, State, in_type, in_length, in_payload, due, finish}
 use Rattle.meaning.specs.Hom.{map_state}
 use Rattle.varint.specs.ByByte.{prog}
-use Rattle.frames.specs.Modes.{IN-TYPE, HEADER-SECTION-DUE, TRAILERS-DUE, OPENING, TRAILED, waiting, mode_number, mode_of, of_mode, at_payload}
+use Rattle.frames.specs.Modes.{IN-TYPE, HEADER-SECTION-DUE, TRAILERS-DUE, IN-SETTINGS, OPENING, TRAILED, mode_of, at_waiting, at_payload}
 use Rattle.frames.specs.declared.Cells.{Cells}
 use Rattle.frames.specs.Both.{Place, of_request, of_control}
 use Rattle.frames.specs.Uses.{stated_of, place_of, Stands, a_place, any_set}
@@ -164,12 +164,9 @@ cuts_alike {h} {n} {m} {phase} a_place = same_cut h n m phase
 cuts_alike {p = of_control c} (any_set k s) = refl
 cuts_alike {p = of_request m} (any_set k s) = absurd s
 
-due_end : (x : Part) (mode a d t : ℕ) (p : Place) (k : List ℕ) → mode ≡ mode_number (waiting x) → SECTION-DUE ≡ end_of (state_at mode a d t p k)
+pub end_due : (c : Cells) → HEADER-SECTION-DUE ≤ c.mode → c.mode < IN-SETTINGS → Ends c SECTION-DUE
 unfolding mode_state end_of
-due_end x mode a d t p k e = let w = of_mode (waiting x) e in rw w refl
-
-pub end_due : (c : Cells) (x : Part) → c.mode ≡ mode_number (waiting x) → Ends c SECTION-DUE
-end_due c x e p k st = due_end x c.mode c.acc c.due c.ftype p k e
+end_due c h l p k st = at_waiting (λ m. SECTION-DUE ≡ end_of (mode_state m c.acc c.due c.ftype p k)) (λ x. refl) c.mode h l
 
 fresh_end : (mode a d t : ℕ) (p : Place) (k : List ℕ) → mode ≡ IN-TYPE → d ≡ 0 → end_number (end_at p) ≡ end_of (state_at mode a d t p k)
 unfolding mode_state mode_of head_state prog end_of

@@ -1,5 +1,5 @@
 -- One feed, from its parts: a law for each way it goes. Assumes nothing.
-use Rattle.std.specs.Prelude.{◌≡◌, refl, ℕ, zero, suc, ◌+◌, ◌-◌, ◌≤◌, ◌<◌, ◌^◌, List, length, Some}
+use Rattle.std.specs.Prelude.{◌≡◌, refl, ℕ, zero, suc, ◌+◌, ◌-◌, ◌≤◌, ◌<◌, ◌^◌, List, length, false, Some, Ok}
 use Rattle.std.proofs.Common.{sym, ap, ◌∙◌, subst, zero-le, arith, ne_eqb, le-leb}
 use Rattle.std.proofs.Math.Nat.{sub-zero}
 use Rattle.std.proofs.Math.Logic.{inl}
@@ -12,13 +12,15 @@ use Rattle.frames.specs.Modes.{IN-TYPE, IN-SKIPPED, IN-CONTENT, HEADER-SECTION-D
 use Rattle.frames.specs.declared.Cells.{Cells}
 use Rattle.frames.specs.declared.Answer.{Answer}
 use Rattle.frames.specs.declared.Start.{Start}
-use Rattle.varint.specs.Whole.{Ended, Valued}
+use Rattle.frames.specs.declared.Use.TheVariants.{Skipped}
+use Rattle.frames.specs.declared.FrameHeader.{FrameHeader}
 use Rattle.frames.specs.Both.{Place, rule, both}
-use Rattle.frames.specs.Uses.{place_of, number_of, not_none, passes_skip, passes_data, data_lawful}
-use Rattle.frames.specs.Stops.{stop_of, Stop, stop_here, header_stop, pass_stop, found, ruling_lawful}
+use Rattle.frames.specs.Uses.{place_of, number_of, passes_of, passes_skip, passes_data, data_lawful}
+use Rattle.frames.specs.Wants.{wanted_in}
+use Rattle.frames.specs.Stops.{stop_of, Stop, stop_here, header_stop, pass_stop, WholeAt, ruling_lawful}
 use Rattle.frames.specs.Answers.{mode_state, state_at, state_of, answer_at, Sane, Held, Answers, from_payload, some_coming, place_same, Content, goes_on, is_over, Hands, answer}
 use Rattle.frames.specs.Stopped.{more_sum, from_stop, stop_content}
-use Rattle.frames.specs.Begun.{Started, begin_fresh}
+use Rattle.frames.specs.Begun.{start, Started, begin_fresh}
 
 -- THE DEFINITION'S FEED of these cells
 abbrev pub fed_by : (c : Cells) (s : List ℕ) (allow : ℕ) → (n : ℕ) → Place → (sofar : List ℕ) → Feeding Place
@@ -74,7 +76,7 @@ module _ (c : Cells) (s : List ℕ) (allow : ℕ) where
   }
 
   -- nowhere
-  pub fed_stays : (r : Start) → Started c s allow r → r.number ≡ NO-USE → Fed c s allow (answer NOTHING r.at 0 r.at 0 r.cells)
+  pub fed_stays : (r : Start) → Started c s allow r → wanted_in r.wanted ≡ NO-USE → Fed c s allow (answer NOTHING r.at 0 r.at 0 r.cells)
   unfolding answer_at
   fed_stays r q e = record {
     is = λ n p k hk st. (let x = q.place p ∙ place_same c p st in q.stays e p k st ∙ rw x refl);
@@ -94,8 +96,8 @@ module _ (c : Cells) (s : List ℕ) (allow : ℕ) where
   fresh_held (suc (suc (suc m))) k h e = absurd (omega arith)
 
   -- by the readers
-  pub fed_read : (b : Start) {to len rest number : ℕ} {r : Answer} → c.mode < IN-CONTENT → Started c s allow b → (b.number ≡ NO-USE → ⊥)
-      → Stop s c.phase c.has c.stated c.sum b.at (allow - b.heads) (stop_of s b.number b.left (allow - b.heads) b.at) to len rest number
+  pub fed_read : (b : Start) {to len rest number : ℕ} {r : Answer} → c.mode < IN-CONTENT → Started c s allow b → (wanted_in b.wanted ≡ NO-USE → ⊥)
+      → Stop s c.phase c.has c.stated c.sum b.at (allow - b.heads) (stop_of s (wanted_in b.wanted) b.left (allow - b.heads) b.at) to len rest number
       → Answers c s 1 (from_stop s to (allow - rest) number len rest) r → Fed c s allow r
   fed_read b {to} {len} {rest} {number} m q n9 st a = record {
     is = λ n p k hk sd.
@@ -122,27 +124,26 @@ module _ (c : Cells) (s : List ℕ) (allow : ℕ) where
   unsaid q e = let z = ap (λ (x : Answer). x.event) q in absurd (omega arith)
 
   -- a DATA frame that begins the piece, and has content: its header is whole
-  module _ (sane : Sane c) (m0 : c.mode ≡ IN-TYPE) (d0 : c.due ≡ 0) (some : allow ≡ 0 → ⊥) {n m l t k : ℕ} (h : Ended s 0 (Some n)) (g : Ended s n (Some m)) (v : Valued s n l) (u : Valued s 0 t)
-      (known : k ≡ number_of (rule (place_of c.phase c.has c.stated c.sum) t l)) (one : k ≡ USE-CONTENT) where
-    pub data_law : (c.phase ≡ BODY) × (c.sum + l ≤ 2 ^ 62)
-    data_law = data_lawful c.phase c.has c.stated c.sum t l sane.stateds (sym known ∙ one)
+  module _ (sane : Sane c) (m0 : c.mode ≡ IN-TYPE) (d0 : c.due ≡ 0) (some : allow ≡ 0 → ⊥) {h : FrameHeader} (whole : WholeAt s 0 h)
+      (known : USE-CONTENT ≡ number_of (rule (place_of c.phase c.has c.stated c.sum) h.ftype h.len)) where
+    pub data_law : (c.phase ≡ BODY) × (c.sum + h.len ≤ 2 ^ 62)
+    data_law = data_lawful c.phase c.has c.stated c.sum h.ftype h.len sane.stateds (sym known)
 
-    none : k ≡ NO-USE → ⊥
-    none e = not_none (place_of c.phase c.has c.stated c.sum) t l (sym known ∙ e)
-
-    module _ (l0 : l ≡ 0 → ⊥) where
-      data-stop : Stop s c.phase c.has c.stated c.sum 0 allow (stop_of s USE-SKIPPED 0 allow 0) m l (allow - 1) k
+    module _ (l0 : h.len ≡ 0 → ⊥) where
+      data-stop : Stop s c.phase c.has c.stated c.sum 0 allow (stop_of s USE-SKIPPED 0 allow 0) h.next h.len (allow - 1) USE-CONTENT
       data-stop =
           let p = c.phase in
-          let here = stop_here s p c.has c.stated c.sum m l (allow - 1) k g.within (sym (passes_data l k (length s - m) one) ∙ ne_eqb l 0 l0) none v.small (ruling_lawful k p c.has c.stated c.sum t l sane.stateds known) in
+          let none : USE-CONTENT ≡ NO-USE → ⊥ = λ e. omega arith in
+          let passes : passes_of h.len USE-CONTENT (length s - h.next) ≡ false = sym (passes_data h.len USE-CONTENT (length s - h.next) refl) ∙ ne_eqb h.len 0 l0 in
+          let here = stop_here s p c.has c.stated c.sum h.next h.len (allow - 1) USE-CONTENT whole.within passes none whole.small (ruling_lawful USE-CONTENT p c.has c.stated c.sum h.ftype h.len sane.stateds known) in
           pass_stop s p c.has c.stated c.sum 0 0 USE-SKIPPED allow (sym (passes_skip 0 USE-SKIPPED (length s - 0) refl) ∙ le-leb 0 (length s - 0) zero-le)
-          (header_stop s p c.has c.stated c.sum 0 allow t n l m k (found s 0 n t h u) (found s n m l g v) some known none zero-le here)
+          (header_stop s p c.has c.stated c.sum 0 allow h.ftype whole.middle h.len h.next USE-CONTENT whole.typed whole.sized some known none zero-le here)
 
-      pub fed-data : {d : Cells} {r : Answer} → d ≡ more_sum c l → Hands d s m 1 IN-CONTENT l r → Fed c s allow r × Content c r.cells
+      pub fed-data : {d : Cells} {r : Answer} → d ≡ more_sum c h.len → Hands d s h.next 1 IN-CONTENT h.len r → Fed c s allow r × Content c r.cells
       fed-data {d} {r} q a =
           let z : allow - 0 ≡ allow = sub-zero allow in
           let e : 1 ≡ allow - (allow - 1) = omega arith in
-          let st : Stop s c.phase c.has c.stated c.sum 0 (allow - 0) (stop_of s USE-SKIPPED 0 (allow - 0) 0) m l (allow - 1) k = rw z data-stop in
-          let x = stop_content c s m 1 l (allow - 1) g.within (sane.sums, sane.stateds) sane k d one (omega arith) data_law.0 q a.0 in
-          let h : Content (more_sum c l) r.cells = rw q at (a.1 refl) in
-          (fed_read (record { at = 0; left = 0; number = USE-SKIPPED; heads = 0; cells = c }) (omega arith) (begin_fresh c s allow sane m0 d0) (λ y. omega arith) st (subst (λ y. Answers c s 1 (from_stop s m y k l (allow - 1)) r) e x), content_more c l h)
+          let st : Stop s c.phase c.has c.stated c.sum 0 (allow - 0) (stop_of s USE-SKIPPED 0 (allow - 0) 0) h.next h.len (allow - 1) USE-CONTENT = rw z data-stop in
+          let x = stop_content c s h.next 1 h.len (allow - 1) whole.within (sane.sums, sane.stateds) sane USE-CONTENT d refl (omega arith) data_law.0 q a.0 in
+          let more : Content (more_sum c h.len) r.cells = rw q at (a.1 refl) in
+          (fed_read (start 0 0 (Some (Ok Skipped)) 0 c) (omega arith) (begin_fresh c s allow sane m0 d0) (λ y. omega arith) st (subst (λ y. Answers c s 1 (from_stop s h.next y USE-CONTENT h.len (allow - 1)) r) e x), content_more c h.len more)

@@ -1,6 +1,7 @@
 pub mod Both
 pub mod Modes
 pub mod Uses
+pub mod Wants
 pub mod Ruled
 pub mod Stops
 pub mod Heads

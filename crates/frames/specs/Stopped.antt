@@ -1,5 +1,5 @@
 -- What the code answers of a stop of the two readers: a law for each kind of stop. Assumes nothing.
-use Rattle.std.specs.Prelude.{◌≡◌, refl, drop}
+use Rattle.std.specs.Prelude.{◌≡◌, refl, drop, Option}
 use Rattle.std.proofs.Common.{sym, ◌∙◌}
 use Rattle.std.proofs.Math.Path.{ap}
 use Prim.Native.Nat.{ℕ, zero, suc, ◌+◌, ◌-◌, ◌≤◌, ◌<◌, ◌^◌}
@@ -9,20 +9,24 @@ use mathlib.Core.List.{List, []}
 use Rattle.std.proofs.Math.Logic.{inl, inr}
 use Rattle.std.proofs.Math.ListN.{length, length-drop}
 use Rattle.rules.specs.Events.{NOTHING, FAULT}
-use Rattle.rules.specs.Reading.{header_section, trailers, settings, goaway, max_push_id, cancel_push, Use, content, skipped, section, kept, accept}
+use Rattle.rules.specs.Reading as reading
+use Rattle.rules.specs.Reading.{header_section, trailers, settings, goaway, max_push_id, cancel_push, content, skipped, section, kept, accept}
 use Rattle.meaning.specs.Machine.{State, in_payload, with_left}
 use Rattle.meaning.specs.Feed.{Feeding, halt, onward, left_event, behind_header, feed}
 use Rattle.meaning.specs.FeedLaws.{past}
 use Rattle.meaning.proofs.FeedLaws.{feed_held, skip_short}
 use Rattle.varint.specs.ByByte.{prog}
-use Rattle.frames.specs.Modes.{IN-TYPE, IN-SKIPPED, IN-CONTENT, IN-HEADER-SECTION, IN-TRAILERS, IN-SETTINGS, IN-GOAWAY, IN-MAX-PUSH-ID, IN-CANCEL-PUSH, USE-SKIPPED, USE-CONTENT, USE-HEADER-SECTION, USE-TRAILERS, USE-SETTINGS, USE-GOAWAY, USE-MAX-PUSH-ID, USE-CANCEL-PUSH, NO-USE, SECTION-MODES, KEPT-MODES, BODY, mode_of}
+use Rattle.frames.specs.Modes.{IN-TYPE, IN-SKIPPED, IN-CONTENT, IN-HEADER-SECTION, IN-TRAILERS, IN-SETTINGS, IN-GOAWAY, IN-MAX-PUSH-ID, IN-CANCEL-PUSH, USE-SKIPPED, USE-CONTENT, USE-HEADER-SECTION, USE-TRAILERS, USE-SETTINGS, USE-GOAWAY, USE-MAX-PUSH-ID, USE-CANCEL-PUSH, NO-USE, BODY, mode_of}
 use Rattle.frames.specs.declared.Cells.{Cells}
 use Rattle.frames.specs.declared.Answer.{Answer}
+use Rattle.frames.specs.declared.Use.{Use}
+use Rattle.frames.specs.declared.Use.TheVariants.{Skipped, Content, HeaderSection, Trailers, Settings, Goaway, MaxPushId, CancelPush}
 use Rattle.frames.specs.Both.{Place, both}
 use Rattle.frames.specs.Uses.{place_of, Stands, a_place, any_set, with_data, ruling_at, high_back}
+use Rattle.frames.specs.Wants.{mode_in, use_in, stated_in, has_in, length_in, stands_back}
 use Rattle.frames.specs.Heads.{head_state}
 use Rattle.frames.specs.Parts.{Stopping, section_stops, kept_stops, over_stops}
-use Rattle.frames.specs.Stops.{header_of, payload_of, stop_of, not_header, Lawful}
+use Rattle.frames.specs.Stops.{Coming, Stop, header_of, payload_of, stop_of, not_header, Lawful}
 use Rattle.frames.specs.Answers.{mode_state, state_at, place_at, place_in, answer_at, Sane, Numbers, emptied, coming, Answers, from_payload, some_coming, place_same, in_mode, answer}
 use Rattle.frames.specs.Handed.{sane_in, behind}
 
@@ -34,6 +38,13 @@ from_stop s to heads number len rest n p k = past to heads (stop_of s number len
 abbrev pub more_sum : Cells → (len : ℕ) → Cells
 more_sum c len = record { mode = c.mode; acc = c.acc; due = c.due; ftype = c.ftype; phase = c.phase; has = c.has; stated = c.stated; sum = c.sum + len }
 
+-- a stop by the place of cells is one by their numbers
+pub stop_placed : (s : List ℕ) (c : Cells) {ph m : ℕ} {st : Option ℕ} {at allow : ℕ} {want : Coming} {to len rest number : ℕ} → ph ≡ c.phase → st ≡ stated_in c.has c.stated → m ≡ c.sum
+    → Stop s ph (has_in st) (length_in st) m at allow want to len rest number → Stop s c.phase c.has c.stated c.sum at allow want to len rest number
+stop_placed s c e f g q =
+    let r = rw (e, f, g) at q in
+    record { is = λ p st. r.is p (stands_back c.has c.stated c.sum st); from = r.from; within = r.within; fewer = r.fewer; small = r.small; stuck = r.stuck }
+
 data_place : (h n m len : ℕ) {ph : ℕ} {p : Place} (q : Place) → Stands h n m ph p → ph ≡ BODY → with_data len p ≡ place_at ph h n (m + len) q
 unfolding with_data place_at place_of
 data_place h n m len q (a_place {phase = ph}) e = rw e refl
@@ -43,7 +54,7 @@ free_place : (h n m ph : ℕ) (p q : Place) → ph ≡ BODY → place_at ph h n 
 unfolding place_at
 free_place h n m ph p q e = rw e refl
 
-behind_accept : {u : Use} (len : ℕ) (q : Place) (f : State Place → Feeding Place) → (len ≡ 0 → Stopping u) → behind_header both len (accept u q) f ≡ coming len (in_payload u [] (len - 1) q) f
+behind_accept : {u : reading.Use} (len : ℕ) (q : Place) (f : State Place → Feeding Place) → (len ≡ 0 → Stopping u) → behind_header both len (accept u q) f ≡ coming len (in_payload u [] (len - 1) q) f
 unfolding behind_header coming emptied left_event with_left onward
 behind_accept zero q f h = over_stops both 0 q (h refl) [] f
 behind_accept (suc l) q f h = let z : suc l - 1 ≡ l = omega arith in rw z refl
@@ -88,7 +99,7 @@ module _ (c : Cells) (s : List ℕ) (to heads len rest : ℕ) (w : to ≤ length
   -- ---- a payload of some bytes
 
   -- what is behind a header of this ruling
-  behind_ruling : (number : ℕ) (u : Use) (p q : Place) → ruling_at p number len ≡ accept u q → (len ≡ 0 → Stopping u)
+  behind_ruling : (number : ℕ) (u : reading.Use) (p q : Place) → ruling_at p number len ≡ accept u q → (len ≡ 0 → Stopping u)
       → payload_of s number len rest to p ≡ coming len (in_payload u [] (len - 1) q) (λ st. feed both rest st (drop to s))
   unfolding payload_of
   behind_ruling number u p q r h = rw r (behind_accept len q (λ st. feed both rest st (drop to s)) h)
@@ -141,7 +152,7 @@ module _ (c : Cells) (s : List ℕ) (to heads len rest : ℕ) (w : to ≤ length
 
   -- ---- a section or a kept payload
 
-  handed : (number mode : ℕ) (u : Use) {r : Answer} → ((p : Place) → ruling_at p number len ≡ accept u p) → ((p : Place) → state_at mode len 0 0 p [] ≡ in_payload u [] (len - 1) p)
+  handed : (number mode : ℕ) (u : reading.Use) {r : Answer} → ((p : Place) → ruling_at p number len ≡ accept u p) → ((p : Place) → state_at mode len 0 0 p [] ≡ in_payload u [] (len - 1) p)
       → (number ≡ NO-USE → ⊥) → Stopping u → Answers c s 0 (from_payload c s to heads mode len) r → Answers c s 1 (from_stop s to heads number len rest) r
   handed number mode u ru sa n9 o a = record {
     is = λ n p k hk st.
@@ -158,22 +169,13 @@ module _ (c : Cells) (s : List ℕ) (to heads len rest : ℕ) (w : to ≤ length
     listed = a.listed;
   }
 
-  pub stop_section : (number : ℕ) {r : Answer} → USE-HEADER-SECTION ≤ number → number < USE-SETTINGS → Answers c s 0 (from_payload c s to heads (number + SECTION-MODES) len) r → Answers c s 1 (from_stop s to heads number len rest) r
+  pub stop_handed : (u : Use) {r : Answer} → (u ≡ Skipped → ⊥) → (u ≡ Content → ⊥) → Answers c s 0 (from_payload c s to heads (mode_in u) len) r → Answers c s 1 (from_stop s to heads (use_in u) len rest) r
   unfolding ruling_at mode_state mode_of
-  stop_section zero h l a = absurd (omega arith)
-  stop_section (suc zero) h l a = absurd (omega arith)
-  stop_section (suc (suc zero)) h l a = handed USE-HEADER-SECTION IN-HEADER-SECTION (section header_section) (λ p. refl) (λ p. refl) (λ z. omega arith) (section_stops header_section) a
-  stop_section (suc (suc (suc zero))) h l a = handed USE-TRAILERS IN-TRAILERS (section trailers) (λ p. refl) (λ p. refl) (λ z. omega arith) (section_stops trailers) a
-  stop_section (suc (suc (suc (suc k)))) h l a = absurd (omega arith)
-
-  pub stop_kept : (number : ℕ) {r : Answer} → USE-SETTINGS ≤ number → number ≤ USE-CANCEL-PUSH → Answers c s 0 (from_payload c s to heads (number + KEPT-MODES) len) r → Answers c s 1 (from_stop s to heads number len rest) r
-  unfolding ruling_at mode_state mode_of
-  stop_kept zero h l a = absurd (omega arith)
-  stop_kept (suc zero) h l a = absurd (omega arith)
-  stop_kept (suc (suc zero)) h l a = absurd (omega arith)
-  stop_kept (suc (suc (suc zero))) h l a = absurd (omega arith)
-  stop_kept (suc (suc (suc (suc zero)))) h l a = handed USE-SETTINGS IN-SETTINGS (kept settings) (λ p. refl) (λ p. refl) (λ z. omega arith) (kept_stops settings) a
-  stop_kept (suc (suc (suc (suc (suc zero))))) h l a = handed USE-GOAWAY IN-GOAWAY (kept goaway) (λ p. refl) (λ p. refl) (λ z. omega arith) (kept_stops goaway) a
-  stop_kept (suc (suc (suc (suc (suc (suc zero)))))) h l a = handed USE-MAX-PUSH-ID IN-MAX-PUSH-ID (kept max_push_id) (λ p. refl) (λ p. refl) (λ z. omega arith) (kept_stops max_push_id) a
-  stop_kept (suc (suc (suc (suc (suc (suc (suc zero))))))) h l a = handed USE-CANCEL-PUSH IN-CANCEL-PUSH (kept cancel_push) (λ p. refl) (λ p. refl) (λ z. omega arith) (kept_stops cancel_push) a
-  stop_kept (suc (suc (suc (suc (suc (suc (suc (suc k)))))))) h l a = absurd (omega arith)
+  stop_handed Skipped n m a = absurd (n refl)
+  stop_handed Content n m a = absurd (m refl)
+  stop_handed HeaderSection n m a = handed USE-HEADER-SECTION IN-HEADER-SECTION (section header_section) (λ p. refl) (λ p. refl) (λ z. omega arith) (section_stops header_section) a
+  stop_handed Trailers n m a = handed USE-TRAILERS IN-TRAILERS (section trailers) (λ p. refl) (λ p. refl) (λ z. omega arith) (section_stops trailers) a
+  stop_handed Settings n m a = handed USE-SETTINGS IN-SETTINGS (kept settings) (λ p. refl) (λ p. refl) (λ z. omega arith) (kept_stops settings) a
+  stop_handed Goaway n m a = handed USE-GOAWAY IN-GOAWAY (kept goaway) (λ p. refl) (λ p. refl) (λ z. omega arith) (kept_stops goaway) a
+  stop_handed MaxPushId n m a = handed USE-MAX-PUSH-ID IN-MAX-PUSH-ID (kept max_push_id) (λ p. refl) (λ p. refl) (λ z. omega arith) (kept_stops max_push_id) a
+  stop_handed CancelPush n m a = handed USE-CANCEL-PUSH IN-CANCEL-PUSH (kept cancel_push) (λ p. refl) (λ p. refl) (λ z. omega arith) (kept_stops cancel_push) a

@@ -1,5 +1,5 @@
 -- Where the two readers stop, and that a feed goes on from there as from where they began. Assumes nothing.
-use Rattle.std.specs.Prelude.{◌≡◌, refl, List, [], true, false, ◌⊎◌, eqb, length, drop, Some, None}
+use Rattle.std.specs.Prelude.{◌≡◌, refl, List, [], true, false, ◌⊎◌, eqb, length, drop, Option, Some, None}
 use Rattle.std.proofs.Math.Path.{sym, ap}
 use Rattle.std.proofs.Common.{◌∙◌, add-zero, inl, inr, length-drop, drop-drop}
 use Prim.Native.Nat.{ℕ, zero, suc, ◌+◌, ◌-◌, ◌≤◌, ◌<◌, ◌^◌}
@@ -15,6 +15,7 @@ use Rattle.meaning.proofs.FeedLaws.{header_whole, skip_whole}
 use Rattle.meaning.specs.IntegerLaws.{integer_length, integer_rest}
 use Rattle.varint.specs.Whole.{end_of, whole_is, Ended, Valued, read_value, ended_cut}
 use Rattle.frames.specs.Modes.{USE-SKIPPED, USE-CONTENT, USE-CANCEL-PUSH, NO-USE, BODY}
+use Rattle.frames.specs.declared.FrameHeader.{FrameHeader}
 use Rattle.frames.specs.Both.{Place, of_request, of_control, rule, both}
 use Rattle.frames.specs.Uses.{place_of, Stands, with_data, number_of, ruling_at, ruling_back, number_stands, passes_of, use_small, data_lawful}
 use Rattle.rules.specs.Numbers.{code_number, coded}
@@ -39,6 +40,22 @@ stop_of s number len allow at p = elim (eqb number NO-USE) [ true ↦ header_of 
 -- a header that is not whole
 unfoldable pub Unready : (s : List ℕ) (at : ℕ) → Type 0
 Unready s at = (t here len from : ℕ) (rest pay : List ℕ) → integer at (drop at s) ≡ got t here rest → integer here rest ≡ got len from pay → ⊥
+
+-- a header that is whole
+pub record WholeAt (s : List ℕ) (at : ℕ) (h : FrameHeader) : Type 0 where
+  pub middle : ℕ
+  pub typed : integer at (drop at s) ≡ got h.ftype middle (drop middle s)
+  pub sized : integer middle (drop middle s) ≡ got h.len h.next (drop h.next s)
+  pub past : at ≤ h.next
+  pub within : h.next ≤ length s
+  pub small : h.len < 2 ^ 62
+
+abbrev pub HeaderAt : (s : List ℕ) (at : ℕ) → Option FrameHeader → Type 0
+HeaderAt s at None = Unready s at
+HeaderAt s at (Some h) = WholeAt s at h
+
+pub unready_none : (s : List ℕ) (at : ℕ) {h : Option FrameHeader} → h ≡ None → HeaderAt s at h → Unready s at
+unready_none s at e u = rw e at u
 
 -- DATA is accepted only behind the header section, and keeps the sum small; a refusal's number is a code's
 pub record Lawful (number phase sum len : ℕ) : Type 0 where
@@ -215,3 +232,13 @@ unready_length s at n h g t here len from rest pay e f =
     let r : rest ≡ drop n s = integer_rest at (drop at s) e ∙ d ∙ ap (λ x. drop x s) (a ∙ sym k) in
     let f' : integer n (drop n s) ≡ got len from pay = ap (integer n) (sym r) ∙ ap (λ x. integer x rest) k ∙ f in
     ends_late s n f' g
+
+pub header_found : (s : List ℕ) (at n m t l : ℕ) → Ended s at (Some n) → Valued s at t → Ended s n (Some m) → Valued s n l → WholeAt s at (record { ftype = t; len = l; next = m })
+header_found s at n m t l h u g v = record {
+  middle = n;
+  typed = found s at n t h u;
+  sized = found s n m l g v;
+  past = (let p = h.past in let q = g.past in omega arith);
+  within = g.within;
+  small = v.small;
+}

@@ -1,44 +1,40 @@
 // The frames of a request or control stream (document 01, "Frames"), read in pieces.
 #![tactic(auto)]
 
-ghost use Rattle.std.specs.Prelude.{◌≡◌, ◌+◌, ◌≤◌, ◌<◌, ◌^◌, length};
+ghost use Rattle.std.specs.Prelude.{◌≡◌, ◌+◌, ◌≤◌, ◌<◌, ◌^◌, length, Some, None, Ok};
 ghost use Rattle.rules.specs.Events.{NOTHING, CONTENT};
 ghost use Rattle.frames.specs.Both.{rule};
-ghost use Rattle.frames.specs.Modes.{NO-USE, BODY, UNSET, IN-SKIPPED, IN-CONTENT, HEAD-WHOLE};
+ghost use Rattle.frames.specs.Modes.{BODY, UNSET, IN-SKIPPED, IN-CONTENT, HEAD-WHOLE};
 ghost use Rattle.frames.specs.Uses.{place_of, number_of, passes_of};
+ghost use Rattle.frames.specs.Wants.{mode_in, use_in, ruled_in, wanted_in, halt_at, stated_in, has_in, length_in};
+ghost use Rattle.frames.specs.declared.Use.TheVariants.{Skipped};
 ghost use Rattle.frames.specs.Ruled.{one_of};
 ghost use Rattle.frames.specs.Heads.{GoodHead, HeadStepped, HeadRead};
 ghost use Rattle.frames.specs.Answers.{Sane, Numbers, HandedMode, Tells, Answers, in_mode, Content, Hands, answer};
 ghost use Rattle.frames.specs.Stopped.{more_sum, from_stop};
-ghost use Rattle.frames.specs.Begun.{head_cells, from_cut, Started};
+ghost use Rattle.frames.specs.Begun.{head_cells, from_cut, start, Started};
 ghost use Rattle.frames.specs.Fed.{Fed};
 ghost use Rattle.frames.specs.End.{tally_of, cut_of, Ends};
-ghost use Rattle.frames.specs.Stops.{Lawful, Unready, Stuck, Stop, header_of, stop_of};
+ghost use Rattle.frames.specs.Stops.{Lawful, Unready, Stuck, Stop, header_of, stop_of, HeaderAt};
 
+use rules::codes::Code;
 use std::ops::ControlFlow;
 use varint::Part;
 
-// What a header's payload is for. Any other number is the code that refuses it.
-pub const USE_SKIPPED: u64 = 0;
+// What a header's payload is for.
+#[derive(Clone, Copy, Debug, PartialEq, Eq)]
+pub enum Use {
+    Skipped,
+    Content,
+    HeaderSection,
+    Trailers,
+    Settings,
+    Goaway,
+    MaxPushId,
+    CancelPush,
+}
 
-pub const USE_CONTENT: u64 = 1;
-
-pub const USE_HEADER_SECTION: u64 = 2;
-
-pub const USE_TRAILERS: u64 = 3;
-
-pub const USE_SETTINGS: u64 = 4;
-
-pub const USE_GOAWAY: u64 = 5;
-
-pub const USE_MAX_PUSH_ID: u64 = 6;
-
-pub const USE_CANCEL_PUSH: u64 = 7;
-
-// The header is not whole, or not allowed.
-pub const NO_USE: u64 = 9;
-
-// A place between two frames is four numbers: its phase; has, 1 where a length is stated; the length; the sum of DATA.
+// The phases of a request, in numbers as the cells have them.
 pub const OPENING: u64 = 0;
 
 pub const BODY: u64 = 1;
@@ -76,215 +72,251 @@ pub const IN_MAX_PUSH_ID: u64 = 10;
 
 pub const IN_CANCEL_PUSH: u64 = 11;
 
-// From the number of a section's use, or of a kept payload's, to its mode.
-const SECTION_MODES: u64 = 2;
+// The types of frames that are known.
+const DATA: u64 = 0x00;
 
-const KEPT_MODES: u64 = 4;
+const HEADERS: u64 = 0x01;
 
-// DATA of a length, behind the header section.
-fn data_rule(has: u64, stated: u64, sum: u64, len: u64) -> u64
-    requires { (sum ≤ 2 ^ 62) × (len < 2 ^ 62) }
-    ensures { result ≡ number_of (rule (place_of BODY has stated sum) 0 len) }
-{
-    let total = sum + len;
-    if has == 0 {
-        if 1048576 < total {
-            rules::REQUEST_CANCELLED
-        } else {
-            USE_CONTENT
+const CANCEL_PUSH: u64 = 0x03;
+
+const SETTINGS: u64 = 0x04;
+
+const GOAWAY: u64 = 0x07;
+
+const LAST_RESERVED: u64 = 0x09;
+
+const MAX_PUSH_ID: u64 = 0x0d;
+
+// The longest that is taken: a header section, SETTINGS, an integer, content of no stated length.
+const HEADERS_LIMIT: u64 = 16384;
+
+const SETTINGS_LIMIT: u64 = 256;
+
+const INTEGER_LIMIT: u64 = 8;
+
+const CONTENT_LIMIT: u64 = 1048576;
+
+// ---- the frame table
+
+impl Use {
+    // The mode in its payload.
+    fn mode(self) -> u64
+        ensures { result ≡ mode_in self }
+    {
+        match self {
+            Use::Skipped => IN_SKIPPED,
+            Use::Content => IN_CONTENT,
+            Use::HeaderSection => IN_HEADER_SECTION,
+            Use::Trailers => IN_TRAILERS,
+            Use::Settings => IN_SETTINGS,
+            Use::Goaway => IN_GOAWAY,
+            Use::MaxPushId => IN_MAX_PUSH_ID,
+            Use::CancelPush => IN_CANCEL_PUSH,
         }
-    } else if stated < total {
-        rules::MESSAGE_ERROR
-    } else {
-        USE_CONTENT
     }
 }
 
-// The frame table's first column.
-fn request_rule(phase: u64, has: u64, stated: u64, sum: u64, ftype: u64, len: u64) -> u64
-    requires { (phase < UNSET) × (sum ≤ 2 ^ 62) × (len < 2 ^ 62) }
-    ensures { result ≡ number_of (rule (place_of phase has stated sum) ftype len) }
-{
-    if ftype == 0 {
-        if phase == BODY {
-            data_rule(has, stated, sum, len)
-        } else {
-            rules::FRAME_UNEXPECTED
-        }
-    } else if ftype == 1 {
-        if phase == TRAILED {
-            rules::FRAME_UNEXPECTED
-        } else if 16384 < len {
-            rules::EXCESSIVE_LOAD
-        } else if phase == OPENING {
-            USE_HEADER_SECTION
-        } else {
-            USE_TRAILERS
-        }
-    } else if ftype < 10 {
-        rules::FRAME_UNEXPECTED
-    } else if ftype == 13 {
-        rules::FRAME_UNEXPECTED
-    } else {
-        USE_SKIPPED
-    }
+// A place between two frames: its phase, a number as above; the length that is stated; the sum of DATA.
+#[derive(Clone, Copy)]
+pub struct Place {
+    pub phase: u64,
+    pub stated: Option<u64>,
+    pub sum: u64,
+    pub ghost sums: { sum ≤ 2 ^ 62 },
 }
 
-// The frame table's second column.
-fn control_rule(phase: u64, ftype: u64, len: u64) -> u64
-    requires { UNSET ≤ phase }
-    ensures { result ≡ number_of (rule (place_of phase 0 0 0) ftype len) }
-{
-    if phase == UNSET {
-        if ftype == 4 {
-            if 256 < len {
-                rules::EXCESSIVE_LOAD
-            } else {
-                USE_SETTINGS
+impl Place {
+    // What a whole header's payload is for here, or the code that refuses it.
+    #[inline(always)]
+    pub fn rule(&self, ftype: u64, len: u64) -> Result<Use, Code>
+        requires { len < 2 ^ 62 }
+        ensures { ruled_in result ≡ number_of (rule (place_of self.now.phase (has_in self.now.stated) (length_in self.now.stated) self.now.sum) ftype len) }
+    {
+        if self.phase < UNSET {
+            self.request_rule(ftype, len)
+        } else {
+            self.control_rule(ftype, len)
+        }
+    }
+
+    // The frame table's first column.
+    fn request_rule(&self, ftype: u64, len: u64) -> Result<Use, Code>
+        requires { (self.now.phase < UNSET) × (len < 2 ^ 62) }
+        ensures { ruled_in result ≡ number_of (rule (place_of self.now.phase (has_in self.now.stated) (length_in self.now.stated) self.now.sum) ftype len) }
+    {
+        match ftype {
+            DATA => {
+                if self.phase == BODY {
+                    self.data_rule(len)
+                } else {
+                    Err(Code::FrameUnexpected)
+                }
             }
-        } else {
-            rules::MISSING_SETTINGS
+            HEADERS => {
+                if self.phase == TRAILED {
+                    Err(Code::FrameUnexpected)
+                } else if HEADERS_LIMIT < len {
+                    Err(Code::ExcessiveLoad)
+                } else if self.phase == OPENING {
+                    Ok(Use::HeaderSection)
+                } else {
+                    Ok(Use::Trailers)
+                }
+            }
+            2..=LAST_RESERVED | MAX_PUSH_ID => Err(Code::FrameUnexpected),
+            _ => Ok(Use::Skipped),
         }
-    } else if ftype == 7 {
-        one_integer(len, USE_GOAWAY)
-    } else if ftype == 13 {
-        one_integer(len, USE_MAX_PUSH_ID)
-    } else if ftype == 3 {
-        one_integer(len, USE_CANCEL_PUSH)
-    } else if ftype < 10 {
-        rules::FRAME_UNEXPECTED
-    } else {
-        USE_SKIPPED
+    }
+
+    // DATA of a length, behind the header section.
+    fn data_rule(&self, len: u64) -> Result<Use, Code>
+        requires { len < 2 ^ 62 }
+        ensures { ruled_in result ≡ number_of (rule (place_of BODY (has_in self.now.stated) (length_in self.now.stated) self.now.sum) 0 len) }
+    {
+        let total = self.sum + len;
+        match self.stated {
+            Some(stated) => {
+                if stated < total {
+                    Err(Code::MessageError)
+                } else {
+                    Ok(Use::Content)
+                }
+            }
+            None => {
+                if CONTENT_LIMIT < total {
+                    Err(Code::RequestCancelled)
+                } else {
+                    Ok(Use::Content)
+                }
+            }
+        }
+    }
+
+    // The frame table's second column.
+    fn control_rule(&self, ftype: u64, len: u64) -> Result<Use, Code>
+        requires { UNSET ≤ self.now.phase }
+        ensures { ruled_in result ≡ number_of (rule (place_of self.now.phase 0 0 0) ftype len) }
+    {
+        if self.phase == UNSET {
+            return match ftype {
+                SETTINGS => {
+                    if SETTINGS_LIMIT < len {
+                        Err(Code::ExcessiveLoad)
+                    } else {
+                        Ok(Use::Settings)
+                    }
+                }
+                _ => Err(Code::MissingSettings),
+            };
+        }
+        match ftype {
+            GOAWAY => one_integer(len, Use::Goaway),
+            MAX_PUSH_ID => one_integer(len, Use::MaxPushId),
+            CANCEL_PUSH => one_integer(len, Use::CancelPush),
+            0..=LAST_RESERVED => Err(Code::FrameUnexpected),
+            _ => Ok(Use::Skipped),
+        }
     }
 }
 
 // A frame that holds one integer.
-fn one_integer(len: u64, use_number: u64) -> u64
-    ensures { result ≡ one_of len use_number }
+fn one_integer(len: u64, wanted: Use) -> Result<Use, Code>
+    ensures { ruled_in result ≡ one_of len (use_in wanted) }
 {
-    if len == 0 {
-        rules::FRAME_ERROR
-    } else if 8 < len {
-        rules::FRAME_ERROR
-    } else {
-        use_number
+    match len {
+        1..=INTEGER_LIMIT => Ok(wanted),
+        _ => Err(Code::FrameError),
     }
 }
 
-pub fn ruled(phase: u64, has: u64, stated: u64, sum: u64, ftype: u64, len: u64) -> u64
-    requires { (sum ≤ 2 ^ 62) × (len < 2 ^ 62) }
-    ensures { result ≡ number_of (rule (place_of phase has stated sum) ftype len) }
-{
-    if phase < UNSET {
-        request_rule(phase, has, stated, sum, ftype, len)
-    } else {
-        control_rule(phase, ftype, len)
-    }
-}
+// ---- the two readers
 
 // Whether a payload is passed with nothing for the caller.
-fn passes(left: u64, number: u64, room: u64) -> bool
-    ensures { result ≡ passes_of left number room }
+fn passes(left: u64, wanted: Use, room: u64) -> bool
+    ensures { result ≡ passes_of left (use_in wanted) room }
 {
-    if number == USE_SKIPPED {
-        left <= room
-    } else if number == USE_CONTENT {
-        left == 0
-    } else {
-        false
+    match wanted {
+        Use::Skipped => left <= room,
+        Use::Content => left == 0,
+        _ => false,
     }
 }
 
-// A header, and what follows it, up to a stop: its place, its payload's length, the allowance left, and as the result its use.
-#[cycle(header_payload)]
-fn header(
-    s: &[u8],
-    at: usize,
-    phase: u64,
-    has: u64,
-    stated: u64,
-    sum: u64,
-    allow: u64,
-    to: &mut usize,
-    len: &mut u64,
-    rest: &mut u64,
-) -> u64
-    requires { (at ≤ length s.now) × (sum ≤ 2 ^ 62) × (stated ≤ 2 ^ 62) }
-    ensures { Stop s.now phase has stated sum at allow (header_of s.now allow at) to.new len.new rest.new result }
+// A header that is whole; next: where its payload begins.
+#[derive(Clone, Copy)]
+struct FrameHeader {
+    ftype: u64,
+    len: u64,
+    next: usize,
+}
+
+// Inlined, as the table is: the readers are one loop then.
+#[inline(always)]
+fn whole_header(s: &[u8], at: usize) -> Option<FrameHeader>
+    ensures { HeaderAt s.now at result }
 {
-    if allow == 0 {
-        *to = at;
-        *len = 0;
-        *rest = allow;
-        return NO_USE;
+    let middle = varint::ends(s, at)?;
+    let next = varint::ends(s, middle)?;
+    Some(FrameHeader {
+        ftype: varint::value(s, at),
+        len: varint::value(s, middle),
+        next,
+    })
+}
+
+// Where the readers stop: at a payload with bytes to come, behind a header that is refused, or, with nothing wanted, at one that is not whole or not
+// allowed. rest: the allowance left.
+#[derive(Clone, Copy)]
+struct Halt {
+    at: usize,
+    left: u64,
+    wanted: Option<Result<Use, Code>>,
+    rest: u64,
+}
+
+impl Halt {
+    // Field by field: a literal would be copied, and the readers would be no loop.
+    #[inline]
+    fn stop(&mut self, at: usize, left: u64, wanted: Option<Result<Use, Code>>, rest: u64)
+        ensures { self.new ≡ halt_at at left wanted rest }
+    {
+        self.at = at;
+        self.left = left;
+        self.wanted = wanted;
+        self.rest = rest;
     }
-    let Some(n) = varint::ends(s, at) else {
-        *to = at;
-        *len = 0;
-        *rest = allow;
-        return NO_USE;
-    };
-    let Some(m) = varint::ends(s, n) else {
-        *to = at;
-        *len = 0;
-        *rest = allow;
-        return NO_USE;
-    };
-    let l = varint::value(s, n);
-    let k = ruled(phase, has, stated, sum, varint::value(s, at), l);
-    payload(
-        s,
-        m,
-        l,
-        k,
-        phase,
-        has,
-        stated,
-        sum,
-        allow - 1,
-        to,
-        len,
-        rest,
-    )
+}
+
+// A header, and what follows it, up to a stop. The stop is lent: a struct handed back through each call would keep the pair from being compiled to a loop.
+#[cycle(header_payload)]
+fn header(s: &[u8], at: usize, place: &Place, allow: u64, halt: &mut Halt)
+    requires { (at ≤ length s.now) × (length_in place.now.stated ≤ 2 ^ 62) }
+    ensures { Stop s.now place.now.phase (has_in place.now.stated) (length_in place.now.stated) place.now.sum at allow (header_of s.now allow at) halt.new.at halt.new.left halt.new.rest (wanted_in halt.new.wanted) }
+{
+    if allow != 0
+        && let Some(h) = whole_header(s, at)
+    {
+        match place.rule(h.ftype, h.len) {
+            Ok(wanted) => payload(s, h.next, h.len, wanted, place, allow - 1, halt),
+            Err(code) => {
+                halt.stop(h.next, h.len, Some(Err(code)), allow - 1);
+            }
+        }
+    } else {
+        halt.stop(at, 0, None, allow);
+    }
 }
 
 // A payload, and what follows it, up to a stop.
 #[cycle(header_payload)]
-fn payload(
-    s: &[u8],
-    at: usize,
-    left: u64,
-    number: u64,
-    phase: u64,
-    has: u64,
-    stated: u64,
-    sum: u64,
-    allow: u64,
-    to: &mut usize,
-    len: &mut u64,
-    rest: &mut u64,
-) -> u64
-    requires { (at ≤ length s.now) × (sum ≤ 2 ^ 62) × (stated ≤ 2 ^ 62) × (number ≡ NO-USE → ⊥) × (left < 2 ^ 62) × Lawful number phase sum left }
-    ensures { Stop s.now phase has stated sum at allow (stop_of s.now number left allow at) to.new len.new rest.new result }
+fn payload(s: &[u8], at: usize, left: u64, wanted: Use, place: &Place, allow: u64, halt: &mut Halt)
+    requires { (at ≤ length s.now) × (length_in place.now.stated ≤ 2 ^ 62) × (left < 2 ^ 62) × Lawful (use_in wanted) place.now.phase place.now.sum left }
+    ensures { Stop s.now place.now.phase (has_in place.now.stated) (length_in place.now.stated) place.now.sum at allow (stop_of s.now (use_in wanted) left allow at) halt.new.at halt.new.left halt.new.rest (wanted_in halt.new.wanted) }
 {
-    if passes(left, number, (s.len() - at) as u64) {
-        header(
-            s,
-            at + left as usize,
-            phase,
-            has,
-            stated,
-            sum,
-            allow,
-            to,
-            len,
-            rest,
-        )
+    if passes(left, wanted, (s.len() - at) as u64) {
+        header(s, at + left as usize, place, allow, halt);
     } else {
-        *to = at;
-        *len = left;
-        *rest = allow;
-        number
+        halt.stop(at, left, Some(Ok(wanted)), allow);
     }
 }
 
@@ -389,15 +421,35 @@ pub struct Answer {
     pub cells: Cells,
 }
 
+impl Cells {
+    fn place(&self) -> Place
+        requires { self.now.sum ≤ 2 ^ 62 }
+        ensures phase { result.phase ≡ self.now.phase }
+        ensures stated { result.stated ≡ stated_in self.now.has self.now.stated }
+        ensures sum { result.sum ≡ self.now.sum }
+    {
+        Place {
+            phase: self.phase,
+            stated: if self.has == 0 {
+                None
+            } else {
+                Some(self.stated)
+            },
+            sum: self.sum,
+        }
+    }
+}
+
 fn in_mode(c: Cells, mode: u64, acc: u64) -> Cells
     ensures { result ≡ in_mode c mode acc }
 {
-    let mut d = c;
-    d.mode = mode;
-    d.acc = acc;
-    d.due = 0;
-    d.ftype = 0;
-    d
+    Cells {
+        mode,
+        acc,
+        due: 0,
+        ftype: 0,
+        ..c
+    }
 }
 
 // No event, at the end of what was used.
@@ -426,30 +478,27 @@ fn told(mode: u64) -> Telling
     requires { HandedMode mode }
     ensures { Tells mode result }
 {
-    if mode == IN_CONTENT {
-        Telling {
+    match mode {
+        IN_CONTENT => Telling {
             last: rules::CONTENT,
             part: rules::CONTENT,
             behind: IN_TYPE,
-        }
-    } else if mode == IN_HEADER_SECTION {
-        Telling {
+        },
+        IN_HEADER_SECTION => Telling {
             last: rules::SECTION_END,
             part: rules::SECTION,
             behind: HEADER_SECTION_DUE,
-        }
-    } else if mode == IN_TRAILERS {
-        Telling {
+        },
+        IN_TRAILERS => Telling {
             last: rules::SECTION_END,
             part: rules::SECTION,
             behind: TRAILERS_DUE,
-        }
-    } else {
-        Telling {
+        },
+        _ => Telling {
             last: rules::KEPT,
             part: rules::KEPT_PART,
             behind: mode,
-        }
+        },
     }
 }
 
@@ -465,9 +514,7 @@ fn handed(s: &[u8], at: usize, left: u64, mode: u64, c: Cells, heads: u64) -> An
             event: t.last,
             start: at,
             len: left,
-            used: at + left as usize,
-            heads,
-            cells: in_mode(c, t.behind, 0),
+            ..quiet(at + left as usize, heads, in_mode(c, t.behind, 0))
         }
     } else if room == 0 {
         quiet(at, heads, in_mode(c, mode, left))
@@ -476,9 +523,7 @@ fn handed(s: &[u8], at: usize, left: u64, mode: u64, c: Cells, heads: u64) -> An
             event: t.part,
             start: at,
             len: room,
-            used: s.len(),
-            heads,
-            cells: in_mode(c, mode, left - room),
+            ..quiet(s.len(), heads, in_mode(c, mode, left - room))
         }
     }
 }
@@ -487,20 +532,22 @@ fn more_sum(c: Cells, len: u64) -> Cells
     requires { c.sum + len ≤ 2 ^ 62 }
     ensures { result ≡ more_sum c len }
 {
-    let mut d = c;
-    d.sum = c.sum + len;
-    d
+    Cells {
+        sum: c.sum + len,
+        ..c
+    }
 }
 
 fn head_cells(h: Head, c: Cells) -> Cells
     ensures { result ≡ head_cells h c }
 {
-    let mut d = c;
-    d.mode = h.mode;
-    d.acc = h.acc;
-    d.due = h.due;
-    d.ftype = h.ftype;
-    d
+    Cells {
+        mode: h.mode,
+        acc: h.acc,
+        due: h.due,
+        ftype: h.ftype,
+        ..c
+    }
 }
 
 // A header that the piece ends in.
@@ -522,46 +569,70 @@ fn cut_header(s: &[u8], to: usize, c: Cells, heads: u64) -> Answer
     quiet(s.len(), heads, head_cells(h, c))
 }
 
-// What the readers stopped at.
-fn stopped(s: &[u8], number: u64, to: usize, len: u64, rest: u64, c: Cells, heads: u64) -> Answer
-    requires { (to ≤ length s.now) × (len < 2 ^ 62) × Sane c × Stuck s.now c.phase c.sum to len rest number }
-    ensures { Answers c s.now 1 (from_stop s.now to heads number len rest) result }
+// What the reading stopped at.
+fn stopped(s: &[u8], h: Halt, c: Cells, heads: u64) -> Answer
+    requires { (h.at ≤ length s.now) × (h.left < 2 ^ 62) × Sane c × Stuck s.now c.phase c.sum h.at h.left h.rest (wanted_in h.wanted) }
+    ensures { Answers c s.now 1 (from_stop s.now h.at heads (wanted_in h.wanted) h.left h.rest) result }
 {
-    if number == USE_CONTENT {
-        handed(s, to, len, IN_CONTENT, more_sum(c, len), heads)
-    } else if number == USE_SKIPPED {
-        let room = (s.len() - to) as u64;
-        quiet(s.len(), heads, in_mode(c, IN_SKIPPED, len - room))
-    } else if number == NO_USE {
-        if rest == 0 {
-            quiet(to, heads, in_mode(c, IN_TYPE, 0))
-        } else {
-            cut_header(s, to, c, heads)
+    match h.wanted {
+        None => {
+            if h.rest == 0 {
+                quiet(h.at, heads, in_mode(c, IN_TYPE, 0))
+            } else {
+                cut_header(s, h.at, c, heads)
+            }
         }
-    } else if number < USE_SETTINGS {
-        handed(s, to, len, number + SECTION_MODES, c, heads)
-    } else if number <= USE_CANCEL_PUSH {
-        handed(s, to, len, number + KEPT_MODES, c, heads)
-    } else {
-        Answer {
+        Some(Err(code)) => Answer {
             event: rules::FAULT,
-            start: to,
-            len: number,
-            used: to,
-            heads,
-            cells: c,
+            len: code.number(),
+            ..quiet(h.at, heads, c)
+        },
+        Some(Ok(Use::Content)) => {
+            handed(s, h.at, h.left, IN_CONTENT, more_sum(c, h.left), heads)
         }
+        Some(Ok(Use::Skipped)) => {
+            let room = (s.len() - h.at) as u64;
+            quiet(s.len(), heads, in_mode(c, IN_SKIPPED, h.left - room))
+        }
+        Some(Ok(wanted)) => handed(s, h.at, h.left, wanted.mode(), c, heads),
     }
 }
 
-// Where a feed begins: at a payload, or nowhere (no use), and then the cells are what is left.
+// Where a feed begins: at a payload, or, with nothing wanted, nowhere, and then the cells are what is left.
 #[derive(Clone, Copy)]
 struct Start {
     at: usize,
     left: u64,
-    number: u64,
+    wanted: Option<Result<Use, Code>>,
     heads: u64,
     cells: Cells,
+}
+
+impl Start {
+    // Skipped bytes are to come, or none.
+    fn skipping(left: u64, cells: Cells) -> Start
+        ensures { result ≡ start 0 left (Some (Ok Skipped)) 0 cells }
+    {
+        Start {
+            at: 0,
+            left,
+            wanted: Some(Ok(Use::Skipped)),
+            heads: 0,
+            cells,
+        }
+    }
+
+    fn nowhere(at: usize, cells: Cells) -> Start
+        ensures { result ≡ start at 0 None 0 cells }
+    {
+        Start {
+            at,
+            left: 0,
+            wanted: None,
+            heads: 0,
+            cells,
+        }
+    }
 }
 
 // On with a header or a skipped payload.
@@ -569,27 +640,11 @@ fn begin(s: &[u8], c: Cells, allow: u64) -> Start
     requires { Sane c × (c.mode < IN-CONTENT) }
     ensures { Started c s.now allow result }
 {
-    if c.mode == IN_SKIPPED {
-        return Start {
-            at: 0,
-            left: c.acc,
-            number: USE_SKIPPED,
-            heads: 0,
-            cells: c,
-        };
+    match c.mode {
+        IN_SKIPPED => Start::skipping(c.acc, c),
+        IN_TYPE if c.due == 0 => Start::skipping(0, c),
+        _ => begun(s, c, allow),
     }
-    if c.mode == IN_TYPE {
-        if c.due == 0 {
-            return Start {
-                at: 0,
-                left: 0,
-                number: USE_SKIPPED,
-                heads: 0,
-                cells: c,
-            };
-        }
-    }
-    begun(s, c, allow)
 }
 
 // On with a header that an earlier piece began.
@@ -598,13 +653,7 @@ fn begun(s: &[u8], c: Cells, allow: u64) -> Start
     ensures { Started c s.now allow result }
 {
     if allow == 0 {
-        return Start {
-            at: 0,
-            left: 0,
-            number: NO_USE,
-            heads: 0,
-            cells: c,
-        };
+        return Start::nowhere(0, c);
     }
     let e = head_on(
         s,
@@ -621,18 +670,39 @@ fn begun(s: &[u8], c: Cells, allow: u64) -> Start
         Start {
             at: e.next,
             left: h.acc,
-            number: ruled(c.phase, c.has, c.stated, c.sum, h.ftype, h.acc),
+            wanted: Some(c.place().rule(h.ftype, h.acc)),
             heads: 1,
             cells: c,
         }
     } else {
-        Start {
-            at: s.len(),
-            left: 0,
-            number: NO_USE,
-            heads: 0,
-            cells: head_cells(h, c),
+        Start::nowhere(s.len(), head_cells(h, c))
+    }
+}
+
+// Up to a stop, from a payload, or from behind a header that is refused.
+fn up_to_stop(
+    s: &[u8],
+    at: usize,
+    left: u64,
+    wanted: Result<Use, Code>,
+    c: Cells,
+    allow: u64,
+) -> Halt
+    requires { (at ≤ length s.now) × Numbers c × (left < 2 ^ 62) × Lawful (ruled_in wanted) c.phase c.sum left }
+    ensures { Stop s.now c.phase c.has c.stated c.sum at allow (stop_of s.now (ruled_in wanted) left allow at) result.at result.left result.rest (wanted_in result.wanted) }
+{
+    let mut halt = Halt {
+        at,
+        left,
+        wanted: Some(wanted),
+        rest: allow,
+    };
+    match wanted {
+        Ok(wanted) => {
+            payload(s, at, left, wanted, &c.place(), allow, &mut halt);
+            halt
         }
+        Err(_) => halt,
     }
 }
 
@@ -642,28 +712,12 @@ fn read(s: &[u8], c: Cells, allow: u64) -> Answer
     ensures { Fed c s.now allow result }
 {
     let b = begin(s, c, allow);
-    let cells = b.cells;
-    if b.number == NO_USE {
-        quiet(b.at, 0, cells)
-    } else {
-        let mut to = 0;
-        let mut len = 0;
-        let mut rest = 0;
-        let number = payload(
-            s,
-            b.at,
-            b.left,
-            b.number,
-            c.phase,
-            c.has,
-            c.stated,
-            c.sum,
-            allow - b.heads,
-            &mut to,
-            &mut len,
-            &mut rest,
-        );
-        stopped(s, number, to, len, rest, c, allow - rest)
+    match b.wanted {
+        None => quiet(b.at, 0, b.cells),
+        Some(wanted) => {
+            let halt = up_to_stop(s, b.at, b.left, wanted, c, allow - b.heads);
+            stopped(s, halt, c, allow - halt.rest)
+        }
     }
 }
 
@@ -672,14 +726,12 @@ pub fn feed(s: &[u8], c: Cells, allow: u64) -> Answer
     requires { Sane c }
     ensures { Fed c s.now allow result }
 {
-    if c.mode < IN_CONTENT {
-        read(s, c, allow)
-    } else if c.mode < HEADER_SECTION_DUE {
-        handed(s, 0, c.acc, c.mode, c, 0)
-    } else if c.mode < IN_SETTINGS {
-        quiet(0, 0, c)
-    } else {
-        handed(s, 0, c.acc, c.mode, c, 0)
+    match c.mode {
+        IN_TYPE..=IN_SKIPPED => read(s, c, allow),
+        // apart from the kept payloads below: one arm for both costs instructions
+        IN_CONTENT..=IN_TRAILERS => handed(s, 0, c.acc, c.mode, c, 0),
+        HEADER_SECTION_DUE | TRAILERS_DUE => quiet(0, 0, c),
+        _ => handed(s, 0, c.acc, c.mode, c, 0),
     }
 }
 
@@ -692,58 +744,35 @@ pub fn brisk(s: &[u8], c: Cells, allow: u64) -> Answer
     if c.mode == IN_CONTENT {
         return handed(s, 0, c.acc, IN_CONTENT, c, 0);
     }
-    if c.mode != IN_TYPE {
-        return quiet(0, 0, c);
+    if c.mode == IN_TYPE
+        && c.due == 0
+        && allow != 0
+        && let [0, ..] = s
+        && let Some(h) = whole_header(s, 0)
+        && h.len != 0
+        && let Ok(Use::Content) = c.place().rule(h.ftype, h.len)
+    {
+        return handed(s, h.next, h.len, IN_CONTENT, more_sum(c, h.len), 1);
     }
-    if c.due != 0 {
-        return quiet(0, 0, c);
-    }
-    if allow == 0 {
-        return quiet(0, 0, c);
-    }
-    if s.len() == 0 {
-        return quiet(0, 0, c);
-    }
-    if s[0] != 0 {
-        return quiet(0, 0, c);
-    }
-    let Some(n) = varint::ends(s, 0) else {
-        return quiet(0, 0, c);
-    };
-    let Some(m) = varint::ends(s, n) else {
-        return quiet(0, 0, c);
-    };
-    let l = varint::value(s, n);
-    if l == 0 {
-        return quiet(0, 0, c);
-    }
-    let k = ruled(c.phase, c.has, c.stated, c.sum, varint::value(s, 0), l);
-    if k == USE_CONTENT {
-        handed(s, m, l, IN_CONTENT, more_sum(c, l), 1)
-    } else {
-        quiet(0, 0, c)
-    }
+    quiet(0, 0, c)
 }
 
 // ---- the end
 
 // Between two frames.
-fn tallied(phase: u64, has: u64, stated: u64, sum: u64) -> u64
-    ensures { result ≡ tally_of phase has stated sum }
+fn tallied(c: Cells) -> u64
+    ensures { result ≡ tally_of c.phase c.has c.stated c.sum }
 {
-    if TRAILED < phase {
-        return rules::CLOSED_CRITICAL_STREAM;
-    }
-    if phase == OPENING {
-        return rules::REQUEST_INCOMPLETE;
-    }
-    if has == 0 {
-        return rules::ACCEPTED;
-    }
-    if sum == stated {
-        rules::ACCEPTED
-    } else {
-        rules::MESSAGE_ERROR
+    match c.phase {
+        OPENING => rules::REQUEST_INCOMPLETE,
+        BODY | TRAILED => {
+            if c.has == 0 || c.sum == c.stated {
+                rules::ACCEPTED
+            } else {
+                rules::MESSAGE_ERROR
+            }
+        }
+        _ => rules::CLOSED_CRITICAL_STREAM,
     }
 }
 
@@ -762,18 +791,9 @@ fn cut_off(phase: u64) -> u64
 pub fn end(c: Cells) -> u64
     ensures { Ends c result }
 {
-    if c.mode == HEADER_SECTION_DUE {
-        return rules::SECTION_DUE;
-    }
-    if c.mode == TRAILERS_DUE {
-        return rules::SECTION_DUE;
-    }
-    if IN_TYPE < c.mode {
-        return cut_off(c.phase);
-    }
-    if 0 < c.due {
-        cut_off(c.phase)
-    } else {
-        tallied(c.phase, c.has, c.stated, c.sum)
+    match c.mode {
+        IN_TYPE if c.due == 0 => tallied(c),
+        HEADER_SECTION_DUE | TRAILERS_DUE => rules::SECTION_DUE,
+        _ => cut_off(c.phase),
     }
 }

@@ -1,5 +1,5 @@
 -- Reading on, line by line, comes to an end, and to a last line. Assumes nothing.
-use Rattle.std.specs.Prelude.{ℕ, zero, suc, ◌+◌, ◌-◌, ◌≤◌, ◌<◌, ◌≡◌, refl, Bool, true, false, ltb, length, drop}
+use Rattle.std.specs.Prelude.{ℕ, suc, ◌+◌, ◌-◌, ◌≤◌, ◌<◌, ◌≡◌, refl, Bool, true, false, ltb, length, drop}
 use mathlib.Core.List.{List, [], ◌∷◌}
 use Rattle.std.proofs.Common.{sym, arith, ltb→lt, nltb→le}
 use borrow.Author.Tests.{lt-ltb, le-ltb}
@@ -10,9 +10,8 @@ use Rattle.rules.specs.Request.{end_of_ended}
 use Rattle.meaning.specs.IntegerLaws.{integer_length}
 use Rattle.meaning.specs.RequestLaws.{RuleView, r_refused, r_skipped, r_content, r_header, r_trailers, rule_view}
 use Rattle.meaning.specs.FrameLaws.{head, View, cut_type, cut_length, cut_payload, a_frame, view}
-use Rattle.listing.specs.Listing.{Entry, whole, refused, too_long, listing}
-use Rattle.listing.specs.Lists.{lists}
-use Rattle.listing.specs.Lines.{phase_number, place, first, next_of, entry_of, behind, with_rest, lines_from, message_of, after, line_of, ruled_line, end_of, end_line, line_in, line_at}
+use Rattle.listing.specs.Listing.{Entry, whole, refused, too_long}
+use Rattle.listing.specs.Lines.{phase_number, place, next_of, message_of, after, line_of, ruled_line, end_of, end_line, line_in, line_at}
 use Rattle.listing.specs.At.{line_too_long, line_heading, line_cut_payload, inside}
 use Rattle.listing.specs.declared.Place.{Place}
 use Rattle.listing.specs.declared.Usage.{Usage}
@@ -80,7 +79,7 @@ module _ (s : List ℕ) (p : Place) where
   unfolding rank
   unheaded h = let e = le-ltb 2 (phase_number p.phase) h in rw e (omega arith)
 
-  headed : TRAILED < phase_number p.phase → rank s p ≡ suc (suc (length s) - p.at)
+  pub headed : TRAILED < phase_number p.phase → rank s p ≡ suc (suc (length s) - p.at)
   unfolding rank
   headed h = let e = lt-ltb 2 (phase_number p.phase) h in rw e (omega arith)
 
@@ -131,21 +130,3 @@ pub data HasLast : List Entry → Type 0 where
   last_refused : {bytes code : ℕ} → HasLast (refused bytes code ∷ [])
   last_too_long : HasLast (too_long ∷ [])
   behind_one : {e : Entry} {es : List Entry} → HasLast es → HasLast (e ∷ es)
-
-lines_end : (s : List ℕ) (most : ℕ) (p : Place) → rank s p < most → HasLast (lines_from most s p)
-unfolding lines_from entry_of behind
-lines_end s zero p h = absurd (omega arith)
-lines_end s (suc k) p h = go (lines_end s k) (line_at s p) refl
-  where
-    go : ((n : Place) → rank s n < k → HasLast (lines_from k s n)) → (l : Line) → line_at s p ≡ l → HasLast (with_rest (lines_from k s) l)
-    go ih (Heading n) e = let f = falls_heading s p n e in behind_one (ih n (omega arith))
-    go ih (Frame at type len u n) e = let f = falls_frame s p at type len u n e in behind_one (ih n (omega arith))
-    go ih (Whole total) e = last_whole
-    go ih (Refused bytes code) e = last_refused
-    go ih TooLong e = last_too_long
-
--- EVERY LISTING HAS A LAST LINE: no reading waits for a third section
-pub listing_ends : (s : List ℕ) → HasLast (listing s)
-listing_ends s =
-    let r = headed s first (omega arith) in
-    rw (lists s (length s + 3) (omega arith)) at (lines_end s (length s + 3) first (omega arith))

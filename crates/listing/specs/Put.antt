@@ -6,9 +6,8 @@ use Rattle.std.proofs.Math.Seq.{length-sets}
 use Rattle.rules.specs.Text.{ascii}
 use Rattle.rules.specs.Reading.{Use}
 use Rattle.listing.specs.Listing.{frame, whole, refused}
-use Rattle.listing.specs.Text.{digits, decimal, spaced, word, line_feed, text_of, texts_of, printed}
-use Rattle.listing.specs.Lines.{first, use_of, entry_of, lines_from}
-use Rattle.listing.specs.Lists.{lists}
+use Rattle.listing.specs.Text.{digits, decimal, spaced, word, line_feed, text_of}
+use Rattle.listing.specs.Lines.{use_of, entry_of}
 use Rattle.listing.specs.declared.Line.{Line}
 use Rattle.listing.specs.declared.Usage.{Usage}
 use Rattle.listing.specs.declared.Usage.TheVariants.{Skipped, Content, HeaderSection, Trailers}
@@ -143,8 +142,3 @@ put_entry c e p = rw (e, ← c.0, ← c.1) p
 
 pub put_word : {room x : List ℕ} {to r : ℕ} {u v : Usage} → u ≡ v → Put room to (word (use_of v)) x r → Put room to (word (use_of u)) x r
 put_word e p = rw e p
-
--- THE TEXTS OF THE LINES READ ONE BY ONE ARE WHAT IS PRINTED
-pub prints : (s : List ℕ) (most : ℕ) → length s + 1 < most → texts_of (lines_from most s first) ≡ printed s
-unfolding printed
-prints s most h = ap texts_of (lists s most h)

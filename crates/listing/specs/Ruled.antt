@@ -108,6 +108,14 @@ line_view p h (r_content z e) = refl
 line_view p h (r_header z l) = refl
 line_view p h (r_trailers z l) = refl
 
+high_view : {t len : ℕ} {m : Message} {r : Ruling Message} → RuleView t len m r → 4 ≤ number_of r → 9 < number_of r
+unfolding number_of use_number
+high_view (r_refused {code = code}) l = code_high code
+high_view (r_skipped u) l = absurd (omega arith)
+high_view (r_content z e) l = absurd (omega arith)
+high_view (r_header z l) h = absurd (omega arith)
+high_view (r_trailers z l) h = absurd (omega arith)
+
 module _ (p : Place) (from t len number : ℕ) (phase : phase_number p.phase < 3) (known : number ≡ number_of (both.rule (place_of (phase_number p.phase) 0 0 (capped p.sum)) t len)) where
   is : number ≡ number_of (rule (message_of (phase_number p.phase) p.sum) t len)
   is = known ∙ as_request (phase_number p.phase) (capped p.sum) t len phase ∙ capped_number (phase_number p.phase) p.sum t len
@@ -130,6 +138,10 @@ module _ (p : Place) (from t len number : ℕ) (phase : phase_number p.phase < 3
 
   pub line_refused : 4 ≤ number → Refused from number ≡ ruled_line p (head p.at from t len)
   line_refused l = sym (line_high p (head p.at from t len) number l) ∙ by_number number refl
+
+  -- a request keeps no payload
+  pub never_kept : 4 ≤ number → 9 < number
+  never_kept l = let e = is in omega (arith, high_view (rule_view (message_of (phase_number p.phase) p.sum) t len))
 
   -- the sum stays small
   pub content_fits : number ≡ USE-CONTENT → p.sum + len ≤ 2 ^ 62

@@ -11,6 +11,7 @@ ghost use Rattle.listing.specs.Grown.{Extends};
 
 mod room;
 
+use frames::Use;
 pub use room::Text;
 
 // A longer input is not listed.
@@ -95,11 +96,24 @@ fn ruled_line(p: Place, phase: Phase, from: usize, ftype: u64, len: u64) -> Line
     requires { (p.phase ≡ Some phase) × (from ≤ 65536) × (len < 2 ^ 62) }
     ensures { result ≡ ruled_line p (head p.at from ftype len) }
 {
-    let sum = p.sum.min(PAST_CONTENT_LIMIT);
+    let place = frames::Place {
+        phase: phase.number(),
+        stated: None,
+        sum: p.sum.min(PAST_CONTENT_LIMIT),
+    };
     let to = from + len as usize;
-    let (usage, next) = match frames::ruled(phase.number(), 0, 0, sum, ftype, len) {
-        frames::USE_SKIPPED => (Usage::Skipped, Place { at: to, ..p }),
-        frames::USE_CONTENT => (
+    let purpose = match place.rule(ftype, len) {
+        Ok(purpose) => purpose,
+        Err(code) => {
+            return Line::Refused {
+                bytes: from,
+                code: code.number(),
+            };
+        }
+    };
+    let (usage, next) = match purpose {
+        Use::Skipped => (Usage::Skipped, Place { at: to, ..p }),
+        Use::Content => (
             Usage::Content,
             Place {
                 at: to,
@@ -107,7 +121,7 @@ fn ruled_line(p: Place, phase: Phase, from: usize, ftype: u64, len: u64) -> Line
                 ..p
             },
         ),
-        frames::USE_HEADER_SECTION => (
+        Use::HeaderSection => (
             Usage::HeaderSection,
             Place {
                 at: to,
@@ -115,7 +129,7 @@ fn ruled_line(p: Place, phase: Phase, from: usize, ftype: u64, len: u64) -> Line
                 sum: 0,
             },
         ),
-        frames::USE_TRAILERS => (
+        Use::Trailers => (
             Usage::Trailers,
             Place {
                 at: to,
@@ -123,7 +137,8 @@ fn ruled_line(p: Place, phase: Phase, from: usize, ftype: u64, len: u64) -> Line
                 ..p
             },
         ),
-        code => return Line::Refused { bytes: from, code },
+        // a control stream's
+        Use::Settings | Use::Goaway | Use::MaxPushId | Use::CancelPush => unreachable!(),
     };
     Line::Frame {
         at: p.at,

@@ -1,5 +1,5 @@
 -- Laws of a section given. Assumes nothing.
-use Rattle.std.specs.Prelude.{◌≡◌, ℕ, zero, suc, ◌≤◌, ◌<◌, Bool, true, false, eqb}
+use Rattle.std.specs.Prelude.{◌≡◌, ℕ, zero, suc, ◌≤◌, ◌<◌, Bool, true, false, eqb, Result, Ok, Err}
 use Rattle.std.proofs.Math.Path.{refl, ap, subst}
 use Rattle.std.proofs.Common.{sym, ◌∙◌, arith, eqb-true}
 use mathlib.Core.List.{List, []}
@@ -18,9 +18,8 @@ use Rattle.frames.specs.Both.{Place, of_request}
 use Rattle.frames.specs.Uses.{place_of, Stands, a_place, any_set}
 use Rattle.frames.specs.Answers.{mode_state, state_at, state_of, StandsIn, Sane}
 use Rattle.frames.specs.Apart.{message}
-use Rattle.requests.specs.declared.given.Given.{Given}
 use Rattle.section.specs.Request.{header_of, trailer_of}
-use Rattle.requests.specs.Taken.{answer, headed_as, trailed_as, given_of, given_header, given_trailers, given_undue, Says, header_says, trailer_says}
+use Rattle.requests.specs.Taken.{headed_as, trailed_as, given_of, given_header, given_trailers, given_undue, Says, header_says, trailer_says}
 use Rattle.record.specs.Kinds.{REQUEST}
 use Rattle.record.specs.declared.Record.{Record}
 use Rattle.record.specs.Row.{record_from, request_record}
@@ -36,31 +35,31 @@ use Rattle.requests.specs.Feeds.{due_not}
 
 -- ---- what an answer in numbers says
 
-data Meant (r : Record) (g : Given) (x : Reply) : Type 0 where
-  turned : (n : ℕ) → (n ≡ ACCEPTED → ⊥) → g.number ≡ n → refused n (left_by n r) ≡ x → Meant r g x
-  took : (m : Message) → g.number ≡ ACCEPTED → StandsIn g.cells (of_request m) → ((p : Place) (k : List ℕ) → state_of g.cells p k ≡ between p) → Sane g.cells
+data Meant (r : Record) (g : Result Cells ℕ) (x : Reply) : Type 0 where
+  turned : (n : ℕ) → (n ≡ ACCEPTED → ⊥) → g ≡ Err n → refused n (left_by n r) ≡ x → Meant r g x
+  took : (m : Message) (d : Cells) → g ≡ Ok d → StandsIn d (of_request m) → ((p : Place) (k : List ℕ) → state_of d p k ≡ between p) → Sane d
       → refused ACCEPTED (request_record r.id (between m)) ≡ x → Meant r g x
 
 module _ (r : Record) where
-  by_next : (c : Cells) (g : Given) (n : Next Message) → Says c g n → Meant r g (taken_as r (answered n))
+  by_next : (g : Result Cells ℕ) (n : Next Message) → Says g n → Meant r g (taken_as r (answered n))
   unfolding Says taken_as answered
-  by_next c g (stop code) s = turned (code_number code) (λ z. (let h = code_high code in omega arith)) (ap (λ x. x.number) s) refl
-  by_next c g (go m) s = took m s.0 s.1 s.2 s.3 refl
+  by_next g (stop code) s = turned (code_number code) (λ z. (let h = code_high code in omega arith)) s refl
+  by_next g (go m) s = took m s.0 s.1 s.2 s.3 s.4 refl
 
-  plain_number : (c : Cells) (n : ℕ) → (n ≡ ACCEPTED → ⊥) → n < 10 → Meant r (answer n c) (refused n r)
-  plain_number c n z h =
+  plain_number : (n : ℕ) → (n ≡ ACCEPTED → ⊥) → n < 10 → Meant r (Err n) (refused n r)
+  plain_number n z h =
       turned n z refl (ap (refused n) (sym (left_alone r n ((λ e. omega arith), (λ e. omega arith), (λ e. omega arith), (λ e. omega arith)))))
 
   module _ (c : Cells) (m : Message) (st : StandsIn c (of_request m)) where
     header_lines : (l : Lines) → Meant r (headed_as c (header_of l)) (read_as r (due header_section m) l)
     unfolding headed_as header_of read_as given
-    header_lines (unreadable f) = plain_number c UNREADABLE (λ e. omega arith) (omega arith)
-    header_lines (readable s) = by_next c _ (next-given document header_section m s) (header_says c m st s)
+    header_lines (unreadable f) = plain_number UNREADABLE (λ e. omega arith) (omega arith)
+    header_lines (readable s) = by_next _ (next-given document header_section m s) (header_says c m st s)
 
     trailer_lines : Sane c → (l : Lines) → Meant r (trailed_as c (trailer_of l)) (read_as r (due trailers m) l)
     unfolding trailed_as trailer_of read_as given
-    trailer_lines sane (unreadable f) = plain_number c UNREADABLE (λ e. omega arith) (omega arith)
-    trailer_lines sane (readable s) = by_next c _ (next-given document trailers m s) (trailer_says c m st sane s)
+    trailer_lines sane (unreadable f) = plain_number UNREADABLE (λ e. omega arith) (omega arith)
+    trailer_lines sane (readable s) = by_next _ (next-given document trailers m s) (trailer_says c m st sane s)
 
 data DueView (mode : ℕ) : Type 0 where
   of_header : mode ≡ HEADER-SECTION-DUE → DueView mode
@@ -101,7 +100,7 @@ module _ (r : Record) (o : Open r) (block : List ℕ) where
   given_by (not_due e f) =
       let c = cells_in r in
       subst (λ x. Meant r (given_of c block) x) (due_not c.acc c.due c.ftype (message (own_place c)) [] _ (refused NO-SECTION r) c.mode e f)
-      (subst (λ g. Meant r g (refused NO-SECTION r)) (given_undue c block (phase_low r o) e f) (plain_number r c NO-SECTION (λ e. omega arith) (omega arith)))
+      (subst (λ g. Meant r g (refused NO-SECTION r)) (given_undue c block (phase_low r o) e f) (plain_number r NO-SECTION (λ e. omega arith) (omega arith)))
 
 -- ---- the two ways
 
@@ -119,41 +118,44 @@ between_mode : (mode a d t : ℕ) (p : Place) (k : List ℕ) → state_at mode a
 unfolding mode_state
 between_mode mode a d t p k = not_kept (λ z. mode_state z a d t p k ≡ between p) (λ f e. (let z : ◌≡◌ {A = ℕ} 0 1 = cc in omega arith)) mode
 
-module _ (r : Record) (o : Open r) (g : Given) {x : Reply} where
-  taken_fit : Meant r g x → g.number ≡ ACCEPTED → Fit REQUEST r.id g.cells
-  taken_fit (turned n z e f) q = absurd (z (sym e ∙ q))
-  taken_fit (took m z st state sane f) q =
-      let d = g.cells in
+module _ (r : Record) (o : Open r) {x : Reply} where
+  taken_fit : (d : Cells) → Meant r (Ok d) x → Fit REQUEST r.id d
+  taken_fit d (turned n z e f) = cc
+  taken_fit d (took m q e st state sane f) =
+      let same : q ≡ d = cc in
       let h = o.sound.fit.shaped in
-      record {
+      subst (Fit REQUEST r.id) same (record {
         sane = sane;
-        shaped = request_shape r.id d h.ids (h.request_id o.kind) (stands_low m st refl) (between_mode d.mode d.acc d.due d.ftype (of_request m) [] (state (of_request m) []));
-      }
+        shaped = request_shape r.id q h.ids (h.request_id o.kind) (stands_low m st refl) (between_mode q.mode q.acc q.due q.ftype (of_request m) [] (state (of_request m) []));
+      })
 
-  by_taken : Meant r g x → g.number ≡ ACCEPTED → (w : Record) → Written (stream REQUEST r.id g.cells) w → (refused ACCEPTED w ≡ x) × Open w
+  by_taken : (d : Cells) → Meant r (Ok d) x → (w : Record) → Written (stream REQUEST r.id d) w → (refused ACCEPTED w ≡ x) × Open w
   unfolding map_state
-  by_taken (turned n z e f) q w written = absurd (z (sym e ∙ q))
-  by_taken (took m z st state sane f) q w written =
-      let d = g.cells in
-      let fit = taken_fit (took m z st state sane f) q in
-      let e : w ≡ request_record r.id (between m) = written_as (stream REQUEST r.id d) w written fit (of_request m) [] st ∙ ap (record_from REQUEST r.id) (state (of_request m) []) in
+  by_taken d (turned n z e f) w written = cc
+  by_taken d (took m q e st state sane f) w written =
+      let same : q ≡ d = cc in
+      let fit = taken_fit d (took m q e st state sane f) in
+      let st' = subst (λ y. StandsIn y (of_request m)) same st in
+      let state' = subst (λ y. state_of y (of_request m) [] ≡ between (of_request m)) same (state (of_request m) []) in
+      let e : w ≡ request_record r.id (between m) = written_as (stream REQUEST r.id d) w written fit (of_request m) [] st' ∙ ap (record_from REQUEST r.id) state' in
       (ap (refused ACCEPTED) e ∙ f, record { sound = written_sound (stream REQUEST r.id d) w fit written; kind = ap (λ y. y.kind) e })
 
-  by_turned : Meant r g x → (g.number ≡ ACCEPTED → ⊥) → refused g.number (left_by g.number r) ≡ x
-  by_turned (turned n z e f) q = ap (λ y. refused y (left_by y r)) e ∙ f
-  by_turned (took m z st state sane f) q = absurd (q z)
+  by_turned : (n : ℕ) → Meant r (Err n) x → (n ≡ ACCEPTED → ⊥) × (refused n (left_by n r) ≡ x)
+  by_turned n (turned q z e f) = let same : q ≡ n = cc in subst (λ y. (y ≡ ACCEPTED → ⊥) × (refused y (left_by y r) ≡ x)) same (z, f)
+  by_turned n (took m q e st state sane f) = cc
 
-module _ (r : Record) (o : Open r) (block : List ℕ) (g : Given) (is : g ≡ given_of (cells_in r) block) where
-  meant : Meant r g (given_as r block (state_in r))
-  meant = rw is (given_by r o block (due_view (cells_in r).mode))
+module _ (r : Record) (o : Open r) (block : List ℕ) where
+  meant : {g : Result Cells ℕ} → g ≡ given_of (cells_in r) block → Meant r g (given_as r block (state_in r))
+  meant is = rw is (given_by r o block (due_view (cells_in r).mode))
 
-  pub give_fit : g.number ≡ ACCEPTED → Fit REQUEST r.id g.cells
-  give_fit e = taken_fit r o g meant e
+  module _ (d : Cells) (is : Ok d ≡ given_of (cells_in r) block) where
+    pub give_fit : Fit REQUEST r.id d
+    give_fit = taken_fit r o d (meant is)
 
-  pub give_taken : {a : Reply} → g.number ≡ ACCEPTED → (w : Record) → Written (stream REQUEST r.id g.cells) w → a ≡ refused ACCEPTED w → Keeps r (given_as r block) a
-  give_taken e w written q = let t = by_taken r o g meant e w written in
-      record { answers = opened o (q ∙ t.0); stays = λ z. subst Open (sym (ap (λ x. x.row) q)) t.1 }
+    pub give_taken : {a : Reply} (w : Record) → Written (stream REQUEST r.id d) w → a ≡ refused ACCEPTED w → Keeps r (given_as r block) a
+    give_taken w written q = let t = by_taken r o d (meant is) w written in
+        record { answers = opened o (q ∙ t.0); stays = λ z. subst Open (sym (ap (λ x. x.row) q)) t.1 }
 
-  pub give_turned : {a : Reply} {w : Record} → (g.number ≡ ACCEPTED → ⊥) → w ≡ left_by g.number r → a ≡ refused g.number w → Keeps r (given_as r block) a
-  give_turned e f q =
-      record { answers = opened o (q ∙ ap (refused g.number) f ∙ by_turned r o g meant e); stays = λ z. absurd (e (sym (ap (λ x. x.number) q) ∙ z)) }
+  pub give_turned : (n : ℕ) {a : Reply} → Err n ≡ given_of (cells_in r) block → a ≡ refused n (left_by n r) → Keeps r (given_as r block) a
+  give_turned n is q = let t = by_turned r o n (meant is) in
+      record { answers = opened o (q ∙ t.1); stays = λ z. absurd (t.0 (sym (ap (λ x. x.number) q) ∙ z)) }

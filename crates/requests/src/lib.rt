@@ -168,10 +168,8 @@ pub fn give(r: Record, block: &[u8]) -> Reply
     let Some(c) = opened(r) else {
         return told(rules::NOT_OPEN, rules::NOTHING, r);
     };
-    let g = given::give(c, block);
-    if g.number == rules::ACCEPTED {
-        told(rules::ACCEPTED, rules::NOTHING, kept(r.id, g.cells))
-    } else {
-        refused(g.number, r)
+    match given::give(c, block) {
+        Ok(next) => told(rules::ACCEPTED, rules::NOTHING, kept(r.id, next)),
+        Err(number) => refused(number, r),
     }
 }

@@ -1,7 +1,7 @@
 -- How the lowest broken check is the rules' reason, and how an answer's reading is what the rules say. Assumes nothing.
 use Prim.Native.Nat.{ℕ, zero, suc, ◌<◌}
 use Rattle.std.proofs.Math.Path.{◌≡◌, refl, sym, ap}
-use Rattle.std.proofs.Common.{◌∙◌, arith, lit<, ltb-false}
+use Rattle.std.proofs.Common.{◌∙◌, subst, arith, lit<, ltb-false}
 use mathlib.Core.List.{List, [], ◌∷◌}
 use Rattle.std.specs.Prelude.{Bool, cond, ◌||◌, ◌&&◌, length, get_or}
 use Rattle.std.proofs.Math.Bool.{true, false, not}
@@ -16,6 +16,11 @@ use Rattle.fields.specs.Laws.{empty_is}
 use Rattle.fields.specs.Walk.{part, is_readable, held}
 use Rattle.fields.specs.Lines.{held_is}
 use Rattle.fields.specs.Decimal.{capped, capped_below, past}
+use Rattle.std.specs.Prelude.{is_some, IsSome}
+use Rattle.std.specs.Option.{unwrap_or}
+use Rattle.rules.specs.Block.{Line}
+use Rattle.section.specs.declared.Name.{Name}
+use Rattle.section.specs.declared.Span.{Span}
 use Rattle.section.specs.declared.Facts.{Facts}
 use Rattle.rules.specs.Named.{reason_named, reason_back}
 use Rattle.rules.specs.declared.reasons.Reason.{Reason as NamedReason}
@@ -26,9 +31,9 @@ use Rattle.section.specs.declared.Fault.TheVariants as fault
 use Rattle.section.specs.declared.Sound.{Sound}
 use Rattle.section.specs.Checks.{checks, lowest, found, lower_of, fill, and_then, told, first_in, first_told, found_some, found_none}
 use Rattle.section.specs.Names.{method, scheme, authority, path, host, content_length, name_at}
-use Rattle.section.specs.Finding.{first, to_of}
-use Rattle.section.specs.Facts.{row_of, facts_of, walked, from_in, to_in, there_at, value_at, there_is, somewhere}
-use Rattle.section.specs.Places.{bytes_are, holds_by}
+use Rattle.section.specs.Finding.{first, from_of, to_of}
+use Rattle.section.specs.Facts.{row_of, facts_of, walked, place_by, span_of, number_in, place_in, length_in, from_in, to_in, value_at, value_in, value_first, there_is}
+use Rattle.section.specs.Places.{within, in_block, bytes_are, holds_by}
 use Rattle.section.specs.Answer.{HeaderAnswer, TrailerAnswer, method_name, length_name, method_line, stated_of, header_answer_by, header_answer, trailer_answer_by, trailer_answer, judged_number, header_number, trailer_number}
 
 -- ---- what each check says, in its place
@@ -65,18 +70,15 @@ trailer_row s =
 
 -- ---- the checks that the lines do not settle by themselves
 
-abbrev pub absent : Facts → (k : ℕ) → Bool
-absent f k = eqb (get_or f.to k 0) 0
-
 unfoldable pub by_places : Facts → Maybe NamedReason
 by_places f =
     lower_of
     (lower_of
     (lower_of
     (lower_of f.first reason.TooLarge (ltb size_limit f.size))
-    reason.NoMethod (absent f method))
-    reason.NoSchemeOrPath (not (there_at f scheme && there_at f path)))
-    reason.LengthPastLimit (ltb length_limit f.stated)
+    reason.NoMethod (not (is_some f.method)))
+    reason.NoSchemeOrPath (not (is_some f.scheme && is_some f.path)))
+    reason.LengthPastLimit (ltb length_limit (unwrap_or f.stated 0))
 
 unfoldable pub is_http : List ℕ → Bool
 is_http v = same v (ascii "http") || same v (ascii "https")
@@ -108,62 +110,74 @@ by_authority a ta h th n =
     reason.AtInAuthority (any (eqb 0x40) a)
 
 unfoldable pub by_trailers : Facts → Maybe NamedReason
-by_trailers f = lower_of (lower_of (lower_of f.first reason.TooLarge (ltb size_limit f.size)) reason.PseudoInTrailers f.pseudo) reason.LengthInTrailers (not (absent f content_length))
+by_trailers f = lower_of (lower_of (lower_of f.first reason.TooLarge (ltb size_limit f.size)) reason.PseudoInTrailers f.pseudo) reason.LengthInTrailers (is_some f.stated)
 
 -- ---- a name is there where it has a value
 
-abbrev is_some : Option (List ℕ) → Bool
-is_some none = false
-is_some (some v) = true
+abbrev is_there : Option (List ℕ) → Bool
+is_there none = false
+is_there (some v) = true
+
+abbrev value_got : Option Line → Option (List ℕ)
+value_got none = none
+value_got (some l) = some l.value
 
 module _ (name : List ℕ) where
-  absent_is : (s : Section) → eqb (to_in s name) 0 ≡ not (has name s)
-  absent_is s = twice (eqb (to_in s name) 0) ∙ ap not (there_is name s)
+  first_value : (s : Section) → value_of name s ≡ value_got (first (named name) s)
+  unfolding first value_of
+  first_value [] = refl
+  first_value (l ∷ s) = go (named name l) (first_value s)
     where
-      twice : (t : Bool) → t ≡ not (not t)
-      twice true = refl
-      twice false = refl
-
-  pub value_is : (s : Section) → eqb (to_in s name) 0 ≡ not (is_some (value_of name s))
-  unfolding first to_of value_of
-  value_is [] = refl
-  value_is (l ∷ s) = go (named name l) (value_is s)
-    where
-      go : (t : Bool) → eqb (to_in s name) 0 ≡ not (is_some (value_of name s))
-          → eqb (to_of (cond t (some l) (first (named name) s))) 0 ≡ not (is_some (elim t [ true ↦ some l.value | false ↦ value_of name s ]))
-      go true ih = somewhere l
+      go : (t : Bool) → value_of name s ≡ value_got (first (named name) s)
+          → ◌≡◌ {A = Option (List ℕ)} (elim t [ true ↦ some l.value | false ↦ value_of name s ]) (value_got (cond t (some l) (first (named name) s)))
+      go true ih = refl
       go false ih = ih
 
-empty_is_so : (o : Option (List ℕ)) → (not (not (is_some o)) && eqb (length (method_of o)) 0) ≡ holds is_empty o
+  value_is : {A : Type 0} (pick : Line → A) (s : Section) → is_some (place_by pick (first (named name) s)) ≡ is_there (value_of name s)
+  value_is pick s = go (first (named name) s) ∙ ap is_there (sym (first_value s))
+    where
+      go : (o : Option Line) → is_some (place_by pick o) ≡ is_there (value_got o)
+      go none = refl
+      go (some l) = refl
+
+empty_is_so : (o : Option (List ℕ)) → (is_there o && eqb (length (method_of o)) 0) ≡ holds is_empty o
 unfolding holds method_of
 empty_is_so none = refl
 empty_is_so (some v) = sym (empty_is v)
 
-differ_so : (o p : Option (List ℕ)) → ((not (not (is_some o)) && not (not (is_some p))) && not (same (method_of o) (method_of p))) ≡ holds (λ a. holds (λ h. not (same a h)) p) o
+differ_so : (o p : Option (List ℕ)) → ((is_there o && is_there p) && not (same (method_of o) (method_of p))) ≡ holds (λ a. holds (λ h. not (same a h)) p) o
 unfolding holds method_of
 differ_so none p = refl
 differ_so (some a) none = refl
 differ_so (some a) (some h) = refl
 
 module _ (s : Section) where
-  abbrev there : ℕ → Bool
-  there k = not (eqb (to_in s (name_at k)) 0)
+  abbrev there : Name → Bool
+  there k = is_some (place_in s (name_at k))
 
   large : ltb size_limit (facts_of s).size ≡ size_check.broken s
   unfolding facts_of size_check size_limit
   large = past size_limit (size s) (lit< tt)
 
-  no_method : absent (facts_of s) method ≡ no_method_check.broken s
+  no_method : not (is_some (facts_of s).method) ≡ no_method_check.broken s
   unfolding facts_of no_method_check
-  no_method = absent_is (name_at method) s
+  no_method = ap not (there_is span_of (name_at method) s)
 
-  no_place : not (there_at (facts_of s) scheme && there_at (facts_of s) path) ≡ present_check.broken s
+  no_place : not (is_some (facts_of s).scheme && is_some (facts_of s).path) ≡ present_check.broken s
   unfolding facts_of present_check
-  no_place = rw (there_is (name_at scheme) s, there_is (name_at path) s)
+  no_place = rw (there_is span_of (name_at scheme) s, there_is span_of (name_at path) s)
 
-  too_long : ltb length_limit (facts_of s).stated ≡ length_check.broken s
+  stated_value : unwrap_or (length_in s) 0 ≡ capped (decimal (value_at s content_length))
+  unfolding decimal decimal_from capped
+  stated_value = go (first (named (name_at content_length)) s) ∙ ap (λ v. capped (decimal v)) (sym (value_first (name_at content_length) s))
+    where
+      go : (o : Option Line) → unwrap_or (place_by number_in o) 0 ≡ capped (decimal (value_in o))
+      go none = refl
+      go (some l) = refl
+
+  too_long : ltb length_limit (unwrap_or (facts_of s).stated 0) ≡ length_check.broken s
   unfolding facts_of length_check length_limit decimal decimal_from
-  too_long = past length_limit (decimal (value_at s content_length)) (lit< tt) ∙ holds_by (λ v. ltb length_limit (decimal v)) (value_of (name_at content_length) s) refl
+  too_long = ap (ltb length_limit) stated_value ∙ past length_limit (decimal (value_at s content_length)) (lit< tt) ∙ holds_by (λ v. ltb length_limit (decimal v)) (value_of (name_at content_length) s) refl
 
   connects : same (ascii "CONNECT") (value_at s method) ≡ connect_check.broken s
   unfolding connect_check ascii same
@@ -190,21 +204,21 @@ module _ (s : Section) where
       three false false true = refl
       three false false false = refl
 
-  no_length : (sends_content (value_at s method) && not (there content_length)) ≡ upload_check.broken s
+  no_length : (sends_content (value_at s method) && not (is_some (length_in s))) ≡ upload_check.broken s
   unfolding upload_check uploading
-  no_length = rw (sends_content_lem (value_of (name_at method) s), there_is (name_at content_length) s)
+  no_length = rw (sends_content_lem (value_of (name_at method) s), there_is number_in (name_at content_length) s)
 
   no_authority : not (there authority || there host) ≡ authority_check.broken s
   unfolding authority_check
-  no_authority = rw (there_is (name_at authority) s, there_is (name_at host) s)
+  no_authority = rw (there_is span_of (name_at authority) s, there_is span_of (name_at host) s)
 
   empties : ((there authority && eqb (length (value_at s authority)) 0) || (there host && eqb (length (value_at s host)) 0)) ≡ empty_check.broken s
   unfolding empty_check
-  empties = rw (value_is (name_at authority) s, value_is (name_at host) s, empty_is_so (value_of (name_at authority) s), empty_is_so (value_of (name_at host) s))
+  empties = rw (value_is (name_at authority) span_of s, value_is (name_at host) span_of s, empty_is_so (value_of (name_at authority) s), empty_is_so (value_of (name_at host) s))
 
   differs : ((there authority && there host) && not (same (value_at s authority) (value_at s host))) ≡ differ_check.broken s
   unfolding differ_check
-  differs = rw (value_is (name_at authority) s, value_is (name_at host) s) (differ_so (value_of (name_at authority) s) (value_of (name_at host) s))
+  differs = rw (value_is (name_at authority) span_of s, value_is (name_at host) span_of s) (differ_so (value_of (name_at authority) s) (value_of (name_at host) s))
 
   at_sign : any (eqb 0x40) (value_at s authority) ≡ at_check.broken s
   unfolding at_check any
@@ -215,7 +229,7 @@ module _ (s : Section) where
   first_is = refl
 
   pub header_lowest : by_authority (value_at s authority) (there authority) (value_at s host) (there host)
-      (by_request (value_at s method) (value_at s scheme) (value_at s path) (there content_length) (by_places (facts_of s)))
+      (by_request (value_at s method) (value_at s scheme) (value_at s path) (is_some (length_in s)) (by_places (facts_of s)))
       ≡ found (lowest (header_row s))
   unfolding by_authority by_request by_places header_row row_of fill
   header_lowest =
@@ -248,9 +262,9 @@ module _ (s : Section) where
   unfolding facts_of in_trailers_check
   in_trailers = refl
 
-  stated_there : not (absent (facts_of s) content_length) ≡ length_in_trailers_check.broken s
+  stated_there : is_some (facts_of s).stated ≡ length_in_trailers_check.broken s
   unfolding facts_of length_in_trailers_check
-  stated_there = there_is (name_at content_length) s
+  stated_there = there_is number_in (name_at content_length) s
 
   trailer_lowest : by_trailers (facts_of s) ≡ found (lowest (trailer_row s))
   unfolding by_trailers trailer_row row_of fill
@@ -295,24 +309,26 @@ module _ (s : Section) where
   upload_states e u =
       let b : (uploading s && not (has length_name s)) ≡ false = passed header_checks 22 upload_check (lit< tt) e in
       let t : not (has length_name s) ≡ false = rw u at b in
-      by (value_of length_name s) (sym (value_is length_name s) ∙ absent_is length_name s ∙ t)
+      by (value_of length_name s) (ap not (sym (value_is length_name number_in s) ∙ there_is number_in length_name s) ∙ t)
     where
-      by : (o : Option (List ℕ)) → not (is_some o) ≡ false → (n : ℕ) × (stated_in o ≡ some n)
+      by : (o : Option (List ℕ)) → not (is_there o) ≡ false → (n : ℕ) × (stated_in o ≡ some n)
       by none t = let z : ◌≡◌ {A = ℕ} 0 1 = cc in absurd (omega arith)
       by (some v) t = (decimal v, refl)
 
--- the length that a section states, within the limit, is reported as it is
-unfoldable pub stated_by : Facts → Option ℕ
-stated_by f = cond (absent f content_length) none (some f.stated)
-
-stated_is : (s : Section) → length_check.broken s ≡ false → stated_by (facts_of s) ≡ stated_in (value_of length_name s)
-unfolding stated_by facts_of length_check length_limit holds stated_in method_of
-stated_is s e = rw (value_is length_name s) (go (value_of length_name s) e)
+-- the length that a section states, within the limit, is kept as it is
+stated_is : (s : Section) → length_check.broken s ≡ false → (facts_of s).stated ≡ stated_of (stated_in (value_of length_name s))
+unfolding facts_of length_check length_limit holds stated_in
+stated_is s e = rw (first_value length_name s) (go (first (named length_name) s) (sym (ap (holds (λ v. ltb length_limit (decimal v))) (first_value length_name s)) ∙ e))
   where
-    go : (o : Option (List ℕ)) → holds (λ v. ltb length_limit (decimal v)) o ≡ false
-        → cond (not (is_some o)) none (some (capped (decimal (method_of o)))) ≡ stated_in o
+    go : (o : Option Line) → holds (λ v. ltb length_limit (decimal v)) (value_got o) ≡ false → place_by number_in o ≡ stated_of (stated_in (value_got o))
     go none e = refl
-    go (some v) e = let h = ltb-false length_limit (decimal v) e in ap some (capped_below (decimal v) (omega arith))
+    go (some l) e = let h = ltb-false length_limit (decimal l.value) e in ap Some (capped_below (decimal l.value) (omega arith))
+
+-- where a method is kept, it is where the answer says
+ends_are : (o : Option Line) (p : Span) → place_by span_of o ≡ Some p → (from_of o ≡ p.from) × (to_of o ≡ p.to)
+unfolding from_of to_of
+ends_are none p e = let z : ◌≡◌ {A = ℕ} 0 1 = cc in absurd (omega arith)
+ends_are (some l) p e = let g : span_of l ≡ p = cc in (ap (λ (q : Span). q.from) g, ap (λ (q : Span). q.to) g)
 
 -- ---- the answer is the rules' own
 
@@ -338,15 +354,26 @@ module _ (s : Section) where
     unfolding trailer_answer_by unless
     trailers_refused e = let f = found_some _ r (e ∙ trailer_lowest s) in ap (λ x. Err (fault.Refused x)) (sym f.1) ∙ by_first' (trailer_first s ∙ f.0)
 
-  pub header_sound : None ≡ found (lowest (header_row s)) → (f : Facts) → f ≡ facts_of s → {t : Maybe ℕ} → t ≡ stated_of (stated_by f)
-      → Ok (record { method = get_or f.from method 0; end = get_or f.to method 0; stated = t }) ≡ header_answer (readable s)
+  -- a sound header section has a method
+  pub method_is : None ≡ found (lowest (header_row s)) → (f : Facts) → f ≡ facts_of s → IsSome f.method
+  unfolding header_checks
+  method_is e f is =
+      go f.method (ap (λ (g : Facts). not (is_some g.method)) is ∙ no_method s ∙ passed s header_checks 8 no_method_check (lit< tt) (header_first s ∙ found_none _ e))
+    where
+      go : (o : Maybe Span) → not (is_some o) ≡ false → IsSome o
+      go None h = let z : ◌≡◌ {A = ℕ} 0 1 = cc in absurd (omega arith)
+      go (Some p) h = refl
+
+  pub header_sound : None ≡ found (lowest (header_row s)) → (f : Facts) → f ≡ facts_of s → (p : Span) → f.method ≡ Some p
+      → Ok (record { method = p.from; end = p.to; stated = f.stated }) ≡ header_answer (readable s)
   unfolding header_answer_by unless method_line facts_of
-  header_sound e f is states =
+  header_sound e f is p there =
       let none-broken = header_first s ∙ found_none _ e in
-      let sounds : Facts → Maybe ℕ → HeaderAnswer = λ (g : Facts) (t : Maybe ℕ). Ok (record { method = get_or g.from method 0; end = get_or g.to method 0; stated = t }) in
-      ap (sounds f) states
-      ∙ ap (λ (g : Facts). sounds g (stated_of (stated_by g))) is
-      ∙ ap (λ o. sounds (facts_of s) (stated_of o)) (stated_is s (length_passed s none-broken))
+      let ends = ends_are (first (named method_name) s) p (sym (ap (λ (g : Facts). g.method) is) ∙ there) in
+      let sounds : ℕ → ℕ → Maybe ℕ → HeaderAnswer = λ (a b : ℕ) (t : Maybe ℕ). Ok (record { method = a; end = b; stated = t }) in
+      ap (sounds p.from p.to) (ap (λ (g : Facts). g.stated) is ∙ stated_is s (length_passed s none-broken))
+      ∙ ap (λ a. sounds a p.to (stated_of (stated_in (value_of length_name s)))) (sym ends.0)
+      ∙ ap (λ b. sounds (from_in s method_name) b (stated_of (stated_in (value_of length_name s)))) (sym ends.1)
       ∙ by_first none-broken
 
   pub trailers_sound : None ≡ by_trailers (facts_of s) → Ok tt ≡ trailer_answer (readable s)
@@ -403,6 +430,11 @@ walked_all block {f} = go (lines block) refl
         let same_section : s ≡ held block = cc in
         let facts : f ≡ facts_of s = cc in
         (there, facts ∙ ap facts_of same_section)
+
+-- what was kept of a name lies in the block
+pub lies : (block : List ℕ) (f : Facts) → f ≡ facts_of (held block) → (get : Facts → Maybe Span) (k : Name) → get (facts_of (held block)) ≡ place_in (held block) (name_at k)
+    → within block (get f)
+lies block f is get k e = subst (within block) (sym (ap get is ∙ e)) (in_block (name_at k) block)
 
 -- the bytes that a sound answer names are the method
 pub method_named : (block : List ℕ) (s : Section) (h : Head) {a : Sound} → lines block ≡ readable s → header_section s ≡ sound h

@@ -1,6 +1,6 @@
 -- The lines of a block are where they say; so what was collected of a name has its value. Assumes nothing.
-use Prim.Native.Nat.{ℕ, zero, suc, ◌-◌, ◌≤◌, ◌<◌}
-use Rattle.std.specs.Prelude.{◌≡◌, Bool, true, false, cond, get_or, Ok, Err, Some, None}
+use Prim.Native.Nat.{ℕ, zero, suc, ◌-◌, ◌≤◌}
+use Rattle.std.specs.Prelude.{◌≡◌, Bool, true, false, cond, Option as Maybe, Ok, Err, Some, None}
 use Rattle.std.proofs.Math.Path.{refl, sym}
 use Rattle.std.proofs.Common.{ap, ◌∙◌, subst}
 use mathlib.Core.List.{List, [], ◌∷◌}
@@ -12,10 +12,9 @@ use Rattle.rules.specs.Section.{named, value_of, method_of, holds}
 use Rattle.fields.specs.declared.Line as code
 use Rattle.fields.specs.Walk.{Record, part, record_at, line_of, by_record, walk, walk_from, held}
 use Rattle.fields.specs.Lines.{placed}
-use Rattle.section.specs.declared.Facts.{Facts}
-use Rattle.section.specs.Names.{name_at}
+use Rattle.section.specs.declared.Span.{Span}
 use Rattle.section.specs.Finding.{first, value_from, value_to, from_of, to_of, length_part}
-use Rattle.section.specs.Facts.{facts_of, from_in, to_in, value_at, value_in, value_first}
+use Rattle.section.specs.Facts.{from_in, to_in, place_by, span_of, place_in, value_in, value_first}
 
 pub record Sits (block : List ℕ) (l : Line) : Type 0 where
   pub bytes : part (value_from l) (value_to l) block ≡ l.value
@@ -72,19 +71,14 @@ first_sits test block (m ∷ s) l a e = go (test m) e (first_sits test block s l
     go true f ih = let g : m ≡ l = cc in subst (Sits block) g a.0
     go false f ih = ih f
 
--- what was collected of the six names
-abbrev InPlace : Section → Facts → (k : ℕ) → Type 0
-InPlace s f k = (get_or f.from k 0 ≡ from_in s (name_at k)) × (get_or f.to k 0 ≡ to_in s (name_at k))
+-- where a value is lies in the block; and its bytes, none where there is no value
+abbrev pub within : (block : List ℕ) → Maybe Span → Type 0
+within block None = Unit {0}
+within block (Some p) = (p.from ≤ p.to) × (p.to ≤ length block)
 
-in_place : (s : Section) (k : ℕ) → k < 6 → InPlace s (facts_of s) k
-unfolding facts_of
-in_place s zero h = (refl, refl)
-in_place s (suc zero) h = (refl, refl)
-in_place s (suc (suc zero)) h = (refl, refl)
-in_place s (suc (suc (suc zero))) h = (refl, refl)
-in_place s (suc (suc (suc (suc zero)))) h = (refl, refl)
-in_place s (suc (suc (suc (suc (suc zero))))) h = (refl, refl)
-in_place s (suc (suc (suc (suc (suc (suc k)))))) h = absurd (omega arith)
+abbrev pub bytes_in : (block : List ℕ) → Maybe Span → List ℕ
+bytes_in block None = []
+bytes_in block (Some p) = part p.from p.to block
 
 module _ (name block : List ℕ) where
   pub bytes_are : part (from_in (held block) name) (to_in (held block) name) block ≡ method_of (value_of name (held block))
@@ -95,23 +89,19 @@ module _ (name block : List ℕ) where
       go none e = refl
       go (some l) e = (first_sits (named name) block (held block) l (all_sit block) e).bytes
 
-  pub in_block : (from_in (held block) name ≤ to_in (held block) name) × (to_in (held block) name ≤ length block)
-  unfolding from_of to_of
+  pub in_block : within block (place_in (held block) name)
   in_block = go (first (named name) (held block)) refl
     where
-      go : (o : Option Line) → first (named name) (held block) ≡ o → (from_of o ≤ to_of o) × (to_of o ≤ length block)
-      go none e = (omega arith, omega arith)
+      go : (o : Option Line) → first (named name) (held block) ≡ o → within block (place_by span_of o)
+      go none e = tt
       go (some l) e = (omega arith, (first_sits (named name) block (held block) l (all_sit block) e).within)
 
-module _ (block : List ℕ) (f : Facts) (k : ℕ) (is : f ≡ facts_of (held block)) (h : k < 6) where
-  here : InPlace (held block) f k
-  here = subst (λ (g : Facts). InPlace (held block) g k) (sym is) (in_place (held block) k h)
-
-  pub lies : (get_or f.from k 0 ≤ get_or f.to k 0) × (get_or f.to k 0 ≤ length block)
-  lies = rw (here.0, here.1) (in_block (name_at k) block)
-
-  pub bytes_at : part (get_or f.from k 0) (get_or f.to k 0) block ≡ value_at (held block) k
-  bytes_at = rw (here.0, here.1) (bytes_are (name_at k) block)
+  pub bytes_at : bytes_in block (place_in (held block) name) ≡ method_of (value_of name (held block))
+  bytes_at = go (first (named name) (held block)) refl ∙ sym (value_first name (held block))
+    where
+      go : (o : Option Line) → first (named name) (held block) ≡ o → bytes_in block (place_by span_of o) ≡ value_in o
+      go none e = refl
+      go (some l) e = (first_sits (named name) block (held block) l (all_sit block) e).bytes
 
 -- what a test says of a value that may be missing, where it says no of nothing
 pub holds_by : (test : List ℕ → Bool) (o : Option (List ℕ)) → test [] ≡ false → test (method_of o) ≡ holds test o

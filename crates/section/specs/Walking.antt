@@ -12,7 +12,7 @@ use Rattle.fields.specs.Lines.{held_is, placed, walk_end, walk_flaw, walk_line, 
 use Rattle.section.specs.declared.Fault.TheVariants as fault
 use Rattle.section.specs.declared.Facts.{Facts}
 use Rattle.section.specs.Finding.{length_part, value_from}
-use Rattle.section.specs.Facts.{no_facts, none_yet, line_step, step_is, facts_of, walked}
+use Rattle.section.specs.Facts.{no_facts, span, none_yet, line_step, step_is, facts_of, walked}
 use Rattle.section.specs.Places.{line_from, line_to}
 
 pub record Walking (block : List ℕ) (at : ℕ) (f : Facts) : Type 0 where
@@ -25,7 +25,6 @@ pub record Walking (block : List ℕ) (at : ℕ) (f : Facts) : Type 0 where
   pub within : at ≤ length block
 
 pub starts : (block : List ℕ) (f : Facts) → f ≡ no_facts → Walking block 0 f
-unfolding no_facts
 starts block f e = record {
   number = 0;
   told = readable_is block;
@@ -68,14 +67,14 @@ module _ (block : List ℕ) (at : ℕ) (f : Facts) (w : Walking block at f) wher
     abbrev here : Line
     here = line_of block w.number at r.name r.value r.next
 
-    goes_facts : line_step f (part r.name r.value block) (part r.value r.next block) r.value r.next ≡ facts_of (w.done ++ (here ∷ []))
+    goes_facts : line_step f (part r.name r.value block) (part r.value r.next block) (span r.value r.next) ≡ facts_of (w.done ++ (here ∷ []))
     goes_facts =
-        ap (λ (g : Facts). line_step g (part r.name r.value block) (part r.value r.next block) r.value r.next) w.facts
-        ∙ ap (λ (x : ℕ). line_step (facts_of w.done) (part r.name r.value block) (part r.value r.next block) x r.next) (sym (line_from block w.number at r e))
-        ∙ ap (λ (x : ℕ). line_step (facts_of w.done) (part r.name r.value block) (part r.value r.next block) (value_from here) x) (sym (line_to block w.number at r e))
+        ap (λ (g : Facts). line_step g (part r.name r.value block) (part r.value r.next block) (span r.value r.next)) w.facts
+        ∙ ap (λ (x : ℕ). line_step (facts_of w.done) (part r.name r.value block) (part r.value r.next block) (span x r.next)) (sym (line_from block w.number at r e))
+        ∙ ap (λ (x : ℕ). line_step (facts_of w.done) (part r.name r.value block) (part r.value r.next block) (span (value_from here) x)) (sym (line_to block w.number at r e))
         ∙ step_is w.done here
 
-    pub goes : (g : Facts) → g ≡ line_step f (part r.name r.value block) (part r.value r.next block) r.value r.next → Walking block r.next g
+    pub goes : (g : Facts) → g ≡ line_step f (part r.name r.value block) (part r.value r.next block) (span r.value r.next) → Walking block r.next g
     unfolding line_step
     goes g q = record {
       number = suc w.number;

@@ -11,11 +11,13 @@ ghost use Rattle.fields.specs.Bytes.{is_in};
 ghost use Rattle.fields.specs.Walk.{held};
 ghost use Rattle.fields.specs.Decimal.{capped};
 ghost use Rattle.section.specs.Checks.{lower_of, lowest, found};
-ghost use Rattle.section.specs.Names.{method, host, content_length, te, unknown, other_name, one_name, of_seven, of_ten, long_name, name_of};
-ghost use Rattle.section.specs.Facts.{no_facts, kept_of, keep_at, known_by, plain_by, note_by, line_step, facts_of, value_at, walked};
-ghost use Rattle.section.specs.Judging.{header_row, by_places, is_http, is_path, sends_content, by_request, by_authority, by_trailers, stated_by};
+ghost use Rattle.section.specs.Names.{other_name, one_name, of_seven, of_ten, long_name, name_of};
+ghost use Rattle.section.specs.Facts.{no_facts, pseudo_by, plain_by, note_by, line_step, facts_of, walked};
+ghost use Rattle.section.specs.Judging.{header_row, by_places, is_http, is_path, sends_content, by_request, by_authority, by_trailers};
 ghost use Rattle.section.specs.declared.Fault.TheVariants as faults;
-ghost use Rattle.section.specs.Answer.{stated_of, header_answer, trailer_answer};
+ghost use Rattle.section.specs.declared.Name.TheVariants as names;
+ghost use Rattle.section.specs.Places.{within, bytes_in};
+ghost use Rattle.section.specs.Answer.{header_answer, trailer_answer};
 
 use fields::{Class, Table, Unreadable};
 use rules::codes::Code;
@@ -51,91 +53,90 @@ fn lower(first: Option<Reason>, check: Reason, broken: bool) -> Option<Reason>
 
 // ---- what a name is to the rules
 
-// The first six have a place in what is collected.
-const METHOD: usize = 0;
+#[derive(Clone, Copy, Debug, PartialEq, Eq, Drop)]
+enum Name {
+    Method,
+    Scheme,
+    Authority,
+    Path,
+    Host,
+    Length,
+    Te,
+    Connection,
+    Unknown,
+    Plain,
+}
 
-const SCHEME: usize = 1;
-
-const AUTHORITY: usize = 2;
-
-const PATH: usize = 3;
-
-const HOST: usize = 4;
-
-const LENGTH: usize = 5;
-
-const TE: usize = 6;
-
-const CONNECTION: usize = 7;
-
-const UNKNOWN: usize = 8;
-
-const PLAIN: usize = 9;
-
-fn other_name(name: &[u8]) -> usize
+#[tactic(auto, unfolding(crate::specs::Names::other_name))]
+fn other_name(name: &[u8]) -> Name
     ensures { result ≡ other_name name.now }
 {
     if fields::begins_with(name, b':') {
-        return UNKNOWN;
+        Name::Unknown
+    } else {
+        Name::Plain
     }
-    PLAIN
 }
 
 // The one name of its length.
-fn one_name<'a>(name: &'a [u8], text: &'a [u8], is: usize) -> usize
+#[tactic(auto, unfolding(crate::specs::Names::one_name))]
+fn one_name<'a>(name: &'a [u8], text: &'a [u8], is: Name) -> Name
     ensures { result ≡ one_name text.now is name.now }
 {
     if fields::same_bytes(name, text) {
-        return is;
+        is
+    } else {
+        other_name(name)
     }
-    other_name(name)
 }
 
-fn of_seven(name: &[u8]) -> usize
+#[tactic(auto, unfolding(crate::specs::Names::of_seven, rules::specs::Text::ascii))]
+fn of_seven(name: &[u8]) -> Name
     ensures { result ≡ of_seven name.now }
 {
     if fields::same_bytes(name, b":method") {
-        return METHOD;
+        Name::Method
+    } else if fields::same_bytes(name, b":scheme") {
+        Name::Scheme
+    } else {
+        one_name(name, b"upgrade", Name::Connection)
     }
-    if fields::same_bytes(name, b":scheme") {
-        return SCHEME;
-    }
-    one_name(name, b"upgrade", CONNECTION)
 }
 
-fn of_ten(name: &[u8]) -> usize
+#[tactic(auto, unfolding(crate::specs::Names::of_ten, rules::specs::Text::ascii))]
+fn of_ten(name: &[u8]) -> Name
     ensures { result ≡ of_ten name.now }
 {
     if fields::same_bytes(name, b":authority") {
-        return AUTHORITY;
+        Name::Authority
+    } else if fields::same_bytes(name, b"connection") {
+        Name::Connection
+    } else {
+        one_name(name, b"keep-alive", Name::Connection)
     }
-    if fields::same_bytes(name, b"connection") {
-        return CONNECTION;
-    }
-    one_name(name, b"keep-alive", CONNECTION)
 }
 
-fn long_name(name: &[u8]) -> usize
+fn long_name(name: &[u8]) -> Name
     ensures { result ≡ long_name name.now }
 {
     match name.len() {
-        14 => one_name(name, b"content-length", LENGTH),
-        16 => one_name(name, b"proxy-connection", CONNECTION),
-        17 => one_name(name, b"transfer-encoding", CONNECTION),
+        14 => one_name(name, b"content-length", Name::Length),
+        16 => one_name(name, b"proxy-connection", Name::Connection),
+        17 => one_name(name, b"transfer-encoding", Name::Connection),
         _ => other_name(name),
     }
 }
 
 // By its length, and then by the names of that length.
-fn name_of(name: &[u8]) -> usize
+fn name_of(name: &[u8]) -> Name
     ensures { result ≡ name_of name.now }
 {
     match name.len() {
         7 => of_seven(name),
         10 => of_ten(name),
-        5 => one_name(name, b":path", PATH),
-        4 => one_name(name, b"host", HOST),
-        2 => one_name(name, b"te", TE),
+        5 => one_name(name, b":path", Name::Path),
+        4 => one_name(name, b"host", Name::Host),
+        2 => one_name(name, b"te", Name::Te),
         _ => long_name(name),
     }
 }
@@ -150,67 +151,27 @@ const SIZE_LIMIT: usize = 16_384;
 
 const ABOVE: usize = 4_611_686_018_427_387_904;
 
-// Of the lines so far: their size, the lowest check that they break by themselves, whether there was a pseudo-field or another; and of six
-// names where in the block the first line's value begins and ends, both 0 where there is none. `stated` is the first Content-Length's number.
+// Where in the block a value begins and ends.
+#[derive(Clone, Copy, Debug, PartialEq, Eq)]
+struct Span {
+    from: usize,
+    to: usize,
+}
+
+// Of the lines so far: their size, the lowest check that they break by themselves, whether there was a pseudo-field or another; of five names
+// where the first line's value is; and the first Content-Length's number.
 #[derive(Clone, Copy)]
 struct Facts {
     size: usize,
     first: Option<Reason>,
     pseudo: bool,
     plain: bool,
-    stated: u64,
-    from: [usize; 6],
-    to: [usize; 6],
-}
-
-fn nothing() -> Facts
-    ensures { result ≡ no_facts }
-{
-    Facts {
-        size: 0,
-        first: None,
-        pseudo: false,
-        plain: false,
-        stated: 0,
-        from: [0; 6],
-        to: [0; 6],
-    }
-}
-
-// What is there stays.
-fn kept(there: usize, old: usize, new: usize) -> usize
-    ensures { result ≡ kept_of there old new }
-{
-    if there == 0 {
-        return new;
-    }
-    old
-}
-
-// The line of a name that has a place.
-fn keep(f: Facts, k: usize, from: usize, to: usize) -> Facts
-    requires { k < 6 }
-    ensures { result ≡ keep_at f k from to }
-{
-    let there = f.to[k];
-    let old = f.from[k];
-    let mut g = f;
-    g.from[k] = kept(there, old, from);
-    g.to[k] = kept(there, there, to);
-    g
-}
-
-// A request pseudo-field.
-fn known_line(f: Facts, k: usize, from: usize, to: usize) -> Facts
-    requires { k < 6 }
-    ensures { result ≡ known_by k f from to }
-{
-    let n = lower(f.first, Reason::RepeatedPseudo, f.to[k] != 0);
-    let first = lower(n, Reason::LatePseudo, f.plain);
-    let mut g = keep(f, k, from, to);
-    g.first = first;
-    g.pseudo = true;
-    g
+    method: Option<Span>,
+    scheme: Option<Span>,
+    authority: Option<Span>,
+    path: Option<Span>,
+    host: Option<Span>,
+    stated: Option<u64>,
 }
 
 // Empty, or with a byte outside a class.
@@ -223,107 +184,6 @@ fn not_all<'a>(table: &'a Table, v: &'a [u8], class: Class) -> bool
     table.any_outside(v, class)
 }
 
-fn method_line<'a>(f: Facts, table: &'a Table, value: &'a [u8], from: usize, to: usize) -> Facts
-    ensures { result ≡ note_by method f value.now from to }
-{
-    let mut g = known_line(f, METHOD, from, to);
-    let first = lower(
-        g.first,
-        Reason::BadMethod,
-        not_all(table, value, Class::Token),
-    );
-    g.first = first;
-    g
-}
-
-// A line that is no pseudo-field.
-fn plain_line(f: Facts, first: Option<Reason>) -> Facts
-    ensures { result ≡ plain_by f first }
-{
-    let mut g = f;
-    g.first = first;
-    g.plain = true;
-    g
-}
-
-fn host_line(f: Facts, from: usize, to: usize) -> Facts
-    ensures { result ≡ note_by host f [] from to }
-{
-    let first = lower(f.first, Reason::RepeatedHost, f.to[HOST] != 0);
-    let mut g = keep(f, HOST, from, to);
-    g.first = first;
-    g.plain = true;
-    g
-}
-
-fn kept_number(there: usize, old: u64, new: u64) -> u64
-    ensures { result ≡ kept_of there old new }
-{
-    if there == 0 {
-        return new;
-    }
-    old
-}
-
-fn length_line<'a>(f: Facts, table: &'a Table, value: &'a [u8], from: usize, to: usize) -> Facts
-    ensures { result ≡ note_by content_length f value.now from to }
-{
-    let there = f.to[LENGTH];
-    let number = fields::decimal_of(value);
-    let n = lower(f.first, Reason::RepeatedLength, there != 0);
-    let n = lower(n, Reason::NoDigits, not_all(table, value, Class::Digit));
-    let first = lower(n, Reason::LengthAbove, LARGEST < number);
-    let stated = kept_number(there, f.stated, number);
-    let mut g = keep(f, LENGTH, from, to);
-    g.first = first;
-    g.plain = true;
-    g.stated = stated;
-    g
-}
-
-fn te_line(f: Facts, value: &[u8]) -> Facts
-    ensures { result ≡ note_by te f value.now 0 0 }
-{
-    let first = lower(
-        f.first,
-        Reason::OtherTe,
-        !fields::same_bytes(value, b"trailers"),
-    );
-    plain_line(f, first)
-}
-
-fn unknown_line(f: Facts) -> Facts
-    ensures { result ≡ note_by unknown f [] 0 0 }
-{
-    let n = lower(f.first, Reason::UnknownPseudo, true);
-    let first = lower(n, Reason::LatePseudo, f.plain);
-    let mut g = f;
-    g.first = first;
-    g.pseudo = true;
-    g
-}
-
-fn noted<'a>(f: Facts, table: &'a Table, k: usize, value: &'a [u8], from: usize, to: usize) -> Facts
-    requires { k < 10 }
-    ensures { result ≡ note_by k f value.now from to }
-{
-    match k {
-        METHOD => method_line(f, table, value, from, to),
-        SCHEME => known_line(f, SCHEME, from, to),
-        AUTHORITY => known_line(f, AUTHORITY, from, to),
-        PATH => known_line(f, PATH, from, to),
-        HOST => host_line(f, from, to),
-        LENGTH => length_line(f, table, value, from, to),
-        TE => te_line(f, value),
-        CONNECTION => {
-            let first = lower(f.first, Reason::ConnectionField, true);
-            plain_line(f, first)
-        }
-        UNKNOWN => unknown_line(f),
-        _ => plain_line(f, f.first),
-    }
-}
-
 // A size past 2^62 is past the limit.
 fn held_below(size: usize) -> usize
     ensures { result ≡ capped size }
@@ -331,25 +191,149 @@ fn held_below(size: usize) -> usize
     if size < ABOVE { size } else { ABOVE }
 }
 
-// A line more.
-fn with_line<'a>(
-    f: Facts,
-    table: &'a Table,
-    name: &'a [u8],
-    value: &'a [u8],
-    from: usize,
-    to: usize,
-) -> Facts
-    requires { f.size + (length name.now + length value.now + 32) < 2 ^ 64 }
-    ensures { result ≡ line_step f name.now value.now from to }
-{
-    let size = held_below(f.size + (name.len() + value.len() + 32));
-    let bad = table.bad_line(name, value);
-    let mut g = noted(f, table, name_of(name), value, from, to);
-    let first = lower(g.first, Reason::BadBytes, bad);
-    g.size = size;
-    g.first = first;
-    g
+impl Facts {
+    fn none() -> Facts
+        ensures { result ≡ no_facts }
+    {
+        Facts {
+            size: 0,
+            first: None,
+            pseudo: false,
+            plain: false,
+            method: None,
+            scheme: None,
+            authority: None,
+            path: None,
+            host: None,
+            stated: None,
+        }
+    }
+
+    // The line of a pseudo-field, with the check that it may break.
+    fn pseudo_line(self, check: Reason, broken: bool) -> Facts
+        ensures { result ≡ pseudo_by self check broken }
+    {
+        let first = lower(self.first, check, broken);
+        Facts {
+            first: lower(first, Reason::LatePseudo, self.plain),
+            pseudo: true,
+            ..self
+        }
+    }
+
+    // Another line.
+    fn plain_line(self, first: Option<Reason>) -> Facts
+        ensures { result ≡ plain_by self first }
+    {
+        Facts {
+            first,
+            plain: true,
+            ..self
+        }
+    }
+
+    #[tactic(auto, unfolding(crate::specs::Facts::note_by))]
+    fn method_line(self, table: &Table, value: &[u8], span: Span) -> Facts
+        ensures { result ≡ note_by names.Method self value.now span }
+    {
+        let facts = self.pseudo_line(Reason::RepeatedPseudo, self.method.is_some());
+        let bad = not_all(table, value, Class::Token);
+        Facts {
+            first: lower(facts.first, Reason::BadMethod, bad),
+            method: self.method.or(Some(span)),
+            ..facts
+        }
+    }
+
+    #[tactic(auto, unfolding(crate::specs::Facts::note_by, rules::specs::Integers::largest))]
+    fn length_line(self, table: &Table, value: &[u8], span: Span) -> Facts
+        ensures { result ≡ note_by names.Length self value.now span }
+    {
+        let number = fields::decimal_of(value);
+        let first = lower(self.first, Reason::RepeatedLength, self.stated.is_some());
+        let first = lower(first, Reason::NoDigits, not_all(table, value, Class::Digit));
+        let first = lower(first, Reason::LengthAbove, LARGEST < number);
+        Facts {
+            stated: self.stated.or(Some(number)),
+            ..self.plain_line(first)
+        }
+    }
+
+    // What the rules ask of a line of that name. What is there stays.
+    #[tactic(auto, unfolding(crate::specs::Facts::note_by, rules::specs::Text::ascii))]
+    fn noted(self, table: &Table, name: Name, value: &[u8], span: Span) -> Facts
+        ensures { result ≡ note_by name self value.now span }
+    {
+        match name {
+            Name::Method => self.method_line(table, value, span),
+            Name::Scheme => Facts {
+                scheme: self.scheme.or(Some(span)),
+                ..self.pseudo_line(Reason::RepeatedPseudo, self.scheme.is_some())
+            },
+            Name::Authority => Facts {
+                authority: self.authority.or(Some(span)),
+                ..self.pseudo_line(Reason::RepeatedPseudo, self.authority.is_some())
+            },
+            Name::Path => Facts {
+                path: self.path.or(Some(span)),
+                ..self.pseudo_line(Reason::RepeatedPseudo, self.path.is_some())
+            },
+            Name::Host => {
+                let first = lower(self.first, Reason::RepeatedHost, self.host.is_some());
+                Facts {
+                    host: self.host.or(Some(span)),
+                    ..self.plain_line(first)
+                }
+            }
+            Name::Length => self.length_line(table, value, span),
+            Name::Te => {
+                let other = !fields::same_bytes(value, b"trailers");
+                self.plain_line(lower(self.first, Reason::OtherTe, other))
+            }
+            Name::Connection => self.plain_line(lower(self.first, Reason::ConnectionField, true)),
+            Name::Unknown => self.pseudo_line(Reason::UnknownPseudo, true),
+            Name::Plain => self.plain_line(self.first),
+        }
+    }
+
+    // A line more.
+    #[tactic(auto, unfolding(crate::specs::Facts::line_step))]
+    fn with_line(self, table: &Table, name: &[u8], value: &[u8], span: Span) -> Facts
+        requires { self.size + (length name.now + length value.now + 32) < 2 ^ 64 }
+        ensures { result ≡ line_step self name.now value.now span }
+    {
+        let size = held_below(self.size + (name.len() + value.len() + 32));
+        let facts = self.noted(table, name_of(name), value, span);
+        Facts {
+            size,
+            first: lower(facts.first, Reason::BadBytes, table.bad_line(name, value)),
+            ..facts
+        }
+    }
+
+    // The size, and what must be there.
+    fn places_fault(self) -> Option<Reason>
+        ensures { result ≡ by_places self }
+    {
+        let n = lower(self.first, Reason::TooLarge, SIZE_LIMIT < self.size);
+        let n = lower(n, Reason::NoMethod, self.method.is_none());
+        let two = self.scheme.is_some() && self.path.is_some();
+        let n = lower(n, Reason::NoSchemeOrPath, !two);
+        lower(
+            n,
+            Reason::LengthPastLimit,
+            LENGTH_LIMIT < self.stated.unwrap_or(0),
+        )
+    }
+
+    #[tactic(auto, unfolding(crate::specs::Judging::by_trailers, rules::specs::Section::size_limit))]
+    fn trailer_fault(self) -> Option<Reason>
+        ensures { result ≡ by_trailers self }
+    {
+        let n = lower(self.first, Reason::TooLarge, SIZE_LIMIT < self.size);
+        let n = lower(n, Reason::PseudoInTrailers, self.pseudo);
+        lower(n, Reason::LengthInTrailers, self.stated.is_some())
+    }
 }
 
 // Why a block is no sound section.
@@ -373,11 +357,15 @@ fn walk_lines(block: &[u8]) -> Result<Facts, Fault>
 {
     let table = fields::classes();
     let mut at = 0;
-    let mut facts = nothing();
+    let mut facts = Facts::none();
     while let Some(line) = fields::line_at(block, at)? {
         let name = &block[line.name..line.value];
         let value = &block[line.value..line.next];
-        facts = with_line(facts, &table, name, value, line.value, line.next);
+        let span = Span {
+            from: line.value,
+            to: line.next,
+        };
+        facts = facts.with_line(&table, name, value, span);
         at = line.next;
     }
     Ok(facts)
@@ -385,27 +373,18 @@ fn walk_lines(block: &[u8]) -> Result<Facts, Fault>
 
 // ---- a header section
 
-// The value of a name's first line; nothing where there is none.
-fn value_of(block: &[u8], f: Facts, k: usize) -> &[u8]
-    requires { (f ≡ facts_of (held block.now)) × (k < 6) }
-    ensures { result.now ≡ value_at (held block.now) k }
+// The bytes at a place; none where there is no place.
+fn value_of(block: &[u8], place: Option<Span>) -> &[u8]
+    requires { within block.now place }
+    ensures { result.now ≡ bytes_in block.now place }
 {
-    let from = f.from[k];
-    let to = f.to[k];
-    &block[from..to]
+    match place {
+        Some(span) => &block[span.from..span.to],
+        None => &[],
+    }
 }
 
-// The size, and what must be there.
-fn places_fault(f: Facts) -> Option<Reason>
-    ensures { result ≡ by_places f }
-{
-    let n = lower(f.first, Reason::TooLarge, SIZE_LIMIT < f.size);
-    let n = lower(n, Reason::NoMethod, f.to[METHOD] == 0);
-    let two = f.to[SCHEME] != 0 && f.to[PATH] != 0;
-    let n = lower(n, Reason::NoSchemeOrPath, !two);
-    lower(n, Reason::LengthPastLimit, LENGTH_LIMIT < f.stated)
-}
-
+#[tactic(auto, unfolding(crate::specs::Judging::is_http, rules::specs::Text::ascii))]
 fn is_http(scheme: &[u8]) -> bool
     ensures { result ≡ is_http scheme.now }
 {
@@ -413,6 +392,7 @@ fn is_http(scheme: &[u8]) -> bool
 }
 
 // `*` is fine with OPTIONS.
+#[tactic(auto, unfolding(crate::specs::Judging::is_path, rules::specs::Text::ascii))]
 fn is_path<'a>(path: &'a [u8], method: &'a [u8]) -> bool
     ensures { result ≡ is_path path.now method.now }
 {
@@ -420,6 +400,7 @@ fn is_path<'a>(path: &'a [u8], method: &'a [u8]) -> bool
         || (fields::same_bytes(b"*", path) && fields::same_bytes(b"OPTIONS", method))
 }
 
+#[tactic(auto, unfolding(crate::specs::Judging::sends_content, rules::specs::Text::ascii))]
 fn sends_content(method: &[u8]) -> bool
     ensures { result ≡ sends_content method.now }
 {
@@ -429,6 +410,7 @@ fn sends_content(method: &[u8]) -> bool
 }
 
 // What the method, the scheme and the path say, and whether a length is stated.
+#[tactic(auto, unfolding(crate::specs::Judging::by_request, rules::specs::Text::ascii))]
 fn request_fault<'a>(
     method: &'a [u8],
     scheme: &'a [u8],
@@ -445,6 +427,7 @@ fn request_fault<'a>(
 }
 
 // What the authority and the host say, each with whether it is there.
+#[tactic(auto, unfolding(crate::specs::Judging::by_authority))]
 fn authority_fault<'a>(
     authority: &'a [u8],
     given: bool,
@@ -462,22 +445,22 @@ fn authority_fault<'a>(
     lower(n, Reason::AtInAuthority, fields::has_byte(authority, b'@'))
 }
 
-fn header_fault(block: &[u8], f: Facts) -> Option<Reason>
-    requires { f ≡ facts_of (held block.now) }
+fn header_fault(block: &[u8], facts: Facts) -> Option<Reason>
+    requires { facts ≡ facts_of (held block.now) }
     ensures { result ≡ found (lowest (header_row (held block.now))) }
 {
     let n = request_fault(
-        value_of(block, f, METHOD),
-        value_of(block, f, SCHEME),
-        value_of(block, f, PATH),
-        f.to[LENGTH] != 0,
-        places_fault(f),
+        value_of(block, facts.method),
+        value_of(block, facts.scheme),
+        value_of(block, facts.path),
+        facts.stated.is_some(),
+        facts.places_fault(),
     );
     authority_fault(
-        value_of(block, f, AUTHORITY),
-        f.to[AUTHORITY] != 0,
-        value_of(block, f, HOST),
-        f.to[HOST] != 0,
+        value_of(block, facts.authority),
+        facts.authority.is_some(),
+        value_of(block, facts.host),
+        facts.host.is_some(),
         n,
     )
 }
@@ -490,46 +473,30 @@ pub struct Sound {
     pub stated: Option<u64>,
 }
 
-#[tactic(auto, unfolding(crate::specs::Judging::stated_by))]
-fn stated_length(f: Facts) -> Option<u64>
-    ensures { result ≡ stated_of (stated_by f) }
-{
-    if f.to[LENGTH] == 0 {
-        None
-    } else {
-        Some(f.stated)
-    }
-}
-
 pub fn header_section(block: &[u8]) -> Result<Sound, Fault>
     ensures { result ≡ header_answer (lines block.now) }
 {
     let facts = walk_lines(block)?;
     match header_fault(block, facts) {
         Some(reason) => Err(Fault::Refused(reason)),
-        None => Ok(Sound {
-            method: facts.from[METHOD],
-            end: facts.to[METHOD],
-            stated: stated_length(facts),
-        }),
+        None => {
+            let method = facts.method.unwrap();
+            Ok(Sound {
+                method: method.from,
+                end: method.to,
+                stated: facts.stated,
+            })
+        }
     }
 }
 
 // ---- trailers
 
-fn trailer_fault(f: Facts) -> Option<Reason>
-    ensures { result ≡ by_trailers f }
-{
-    let n = lower(f.first, Reason::TooLarge, SIZE_LIMIT < f.size);
-    let n = lower(n, Reason::PseudoInTrailers, f.pseudo);
-    lower(n, Reason::LengthInTrailers, f.to[LENGTH] != 0)
-}
-
 pub fn trailers(block: &[u8]) -> Result<(), Fault>
     ensures { result ≡ trailer_answer (lines block.now) }
 {
     let facts = walk_lines(block)?;
-    match trailer_fault(facts) {
+    match facts.trailer_fault() {
         Some(reason) => Err(Fault::Refused(reason)),
         None => Ok(()),
     }

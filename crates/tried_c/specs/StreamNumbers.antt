@@ -1,5 +1,6 @@
 -- A stream's calls in the numbers that cross to another language. Assumes nothing.
-use Rattle.std.specs.Prelude.{ℕ, ◌≤◌, ◌<◌, ◌≡◌, List, Bool, true, false, eqb}
+use Rattle.std.specs.Prelude.{ℕ, ◌≤◌, ◌<◌, ◌≡◌, List, Bool, true, false, eqb, Result, Ok, Err}
+use Rattle.rules.specs.Numbers.{ACCEPTED}
 use Rattle.rules.specs.Events.{FAULT}
 use Rattle.frames.specs.Modes.{HEADER-SECTION-DUE, IN-SETTINGS}
 use Rattle.frames.specs.declared.Cells.{Cells}
@@ -7,6 +8,7 @@ use Rattle.frames.specs.declared.Answer.{Answer}
 use Rattle.frames.specs.Answers.{Sane}
 use Rattle.frames.specs.Fed.{Fed}
 use Rattle.tried_c.specs.declared.feeds.Report.{Report}
+use Rattle.tried_c.specs.declared.feeds.Given.{Given}
 
 -- ---- one feed
 
@@ -33,3 +35,9 @@ pub record Reported (a : Cells) (s : List ℕ) (allow : ℕ) (r : Report) : Type
   pub unsound : (Sane a → ⊥) → r ≡ refused 10 a
   pub waits : Sane a → IsDue a → r ≡ refused 4 a
   pub fed : Sane a → (IsDue a → ⊥) → (f : Answer) × Fed a s allow f × (r ≡ report_of a f)
+
+-- ---- a section given: accepted, and where the stream goes on; or the number that refuses it, and the stream as it was
+
+abbrev pub given_from : Cells → Result Cells ℕ → Given
+given_from a (Ok c) = record { number = ACCEPTED; cells = c }
+given_from a (Err n) = record { number = n; cells = a }

@@ -5,13 +5,12 @@ ghost use Rattle.record.specs.Sound.{Decides};
 ghost use Rattle.requests.specs.Taken.{given_of};
 ghost use Rattle.oneway.specs.Stands.{OneSound};
 ghost use Rattle.control.specs.Judged.{judged_of};
-ghost use Rattle.tried_c.specs.StreamNumbers.{refused, report_of, Reported};
+ghost use Rattle.tried_c.specs.StreamNumbers.{refused, report_of, Reported, given_from};
 ghost use Rattle.tried_c.specs.OneWayNumbers.{way_refused, way_report_of, WayReported};
 
 use control::{Kept, Verdict};
 use frames::{Answer, Cells};
 use oneway::{OneAnswer, OneWay, Seen};
-use requests::given::Given;
 
 // number 0: accepted, 4: a section is due, 10: no stream is there, else the code. The rest as `frames::Answer` has it.
 #[repr(C)]
@@ -82,11 +81,25 @@ pub extern "C" fn eist_feed(at: Cells, piece: &[u8], allow: u64) -> Report
     }
 }
 
+// The number, and where the stream is then.
+#[repr(C)]
+#[derive(Clone, Copy)]
+pub struct Given {
+    pub number: u64,
+    pub cells: Cells,
+}
+
 #[unsafe(no_mangle)]
 pub extern "C" fn eist_give(at: Cells, block: &[u8]) -> Given
-    ensures { result ≡ given_of at block.now }
+    ensures { result ≡ given_from at (given_of at block.now) }
 {
-    requests::given::give(at, block)
+    match requests::given::give(at, block) {
+        Ok(cells) => Given {
+            number: rules::ACCEPTED,
+            cells,
+        },
+        Err(number) => Given { number, cells: at },
+    }
 }
 
 // 0: whole, 4: a section is due, else the code.

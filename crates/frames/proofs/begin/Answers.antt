@@ -1,8 +1,9 @@
+use native.Mathlib.Omega.{arith}
 use Rattle.frames.specs.Begun.{begin_skip, begin_fresh}
 use Rattle.frames.proofs.begin.Goals as goal
 
-pub returns-then-c-eq-IN_SKIPPED : goal.returns-then-c-eq-IN_SKIPPED
-returns-then-c-eq-IN_SKIPPED c = let a = c in begin_skip a.args.c a.args.s.now a.args.allow a.requires.0 c.if-c-eq-IN_SKIPPED.true
+pub returns-in-2 : goal.returns-in-2
+returns-in-2 c = let a = c in rw c.skipping.ensures (begin_skip a.args.c a.args.s.now a.args.allow a.requires.0 c.in-2.is)
 
-pub returns-then-c-eq0 : goal.returns-then-c-eq0
-returns-then-c-eq0 c = let a = c in begin_fresh a.args.c a.args.s.now a.args.allow a.requires.0 c.if-c-eq-IN_TYPE.true c.if-c-eq0.true
+pub returns-in-0 : goal.returns-in-0
+returns-in-0 c = let a = c in rw c.skipping-in-0.ensures (begin_fresh a.args.c a.args.s.now a.args.allow a.requires.0 (omega arith) (omega arith))

@@ -1,57 +1,31 @@
 use native.Mathlib.Omega.{arith}
-use Prim.Native.Nat.{zero-le}
-use Rattle.varint.specs.Whole.{ended_whole}
+use mathlib.Core.Path.{◌≡◌}
+use Rattle.frames.specs.Modes.{USE-CONTENT}
+use Rattle.frames.specs.Both.{rule}
+use Rattle.frames.specs.Uses.{place_of, number_of}
+use Rattle.frames.specs.Wants.{ruled_back}
 use Rattle.frames.specs.Begun.{numbers_more}
-use Rattle.frames.specs.Fed.{fed_content, unsaid, data_law, fed-data}
+use Rattle.frames.specs.Fed.{fed_content, data_law, fed-data}
 use Rattle.frames.proofs.brisk.Goals as goal
+use Rattle.frames.proofs.brisk.Goals.{In-Ok-Content}
 
-pub handed-requires : goal.handed-requires
-handed-requires c = (zero-le, c.requires.small, (c.requires.sums, c.requires.stateds), (omega arith, omega arith, (λ e. omega arith), (λ e. omega arith)), λ e. c.requires.some (omega (arith, c.if-c-eq-IN_CONTENT.true)) (λ x. omega (arith, x, c.if-c-eq-IN_CONTENT.true)) (λ x. omega (arith, x, c.if-c-eq-IN_CONTENT.true)))
+-- the table gives content
+known : (c : In-Ok-Content) → let b = c.args.c in USE-CONTENT ≡ number_of (rule (place_of b.phase b.has b.stated b.sum) c.in-Some.h.ftype c.in-Some.h.len)
+known c = let b = c.args.c in let p = c.place.ensures in ruled_back b.phase b.has b.stated b.sum _ _ p.phase p.stated p.sum (rw c.in-Ok-Content.field-0-is at c.in-Ok-Content.ensures)
 
 pub returns-then-c-eq-IN_CONTENT : goal.returns-then-c-eq-IN_CONTENT
 returns-then-c-eq-IN_CONTENT c = let a = c.args in λ said. fed_content a.c a.s.now a.allow c.requires c.if-c-eq-IN_CONTENT.true c.handed.ensures
 
-pub returns-then-c-ne-IN_TYPE : goal.returns-then-c-ne-IN_TYPE
-returns-then-c-ne-IN_TYPE c = let a = c.args in unsaid a.c a.s.now a.allow c.quiet.ensures
-
-pub returns-then-c-ne0 : goal.returns-then-c-ne0
-returns-then-c-ne0 c = let a = c.args in unsaid a.c a.s.now a.allow c.quiet-then-c-ne0.ensures
-
-pub returns-then-allow-eq0 : goal.returns-then-allow-eq0
-returns-then-allow-eq0 c = let a = c.args in unsaid a.c a.s.now a.allow c.quiet-then-allow-eq0.ensures
-
-pub returns-then-s-eq0 : goal.returns-then-s-eq0
-returns-then-s-eq0 c = let a = c.args in unsaid a.c a.s.now a.allow c.quiet-then-s-eq0.ensures
-
-pub returns-then-s-ne0 : goal.returns-then-s-ne0
-returns-then-s-ne0 c = let a = c.args in unsaid a.c a.s.now a.allow c.quiet-then-s-ne0.ensures
-
-pub returns-in_default : goal.returns-in_default
-returns-in_default c = let a = c.args in unsaid a.c a.s.now a.allow c.quiet-in_default.ensures
-
-pub returns-in_default-ends : goal.returns-in_default-ends
-returns-in_default-ends c = let a = c.args in unsaid a.c a.s.now a.allow c.quiet-in_default-ends.ensures
-
-pub value-l-requires : goal.value-l-requires
-value-l-requires c = ended_whole c.args.s.now _ c.in-Some-ends.ensures
-
-pub returns-then-l-eq0 : goal.returns-then-l-eq0
-returns-then-l-eq0 c = let a = c.args in unsaid a.c a.s.now a.allow c.quiet-then-l-eq0.ensures
-
-pub value-requires : goal.value-requires
-value-requires c = ended_whole c.args.s.now 0 c.in-Some.ensures
-
-pub ruled-k-requires : goal.ruled-k-requires
-ruled-k-requires c = (c.requires.sums, c.value-l.ensures.small)
-
 pub more_sum-requires : goal.more_sum-requires
-more_sum-requires c = let a = c.args in (data_law a.c a.s.now a.allow c.requires c.if-c-ne-IN_TYPE.false c.if-c-ne0.false c.if-allow-eq0.false c.in-Some.ensures c.in-Some-ends.ensures c.value-l.ensures c.value.ensures c.ruled-k.ensures c.if-k-eq-USE_CONTENT.true).1
+more_sum-requires c = let a = c.args in (data_law a.c a.s.now a.allow c.requires c.if-c-eq-IN_TYPE.true c.if-c-eq0.true c.if-allow-ne0.true c.in-Some.ensures (known (goal.at.more_sum-requires c).In-Ok-Content)).1
 
-pub handed-requires-then-k-eq-USE_CONTENT : goal.handed-requires-then-k-eq-USE_CONTENT
-handed-requires-then-k-eq-USE_CONTENT c = let a = c.args in let d = data_law a.c a.s.now a.allow c.requires c.if-c-ne-IN_TYPE.false c.if-c-ne0.false c.if-allow-eq0.false c.in-Some.ensures c.in-Some-ends.ensures c.value-l.ensures c.value.ensures c.ruled-k.ensures c.if-k-eq-USE_CONTENT.true in (c.in-Some-ends.ensures.within, c.value-l.ensures.small, numbers_more _ _ _ c.more_sum.ensures d.1 c.requires.stateds, (omega arith, omega arith, (λ e. omega arith), (λ e. omega arith)), λ e. omega (arith, c.if-l-eq0.false))
+pub handed-requires-2 : goal.handed-requires-2
+handed-requires-2 c =
+    let a = c.args in
+    let w = c.in-Some.ensures in
+    let d = data_law a.c a.s.now a.allow c.requires c.if-c-eq-IN_TYPE.true c.if-c-eq0.true c.if-allow-ne0.true w (known (goal.at.handed-requires-2 c).In-Ok-Content) in
+    (w.within, w.small, numbers_more _ _ _ c.more_sum.ensures d.1 c.requires.stateds, (omega arith, omega arith, (λ e. omega arith), (λ e. omega arith)), λ e. omega (arith, c.if-h-ne0.true))
 
-pub returns-then-k-eq-USE_CONTENT : goal.returns-then-k-eq-USE_CONTENT
-returns-then-k-eq-USE_CONTENT c = let a = c.args in λ said. fed-data a.c a.s.now a.allow c.requires c.if-c-ne-IN_TYPE.false c.if-c-ne0.false c.if-allow-eq0.false c.in-Some.ensures c.in-Some-ends.ensures c.value-l.ensures c.value.ensures c.ruled-k.ensures c.if-k-eq-USE_CONTENT.true c.if-l-eq0.false c.more_sum.ensures c.handed-then-k-eq-USE_CONTENT.ensures
-
-pub returns-else-k-eq-USE_CONTENT : goal.returns-else-k-eq-USE_CONTENT
-returns-else-k-eq-USE_CONTENT c = let a = c.args in unsaid a.c a.s.now a.allow c.quiet-else-k-eq-USE_CONTENT.ensures
+pub returns : goal.returns
+returns c = let a = c.args in
+    λ said. fed-data a.c a.s.now a.allow c.requires c.if-c-eq-IN_TYPE.true c.if-c-eq0.true c.if-allow-ne0.true c.in-Some.ensures (known (goal.at.returns c).In-Ok-Content) c.if-h-ne0.true c.more_sum.ensures c.handed-2.ensures

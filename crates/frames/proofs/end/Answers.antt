@@ -1,19 +1,23 @@
 use native.Mathlib.Omega.{arith}
-use Rattle.rules.specs.Reading.{header_section, trailers}
+use mathlib.Core.Path.{◌≡◌}
+use Rattle.frames.specs.Modes.{IN-TYPE, HEADER-SECTION-DUE, TRAILERS-DUE}
 use Rattle.frames.specs.End.{end_due, end_inside, end_between}
 use Rattle.frames.proofs.end.Goals as goal
+use Rattle.frames.proofs.end.Goals.{in_default-via-in-0+else-c-eq0, in_default-via-in_default+then-c-lt6, in_default-via-in_default+else-c-lt6+else-c-lt8}
 
-pub returns-then-c-eq-HEADER_SECTION_DUE : goal.returns-then-c-eq-HEADER_SECTION_DUE
-returns-then-c-eq-HEADER_SECTION_DUE c = end_due c.args.c header_section c.if-c-eq-HEADER_SECTION_DUE.true
+pub returns-in-0 : goal.returns-in-0
+returns-in-0 c = end_between c.args.c c.in-0.is c.if-c-eq0.true c.tallied.ensures
 
-pub returns-then-c-eq-TRAILERS_DUE : goal.returns-then-c-eq-TRAILERS_DUE
-returns-then-c-eq-TRAILERS_DUE c = end_due c.args.c trailers c.if-c-eq-TRAILERS_DUE.true
+pub returns-in-6 : goal.returns-in-6
+returns-in-6 c = end_due c.args.c (omega arith) (omega arith)
 
-pub returns-then-c-gt-IN_TYPE : goal.returns-then-c-gt-IN_TYPE
-returns-then-c-gt-IN_TYPE c = end_inside c.args.c (λ e f. absurd (omega (arith, e, c.if-c-gt-IN_TYPE.true))) c.if-c-eq-HEADER_SECTION_DUE.false c.if-c-eq-TRAILERS_DUE.false c.cut_off.ensures
-
-pub returns-then-c-gt0 : goal.returns-then-c-gt0
-returns-then-c-gt0 c = end_inside c.args.c (λ e f. absurd (omega (arith, f, c.if-c-gt0.true))) c.if-c-eq-HEADER_SECTION_DUE.false c.if-c-eq-TRAILERS_DUE.false c.cut_off-then-c-gt0.ensures
-
-pub returns-else-c-gt0 : goal.returns-else-c-gt0
-returns-else-c-gt0 c = end_between c.args.c (omega (arith, c.if-c-gt-IN_TYPE.false)) (omega (arith, c.if-c-gt0.false)) c.tallied.ensures
+pub returns-in_default : goal.returns-in_default
+returns-in_default c =
+    let a = c.args.c in
+    let inside : (a.mode ≡ IN-TYPE → a.due ≡ 0 → ⊥) × (a.mode ≡ HEADER-SECTION-DUE → ⊥) × (a.mode ≡ TRAILERS-DUE → ⊥) =
+    elim c.in_default.branch [
+      | in_default-via-in-0+else-c-eq0 w ↦ ((λ e f. omega arith), (λ e. omega arith), λ e. omega arith)
+      | in_default-via-in_default+then-c-lt6 w ↦ ((λ e f. omega arith), (λ e. omega arith), λ e. omega arith)
+      | in_default-via-in_default+else-c-lt6+else-c-lt8 w ↦ ((λ e f. omega arith), (λ e. omega arith), λ e. omega arith)
+    ] in
+    end_inside a inside.0 inside.1 inside.2 c.cut_off.ensures

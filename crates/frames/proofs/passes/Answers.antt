@@ -1,11 +1,15 @@
+use native.Mathlib.Omega.{arith}
+use mathlib.Core.Path.{ap}
+use Rattle.std.proofs.lemmas.Grind.{common_steps}
 use Rattle.frames.specs.Uses.{passes_skip, passes_data, passes_other}
+use Rattle.frames.specs.Wants.{use_in}
 use Rattle.frames.proofs.passes.Goals as goal
 
-pub returns-then-number-eq-USE_SKIPPED : goal.returns-then-number-eq-USE_SKIPPED
-returns-then-number-eq-USE_SKIPPED c = passes_skip _ _ _ c.if-number-eq-USE_SKIPPED.true
+pub returns-in-Skipped : goal.returns-in-Skipped
+returns-in-Skipped c = passes_skip _ _ _ (ap use_in c.in-Skipped.is)
 
-pub returns-then-number-eq-USE_CONTENT : goal.returns-then-number-eq-USE_CONTENT
-returns-then-number-eq-USE_CONTENT c = passes_data _ _ _ c.if-number-eq-USE_CONTENT.true
+pub returns-in-Content : goal.returns-in-Content
+returns-in-Content c = passes_data _ _ _ (ap use_in c.in-Content.is)
 
-pub returns-else-number-eq-USE_CONTENT : goal.returns-else-number-eq-USE_CONTENT
-returns-else-number-eq-USE_CONTENT c = passes_other _ _ _ c.if-number-eq-USE_SKIPPED.false c.if-number-eq-USE_CONTENT.false
+pub returns-in_default : goal.returns-in_default
+returns-in_default c = passes_other _ _ _ (λ e. grind (arith, common_steps)) (λ e. grind (arith, common_steps))

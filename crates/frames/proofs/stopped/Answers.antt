@@ -1,37 +1,45 @@
 use native.Mathlib.Omega.{arith}
-use Rattle.frames.specs.Stopped.{stop_fault, stop_out, stop_skip, stop_content, stop_section, stop_kept}
+use mathlib.Core.Path.{◌≡◌, ap}
+use Rattle.std.proofs.lemmas.Grind.{common_steps}
+use Rattle.rules.specs.Named.{code_of}
+use Rattle.meaning.specs.NumberLaws.{code_high}
+use Rattle.frames.specs.Modes.{USE-SKIPPED, USE-CONTENT}
+use Rattle.frames.specs.Wants.{use_in, wanted_in}
+use Rattle.frames.specs.Stopped.{stop_fault, stop_out, stop_skip, stop_content, stop_handed}
 use Rattle.frames.specs.Begun.{stop_cut, numbers_more}
 use Rattle.frames.proofs.stopped.Goals as goal
 
+pub cut_header-requires : goal.cut_header-requires
+cut_header-requires c = let a = c in (a.requires.0, (a.requires.2.sums, a.requires.2.stateds), a.requires.3.short (ap wanted_in c.in-None.is) (omega (arith, c.if-h-eq0.false)))
+
+pub returns-then-h-eq0 : goal.returns-then-h-eq0
+returns-then-h-eq0 c = let a = c in rw c.quiet.ensures (stop_out a.args.c a.args.s.now a.args.h.at a.args.heads a.args.h.left a.args.h.rest a.requires.0 (a.requires.2.sums, a.requires.2.stateds) a.requires.2 _ (ap wanted_in c.in-None.is) c.if-h-eq0.true c.in_mode.ensures)
+
+pub returns-else-h-eq0 : goal.returns-else-h-eq0
+returns-else-h-eq0 c = let a = c in stop_cut a.args.c a.args.s.now a.args.h.at a.args.heads _ a.args.h.left a.args.h.rest (ap wanted_in c.in-None.is) c.if-h-eq0.false c.cut_header.ensures
+
 pub more_sum-requires : goal.more_sum-requires
-more_sum-requires c = omega (arith, (c.requires.3.lawful.adds c.if-number-eq-USE_CONTENT.true).1)
+more_sum-requires c = omega (arith, (c.requires.3.lawful.adds (grind (arith, common_steps))).1)
 
 pub handed-requires : goal.handed-requires
-handed-requires c = let a = c in (a.requires.0, a.requires.1, numbers_more _ _ _ c.more_sum.ensures (omega (arith, (a.requires.3.lawful.adds c.if-number-eq-USE_CONTENT.true).1)) a.requires.2.stateds, (omega arith, omega arith, λ e. omega arith, λ e. omega arith), λ e. a.requires.3.some c.if-number-eq-USE_CONTENT.true)
+handed-requires c = let a = c in let e : wanted_in a.args.h.wanted ≡ USE-CONTENT = grind (arith, common_steps) in
+    (a.requires.0, a.requires.1, numbers_more _ _ _ c.more_sum.ensures (omega (arith, (a.requires.3.lawful.adds e).1)) a.requires.2.stateds, (omega arith, omega arith, λ e. omega arith, λ e. omega arith), λ x. a.requires.3.some e)
 
-pub overflow_sub-len : goal.overflow_sub-len
-overflow_sub-len c = omega (arith, c.requires.3.skips c.if-number-eq-USE_SKIPPED.true)
+pub overflow_sub-h : goal.overflow_sub-h
+overflow_sub-h c = let e : wanted_in c.args.h.wanted ≡ USE-SKIPPED = grind (arith, common_steps) in omega (arith, c.requires.3.skips e)
 
-pub cut_header-requires : goal.cut_header-requires
-cut_header-requires c = let a = c in (a.requires.0, (a.requires.2.sums, a.requires.2.stateds), a.requires.3.short c.if-number-eq-NO_USE.true (omega (arith, c.if-rest-eq0.false)))
+pub returns-in-Some-Err : goal.returns-in-Some-Err
+returns-in-Some-Err c = let a = c in let e : wanted_in a.args.h.wanted ≡ c.number.result = grind (arith, common_steps, c.number.ensures) in
+    rw (c.quiet-in-Some-Err.ensures, e) (stop_fault a.args.c a.args.s.now a.args.h.at a.args.heads a.args.h.left a.args.h.rest a.requires.0 (a.requires.2.sums, a.requires.2.stateds) a.requires.2 c.number.result (rw c.number.ensures (let h = code_high (code_of c.in-Some-Err.code) in omega arith)) (λ z. let h = code_high (code_of c.in-Some-Err.code) in omega (arith, c.number.ensures)) (rw e at a.requires.3.lawful))
 
-pub returns-then-number-eq-USE_CONTENT : goal.returns-then-number-eq-USE_CONTENT
-returns-then-number-eq-USE_CONTENT c = let a = c in stop_content a.args.c a.args.s.now a.args.to a.args.heads a.args.len a.args.rest a.requires.0 (a.requires.2.sums, a.requires.2.stateds) a.requires.2 a.args.number _ c.if-number-eq-USE_CONTENT.true (a.requires.3.some c.if-number-eq-USE_CONTENT.true) (a.requires.3.lawful.adds c.if-number-eq-USE_CONTENT.true).0 c.more_sum.ensures c.handed.ensures.0
+pub returns-in-Some-Ok-Content : goal.returns-in-Some-Ok-Content
+returns-in-Some-Ok-Content c = let a = c in let e : wanted_in a.args.h.wanted ≡ USE-CONTENT = grind (arith, common_steps) in
+    stop_content a.args.c a.args.s.now a.args.h.at a.args.heads a.args.h.left a.args.h.rest a.requires.0 (a.requires.2.sums, a.requires.2.stateds) a.requires.2 _ _ e (a.requires.3.some e) (a.requires.3.lawful.adds e).0 c.more_sum.ensures c.handed.ensures.0
 
-pub returns-then-number-eq-USE_SKIPPED : goal.returns-then-number-eq-USE_SKIPPED
-returns-then-number-eq-USE_SKIPPED c = let a = c in rw c.quiet.ensures (stop_skip a.args.c a.args.s.now a.args.to a.args.heads a.args.len a.args.rest a.requires.0 (a.requires.2.sums, a.requires.2.stateds) a.requires.2 a.args.number c.if-number-eq-USE_SKIPPED.true (a.requires.3.skips c.if-number-eq-USE_SKIPPED.true) a.requires.1 c.in_mode.ensures)
+pub returns-in-Some-Ok-Skipped : goal.returns-in-Some-Ok-Skipped
+returns-in-Some-Ok-Skipped c = let a = c in let e : wanted_in a.args.h.wanted ≡ USE-SKIPPED = grind (arith, common_steps) in
+    rw c.quiet-in-Some-Ok-Skipped.ensures (stop_skip a.args.c a.args.s.now a.args.h.at a.args.heads a.args.h.left a.args.h.rest a.requires.0 (a.requires.2.sums, a.requires.2.stateds) a.requires.2 _ e (a.requires.3.skips e) a.requires.1 c.in_mode-in-Some-Ok-Skipped.ensures)
 
-pub returns-then-rest-eq0 : goal.returns-then-rest-eq0
-returns-then-rest-eq0 c = let a = c in rw c.quiet-then-rest-eq0.ensures (stop_out a.args.c a.args.s.now a.args.to a.args.heads a.args.len a.args.rest a.requires.0 (a.requires.2.sums, a.requires.2.stateds) a.requires.2 a.args.number c.if-number-eq-NO_USE.true c.if-rest-eq0.true c.in_mode-then-rest-eq0.ensures)
-
-pub returns-else-rest-eq0 : goal.returns-else-rest-eq0
-returns-else-rest-eq0 c = let a = c in stop_cut a.args.c a.args.s.now a.args.to a.args.heads a.args.number a.args.len a.args.rest c.if-number-eq-NO_USE.true c.if-rest-eq0.false c.cut_header.ensures
-
-pub returns-then-number-lt-USE_SETTINGS : goal.returns-then-number-lt-USE_SETTINGS
-returns-then-number-lt-USE_SETTINGS c = let a = c in stop_section a.args.c a.args.s.now a.args.to a.args.heads a.args.len a.args.rest a.requires.0 (a.requires.2.sums, a.requires.2.stateds) a.requires.2 a.args.number (omega (arith, c.if-number-eq-USE_CONTENT.false, c.if-number-eq-USE_SKIPPED.false)) c.if-number-lt-USE_SETTINGS.true c.handed-then-number-lt-USE_SETTINGS.ensures.0
-
-pub returns-then-number-le-USE_CANCEL_PUSH : goal.returns-then-number-le-USE_CANCEL_PUSH
-returns-then-number-le-USE_CANCEL_PUSH c = let a = c in stop_kept a.args.c a.args.s.now a.args.to a.args.heads a.args.len a.args.rest a.requires.0 (a.requires.2.sums, a.requires.2.stateds) a.requires.2 a.args.number c.if-number-lt-USE_SETTINGS.false c.if-number-le-USE_CANCEL_PUSH.true c.handed-then-number-le-USE_CANCEL_PUSH.ensures.0
-
-pub returns-else-number-le-USE_CANCEL_PUSH : goal.returns-else-number-le-USE_CANCEL_PUSH
-returns-else-number-le-USE_CANCEL_PUSH c = let a = c in stop_fault a.args.c a.args.s.now a.args.to a.args.heads a.args.len a.args.rest a.requires.0 (a.requires.2.sums, a.requires.2.stateds) a.requires.2 a.args.number c.if-number-le-USE_CANCEL_PUSH.false c.if-number-eq-NO_USE.false a.requires.3.lawful
+pub returns-in-Some-Ok : goal.returns-in-Some-Ok
+returns-in-Some-Ok c = let a = c in let e : wanted_in a.args.h.wanted ≡ use_in c.in-Some-Ok.wanted = grind (arith, common_steps) in
+    rw e (stop_handed a.args.c a.args.s.now a.args.h.at a.args.heads a.args.h.left a.args.h.rest a.requires.0 (a.requires.2.sums, a.requires.2.stateds) a.requires.2 c.in-Some-Ok.wanted (λ z. grind (arith, common_steps)) (λ z. grind (arith, common_steps)) (rw c.mode.ensures at c.handed-in-Some-Ok.ensures.0))

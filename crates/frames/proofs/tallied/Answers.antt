@@ -1,18 +1,17 @@
 use native.Mathlib.Omega.{arith}
+use Rattle.std.proofs.Common.{⊎_elim}
 use Rattle.frames.specs.End.{tally_control, tally_opening, tally_free, tally_equal, tally_unequal}
 use Rattle.frames.proofs.tallied.Goals as goal
 
-pub returns-then-phase-gt-TRAILED : goal.returns-then-phase-gt-TRAILED
-returns-then-phase-gt-TRAILED c = let a = c.args in tally_control a.has a.stated a.sum a.phase c.if-phase-gt-TRAILED.true
+pub returns-in-0 : goal.returns-in-0
+returns-in-0 c = let a = c.args.c in tally_opening a.has a.stated a.sum a.phase c.in-0.is
 
-pub returns-then-phase-eq-OPENING : goal.returns-then-phase-eq-OPENING
-returns-then-phase-eq-OPENING c = let a = c.args in tally_opening a.has a.stated a.sum a.phase c.if-phase-eq-OPENING.true
+pub returns-then-c : goal.returns-then-c
+returns-then-c c = let a = c.args.c in
+    ⊎_elim (λ z. tally_free a.has a.stated a.sum a.phase ((λ x. omega arith), λ x. omega arith) z) (λ e. tally_equal a.has a.stated a.sum e.0 a.phase ((λ x. omega arith), λ x. omega arith) e.1) c.if-c.either
 
-pub returns-then-has-eq0 : goal.returns-then-has-eq0
-returns-then-has-eq0 c = let a = c.args in tally_free a.has a.stated a.sum a.phase (λ x. absurd (omega (arith, x, c.if-phase-gt-TRAILED.false)), c.if-phase-eq-OPENING.false) c.if-has-eq0.true
+pub returns-else-c : goal.returns-else-c
+returns-else-c c = let a = c.args.c in tally_unequal a.has a.stated a.sum c.if-c.false.0 a.phase ((λ x. omega arith), λ x. omega arith) c.if-c.false.1
 
-pub returns-then-sum-stated : goal.returns-then-sum-stated
-returns-then-sum-stated c = let a = c.args in tally_equal a.has a.stated a.sum c.if-has-eq0.false a.phase (λ x. absurd (omega (arith, x, c.if-phase-gt-TRAILED.false)), c.if-phase-eq-OPENING.false) (omega (arith, c.if-sum-stated.true))
-
-pub returns-else-sum-stated : goal.returns-else-sum-stated
-returns-else-sum-stated c = let a = c.args in tally_unequal a.has a.stated a.sum c.if-has-eq0.false a.phase (λ x. absurd (omega (arith, x, c.if-phase-gt-TRAILED.false)), c.if-phase-eq-OPENING.false) c.if-sum-stated.false
+pub returns-in_default : goal.returns-in_default
+returns-in_default c = let a = c.args.c in tally_control a.has a.stated a.sum a.phase (omega arith)

@@ -2,7 +2,7 @@
 use mathlib.Core.Path.{◌≡◌, sym, ap, ◌∙◌}
 use Rattle.std.specs.Prelude.{Err}
 use Rattle.section.specs.Answer.{header_answer}
-use Rattle.section.specs.Judging.{walked_all, header_unread, header_refused, header_sound}
+use Rattle.section.specs.Judging.{walked_all, header_unread, header_refused, method_is, header_sound}
 use Rattle.section.proofs.header_section.Goals as goal
 use native.Mathlib.Omega.{arith}
 
@@ -17,7 +17,12 @@ header_fault-requires c = (walked_all _ (sym c.in_ok-facts.was ∙ c.walk_lines.
 pub returns-in-Some : goal.returns-in-Some
 returns-in-Some c = header_refused _ _ (sym c.in-Some.is ∙ c.header_fault.ensures) ∙ sym (ap header_answer (walked_all _ (sym c.in_ok-facts.was ∙ c.walk_lines.ensures)).0)
 
+pub unwrap-method-requires : goal.unwrap-method-requires
+unwrap-method-requires c =
+    let w = walked_all _ (sym c.in_ok-facts.was ∙ c.walk_lines.ensures) in
+    method_is _ (sym c.in-None.is ∙ c.header_fault.ensures) _ w.1
+
 pub returns-in-None : goal.returns-in-None
 returns-in-None c =
     let w = walked_all _ (sym c.in_ok-facts.was ∙ c.walk_lines.ensures) in
-    header_sound _ (sym c.in-None.is ∙ c.header_fault.ensures) _ w.1 c.stated_length.ensures ∙ sym (ap header_answer w.0)
+    header_sound _ (sym c.in-None.is ∙ c.header_fault.ensures) _ w.1 _ c.unwrap-method.ensures ∙ sym (ap header_answer w.0)

@@ -8,7 +8,7 @@ use Rattle.section.specs.Walking.{starts, ended, flawed, fits, goes}
 use Rattle.section.proofs.walk_lines.Goals as goal
 
 pub loop-line-init : goal.loop-line-init
-loop-line-init c = starts _ _ c.nothing-facts.ensures
+loop-line-init c = starts _ _ c.none-facts.ensures
 
 pub returns-in_err-line : goal.returns-in_err-line
 returns-in_err-line c =
