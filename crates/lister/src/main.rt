@@ -2,35 +2,20 @@
 // says.
 #![tactic(auto)]
 
-use listing::Line;
+use listing::Text;
 use std::io;
 use std::io::Read;
 
-fn print(rt: &impl Print, line: Line) -> io::Result<()> {
-    let mut room = [0u8; 2048];
-    let n = listing::text(line, &mut room);
-    rt.write_all(&room[..n])
-}
-
 fn list(rt: &impl Print, input: &[u8]) -> io::Result<()> {
-    let mut place = listing::start();
-    loop {
+    let mut text = Text::new();
+    let mut next = Some(listing::start());
+    while let Some(place) = next {
         let line = listing::next(input, place);
-        print(rt, line)?;
-        match line {
-            Line::Heading(next) => place = next,
-            Line::Frame {
-                at: _,
-                ftype: _,
-                len: _,
-                usage: _,
-                next,
-            } => place = next,
-            Line::Whole(_) => return Ok(()),
-            Line::Refused { bytes: _, code: _ } => return Ok(()),
-            Line::TooLong => return Ok(()),
-        }
+        line.write(&mut text);
+        rt.write_all(text.as_bytes())?;
+        next = line.next();
     }
+    Ok(())
 }
 
 fn run(rt: &(impl Print + Eprint), reader: &mut impl Read, room: &mut [u8]) -> io::Result<()> {

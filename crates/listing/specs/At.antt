@@ -16,8 +16,10 @@ use Rattle.rules.specs.Request.{end_of_ended, code_of}
 use Rattle.meaning.specs.FrameLaws.{head, cut_type, cut_length, cut_payload, a_frame, view_is, frames_nil}
 use Rattle.varint.specs.Whole.{Ended, Valued, ended_cut, ended_got}
 use Rattle.listing.specs.Listing.{limit}
-use Rattle.listing.specs.Lines.{place, message_of, ruled_line, end_of, end_line, line_in, line_from, line_at}
+use Rattle.listing.specs.Lines.{phase_number, place, message_of, ruled_line, end_of, end_line, line_in, line_from, line_at}
 use Rattle.listing.specs.declared.Place.{Place}
+use Rattle.std.specs.Prelude.{Some}
+use Rattle.listing.specs.declared.Phase.TheVariants.{Opening}
 use Rattle.listing.specs.declared.Line.{Line}
 use Rattle.listing.specs.declared.Line.TheVariants.{Heading, Whole, Refused, TooLong}
 use Rattle.frames.specs.Modes.{OPENING, TRAILED}
@@ -58,14 +60,14 @@ module _ (s : List ℕ) (p : Place) where
   line_too_long h = let e = lt-ltb 65_536 (length s) h in rw (e, line_at)
 
   module _ (short : length s ≤ 65_536) where
-    pub line_heading : TRAILED < p.phase → Heading (place p.at 0 p.sum) ≡ line_at s p
+    pub line_heading : TRAILED < phase_number p.phase → Heading (place p.at (Some Opening) p.sum) ≡ line_at s p
     unfolding line_at limit
-    line_heading h = let e = le-ltb 65_536 (length s) short in let f = lt-ltb 2 p.phase h in rw (e, line_at, f)
+    line_heading h = let e = le-ltb 65_536 (length s) short in let f = lt-ltb 2 (phase_number p.phase) h in rw (e, line_at, f)
 
-    module _ (on : p.phase ≤ TRAILED) where
+    module _ (on : phase_number p.phase ≤ TRAILED) where
       pub opened : line_at s p ≡ line_from s p
       unfolding line_at limit
-      opened = let e = le-ltb 65_536 (length s) short in let f = le-ltb 2 p.phase on in rw (e, line_at, f)
+      opened = let e = le-ltb 65_536 (length s) short in let f = le-ltb 2 (phase_number p.phase) on in rw (e, line_at, f)
 
       pub inside : p.at ≤ length s → line_at s p ≡ line_in (length s) p (frames_from p.at (drop p.at s))
       unfolding line_from
@@ -116,9 +118,9 @@ module _ (total : ℕ) (p : Place) where
   unfolding end_of end_of_ended ends message_of code_of
   at_opening phase sum e = rw e
 
-  pub end_opening : p.phase ≡ OPENING → Refused total REQUEST-INCOMPLETE ≡ end_line total p
+  pub end_opening : phase_number p.phase ≡ OPENING → Refused total REQUEST-INCOMPLETE ≡ end_line total p
   unfolding end_line
-  end_opening e = at_opening p.phase p.sum e
+  end_opening e = at_opening (phase_number p.phase) p.sum e
 
   behind : (phase sum : ℕ) → (phase ≡ OPENING → ⊥) → Whole total ≡ end_of total (end_of_ended (ends (message_of phase sum)))
   unfolding end_of end_of_ended ends message_of tally
@@ -126,6 +128,6 @@ module _ (total : ℕ) (p : Place) where
   behind (suc zero) sum w = refl
   behind (suc (suc k)) sum w = refl
 
-  pub end_behind : (p.phase ≡ OPENING → ⊥) → Whole total ≡ end_line total p
+  pub end_behind : (phase_number p.phase ≡ OPENING → ⊥) → Whole total ≡ end_line total p
   unfolding end_line
-  end_behind w = behind p.phase p.sum w
+  end_behind w = behind (phase_number p.phase) p.sum w

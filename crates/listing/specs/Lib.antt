@@ -2,8 +2,8 @@ pub mod Listing
 pub mod Lines
 pub mod Ruled
 pub mod At
-pub mod Lists
 pub mod Falls
 pub mod Text
 pub mod Put
+pub mod Grown
 pub mod Worked

@@ -1,5 +1,5 @@
 -- The line at a place, and the lines from there on. Assumes nothing.
-use Rattle.std.specs.Prelude.{ℕ, zero, suc, ◌+◌, List, [], ◌∷◌, true, false, ltb, length, drop}
+use Rattle.std.specs.Prelude.{Option, Some, None, ℕ, zero, suc, ◌+◌, List, [], ◌∷◌, true, false, ltb, length, drop}
 use Rattle.std.proofs.Math.Option.{none}
 use Rattle.rules.specs.Numbers.{code_number}
 use Rattle.rules.specs.Frames.{Header, Frames, Frames.none as no_more, in_header, in_payload, frame, frames_from}
@@ -8,6 +8,8 @@ use Rattle.rules.specs.Message.{Message, opening, body, trailed}
 use Rattle.rules.specs.Request.{rule}
 use Rattle.listing.specs.Listing.{Entry, heading, whole, refused, too_long, limit, stream}
 use Rattle.listing.specs.Listing as listing
+use Rattle.listing.specs.declared.Phase.{Phase}
+use Rattle.listing.specs.declared.Phase.TheVariants.{Opening, Body, Trailed}
 use Rattle.listing.specs.declared.Place.{Place}
 use Rattle.listing.specs.declared.Usage.{Usage}
 use Rattle.listing.specs.declared.Usage.TheVariants.{Skipped, Content, HeaderSection, Trailers}
@@ -16,11 +18,18 @@ use Rattle.listing.specs.declared.Line.TheVariants.{Heading, Frame, Whole, Refus
 
 -- ---- a place
 
-abbrev pub place : (at phase sum : ℕ) → Place
+abbrev pub place : (at : ℕ) → Option Phase → (sum : ℕ) → Place
 place at phase sum = record { at = at; phase = phase; sum = sum }
 
 abbrev pub first : Place
-first = place 0 3 0
+first = place 0 None 0
+
+-- in the frame table's numbers; 3 before the heading
+abbrev pub phase_number : Option Phase → ℕ
+phase_number None = 3
+phase_number (Some Opening) = 0
+phase_number (Some Body) = 1
+phase_number (Some Trailed) = 2
 
 -- where the message is
 unfoldable pub message_of : (phase sum : ℕ) → Message
@@ -32,8 +41,8 @@ message_of (suc (suc k)) sum = trailed none sum
 unfoldable pub after : Use → (to len : ℕ) → Place → Place
 after content to len p = place to p.phase (p.sum + len)
 after skipped to len p = place to p.phase p.sum
-after (section header_section) to len p = place to 1 0
-after (section trailers) to len p = place to 2 p.sum
+after (section header_section) to len p = place to (Some Body) 0
+after (section trailers) to len p = place to (Some Trailed) p.sum
 after (kept k) to len p = p
 
 -- (a request stream keeps no frame)
@@ -52,14 +61,14 @@ line_of p h (accept u q) = Frame h.at h.type h.len (usage_of u) (after u (h.from
 
 -- a header, by the rules' own ruling
 unfoldable pub ruled_line : Place → Header → Line
-ruled_line p h = line_of p h (rule (message_of p.phase p.sum) h.type h.len)
+ruled_line p h = line_of p h (rule (message_of (phase_number p.phase) p.sum) h.type h.len)
 
 unfoldable pub end_of : (total : ℕ) → End → Line
 end_of total complete = Whole total
 end_of total (lacking code) = Refused total (code_number code)
 
 unfoldable pub end_line : (total : ℕ) → Place → Line
-end_line total p = end_of total (stream.end (message_of p.phase p.sum))
+end_line total p = end_of total (stream.end (message_of (phase_number p.phase) p.sum))
 
 -- the first of the frames from here on
 unfoldable pub line_in : (total : ℕ) → Place → Frames → Line
@@ -75,7 +84,7 @@ line_from s p = elim (ltb (length s) p.at) [ true ↦ Refused (length s) (code_n
 unfoldable pub line_at : List ℕ → Place → Line
 line_at s p = elim (ltb limit (length s)) [
   | true ↦ TooLong
-  | false ↦ elim (ltb 2 p.phase) [ true ↦ Heading (place p.at 0 p.sum) | false ↦ line_from s p ]
+  | false ↦ elim (ltb 2 (phase_number p.phase)) [ true ↦ Heading (place p.at (Some Opening) p.sum) | false ↦ line_from s p ]
 ]
 
 -- ---- from line to line
@@ -93,6 +102,14 @@ entry_of (Frame at type len usage next) = listing.frame at type len (use_of usag
 entry_of (Whole total) = whole total
 entry_of (Refused bytes code) = refused bytes code
 entry_of TooLong = too_long
+
+-- where the listing goes on
+abbrev pub next_of : Line → Option Place
+next_of (Heading next) = Some next
+next_of (Frame at type len usage next) = Some next
+next_of (Whole total) = None
+next_of (Refused bytes code) = None
+next_of TooLong = None
 
 -- and what comes behind it: nothing behind a last line
 unfoldable pub behind : (Place → List Entry) → Line → List Entry

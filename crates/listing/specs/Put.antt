@@ -6,9 +6,8 @@ use Rattle.std.proofs.Math.Seq.{length-sets}
 use Rattle.rules.specs.Text.{ascii}
 use Rattle.rules.specs.Reading.{Use}
 use Rattle.listing.specs.Listing.{frame, whole, refused}
-use Rattle.listing.specs.Text.{digits, decimal, spaced, word, line_feed, text_of, texts_of, printed}
-use Rattle.listing.specs.Lines.{first, use_of, entry_of, lines_from}
-use Rattle.listing.specs.Lists.{lists}
+use Rattle.listing.specs.Text.{digits, decimal, spaced, word, line_feed, text_of}
+use Rattle.listing.specs.Lines.{use_of, entry_of}
 use Rattle.listing.specs.declared.Line.{Line}
 use Rattle.listing.specs.declared.Usage.{Usage}
 use Rattle.listing.specs.declared.Usage.TheVariants.{Skipped, Content, HeaderSection, Trailers}
@@ -123,28 +122,23 @@ pub put_spaced : {room x y : List ℕ} {to q r : ℕ} (n : ℕ) → Put room to 
 unfolding spaced
 put_spaced n a b = then_put a b
 
-pub put_frame : {room v w x y z : List ℕ} {a b c d r : ℕ} (at type len : ℕ) (u : Use) → Put room 0 (spaced at) v a → Put v a (spaced type) w b → Put w b (spaced len) x c
-    → Put x c (word u) y d → Put y d line_feed z r → Put room 0 (text_of (frame at type len u)) z r
+pub put_frame : {room v w x y z : List ℕ} {to a b c d r : ℕ} (at type len : ℕ) (u : Use) → Put room to (spaced at) v a → Put v a (spaced type) w b → Put w b (spaced len) x c
+    → Put x c (word u) y d → Put y d line_feed z r → Put room to (text_of (frame at type len u)) z r
 unfolding text_of
 put_frame at type len u p q s t e = then_put (then_put (then_put (then_put p q) s) t) e
 
-pub put_whole : {room x y z : List ℕ} {a b r : ℕ} (total : ℕ) → Put room 0 (ascii "end ") x a → Put x a (spaced total) y b → Put y b (ascii "whole" ++ line_feed) z r
-    → Put room 0 (text_of (whole total)) z r
+pub put_whole : {room x y z : List ℕ} {to a b r : ℕ} (total : ℕ) → Put room to (ascii "end ") x a → Put x a (spaced total) y b → Put y b (ascii "whole" ++ line_feed) z r
+    → Put room to (text_of (whole total)) z r
 unfolding text_of
 put_whole total p q e = then_put (then_put p q) e
 
-pub put_refused : {room w x y z : List ℕ} {a b c r : ℕ} (bytes code : ℕ) → Put room 0 (ascii "refused ") w a → Put w a (spaced bytes) x b → Put x b (decimal code) y c → Put y c line_feed z r
-    → Put room 0 (text_of (refused bytes code)) z r
+pub put_refused : {room w x y z : List ℕ} {to a b c r : ℕ} (bytes code : ℕ) → Put room to (ascii "refused ") w a → Put w a (spaced bytes) x b → Put x b (decimal code) y c → Put y c line_feed z r
+    → Put room to (text_of (refused bytes code)) z r
 unfolding text_of
 put_refused bytes code p q s e = then_put (then_put (then_put p q) s) e
 
-pub put_entry : {room x : List ℕ} {r : ℕ} {l m : Line} → l ≡ m → Put room 0 (text_of (entry_of m)) x r → Put room 0 (text_of (entry_of l)) x r
-put_entry e p = rw e p
+pub put_entry : {room cleared x : List ℕ} {to r : ℕ} {l m : Line} → (cleared ≡ room) × (to ≡ 0) → l ≡ m → Put cleared to (text_of (entry_of m)) x r → Put room 0 (text_of (entry_of l)) x r
+put_entry c e p = rw (e, ← c.0, ← c.1) p
 
 pub put_word : {room x : List ℕ} {to r : ℕ} {u v : Usage} → u ≡ v → Put room to (word (use_of v)) x r → Put room to (word (use_of u)) x r
 put_word e p = rw e p
-
--- THE TEXTS OF THE LINES READ ONE BY ONE ARE WHAT IS PRINTED
-pub prints : (s : List ℕ) (most : ℕ) → length s + 1 < most → texts_of (lines_from most s first) ≡ printed s
-unfolding printed
-prints s most h = ap texts_of (lists s most h)

@@ -12,13 +12,15 @@ use Rattle.meaning.specs.Hom.{map_ruling}
 use Rattle.meaning.specs.FrameLaws.{head}
 use Rattle.meaning.specs.NumberLaws.{code_high}
 use Rattle.meaning.specs.RequestLaws.{RuleView, r_refused, r_skipped, r_content, r_header, r_trailers, rule_view}
-use Rattle.frames.specs.Modes.{BODY, TRAILED, USE-SKIPPED, USE-CONTENT, USE-HEADER-SECTION, USE-TRAILERS}
+use Rattle.frames.specs.Modes.{USE-SKIPPED, USE-CONTENT, USE-HEADER-SECTION, USE-TRAILERS}
 use Rattle.frames.specs.Both.{of_request}
 use Rattle.frames.specs.Both as both
 use Rattle.frames.specs.Uses.{stated_of, place_of, use_number, number_of, data_lawful}
-use Rattle.listing.specs.Lines.{place, message_of, after, usage_of, line_of, ruled_line}
+use Rattle.listing.specs.Lines.{phase_number, place, message_of, after, usage_of, line_of, ruled_line}
 use Rattle.listing.specs.declared.Place.{Place}
 use Rattle.listing.specs.declared.Usage.TheVariants.{Skipped, Content, HeaderSection, Trailers}
+use Rattle.std.specs.Prelude.{Some}
+use Rattle.listing.specs.declared.Phase.TheVariants.{Body, Trailed}
 use Rattle.listing.specs.declared.Line.{Line}
 use Rattle.listing.specs.declared.Line.TheVariants.{Frame, Refused}
 
@@ -86,8 +88,8 @@ as_request (suc (suc (suc k))) sum t len h = absurd (omega arith)
 unfoldable pub line_by : Place → Header → (number : ℕ) → Line
 line_by p h zero = Frame h.at h.type h.len Skipped (place (h.from + h.len) p.phase p.sum)
 line_by p h (suc zero) = Frame h.at h.type h.len Content (place (h.from + h.len) p.phase (p.sum + h.len))
-line_by p h (suc (suc zero)) = Frame h.at h.type h.len HeaderSection (place (h.from + h.len) 1 0)
-line_by p h (suc (suc (suc zero))) = Frame h.at h.type h.len Trailers (place (h.from + h.len) 2 p.sum)
+line_by p h (suc (suc zero)) = Frame h.at h.type h.len HeaderSection (place (h.from + h.len) (Some Body) 0)
+line_by p h (suc (suc (suc zero))) = Frame h.at h.type h.len Trailers (place (h.from + h.len) (Some Trailed) p.sum)
 line_by p h (suc (suc (suc (suc k)))) = Refused h.from (suc (suc (suc (suc k))))
 
 line_high : (p : Place) (h : Header) (k : ℕ) → 4 ≤ k → line_by p h k ≡ Refused h.from k
@@ -114,13 +116,13 @@ high_view (r_content z e) l = absurd (omega arith)
 high_view (r_header z l) h = absurd (omega arith)
 high_view (r_trailers z l) h = absurd (omega arith)
 
-module _ (p : Place) (from t len number : ℕ) (phase : p.phase < 3) (known : number ≡ number_of (both.rule (place_of p.phase 0 0 (capped p.sum)) t len)) where
-  is : number ≡ number_of (rule (message_of p.phase p.sum) t len)
-  is = known ∙ as_request p.phase (capped p.sum) t len phase ∙ capped_number p.phase p.sum t len
+module _ (p : Place) (from t len number : ℕ) (phase : phase_number p.phase < 3) (known : number ≡ number_of (both.rule (place_of (phase_number p.phase) 0 0 (capped p.sum)) t len)) where
+  is : number ≡ number_of (rule (message_of (phase_number p.phase) p.sum) t len)
+  is = known ∙ as_request (phase_number p.phase) (capped p.sum) t len phase ∙ capped_number (phase_number p.phase) p.sum t len
 
   by_number : (k : ℕ) → number ≡ k → line_by p (head p.at from t len) k ≡ ruled_line p (head p.at from t len)
   unfolding ruled_line
-  by_number k e = ap (line_by p (head p.at from t len)) (sym e ∙ is) ∙ line_view p (head p.at from t len) (rule_view (message_of p.phase p.sum) t len)
+  by_number k e = ap (line_by p (head p.at from t len)) (sym e ∙ is) ∙ line_view p (head p.at from t len) (rule_view (message_of (phase_number p.phase) p.sum) t len)
 
   pub line_skipped : number ≡ USE-SKIPPED → Frame p.at t len Skipped (place (from + len) p.phase p.sum) ≡ ruled_line p (head p.at from t len)
   line_skipped e = unfold line_by in by_number USE-SKIPPED e
@@ -128,10 +130,10 @@ module _ (p : Place) (from t len number : ℕ) (phase : p.phase < 3) (known : nu
   pub line_content : number ≡ USE-CONTENT → Frame p.at t len Content (place (from + len) p.phase (p.sum + len)) ≡ ruled_line p (head p.at from t len)
   line_content e = unfold line_by in by_number USE-CONTENT e
 
-  pub line_header_section : number ≡ USE-HEADER-SECTION → Frame p.at t len HeaderSection (place (from + len) BODY 0) ≡ ruled_line p (head p.at from t len)
+  pub line_header_section : number ≡ USE-HEADER-SECTION → Frame p.at t len HeaderSection (place (from + len) (Some Body) 0) ≡ ruled_line p (head p.at from t len)
   line_header_section e = unfold line_by in by_number USE-HEADER-SECTION e
 
-  pub line_trailers : number ≡ USE-TRAILERS → Frame p.at t len Trailers (place (from + len) TRAILED p.sum) ≡ ruled_line p (head p.at from t len)
+  pub line_trailers : number ≡ USE-TRAILERS → Frame p.at t len Trailers (place (from + len) (Some Trailed) p.sum) ≡ ruled_line p (head p.at from t len)
   line_trailers e = unfold line_by in by_number USE-TRAILERS e
 
   pub line_refused : 4 ≤ number → Refused from number ≡ ruled_line p (head p.at from t len)
@@ -139,8 +141,8 @@ module _ (p : Place) (from t len number : ℕ) (phase : p.phase < 3) (known : nu
 
   -- a request keeps no payload
   pub never_kept : 4 ≤ number → 9 < number
-  never_kept l = let e = is in omega (arith, high_view (rule_view (message_of p.phase p.sum) t len))
+  never_kept l = let e = is in omega (arith, high_view (rule_view (message_of (phase_number p.phase) p.sum) t len))
 
   -- the sum stays small
   pub content_fits : number ≡ USE-CONTENT → p.sum + len ≤ 2 ^ 62
-  content_fits e = (data_lawful p.phase 0 0 p.sum t len (omega arith) (as_request p.phase p.sum t len phase ∙ sym is ∙ e)).1
+  content_fits e = (data_lawful (phase_number p.phase) 0 0 p.sum t len (omega arith) (as_request (phase_number p.phase) p.sum t len phase ∙ sym is ∙ e)).1

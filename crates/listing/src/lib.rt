@@ -1,15 +1,24 @@
 // The lines of `lister` (document 01, "The writer and the lister"): the frames of one request stream, each section sound and without Content-Length.
 #![tactic(auto)]
 
-ghost use Rattle.std.specs.Prelude.{◌≡◌, ◌+◌, ◌≤◌, ◌<◌, ◌^◌, min, [], ◌∷◌, length};
-ghost use Rattle.frames.specs.Modes.{UNSET};
+ghost use Rattle.std.specs.Prelude.{◌≡◌, ◌+◌, ◌≤◌, ◌<◌, ◌^◌};
 ghost use Rattle.meaning.specs.FrameLaws.{head};
 ghost use Rattle.listing.specs.Listing.{frame, whole, refused};
-ghost use Rattle.listing.specs.Lines.{first, end_line, ruled_line, line_at, use_of, entry_of};
-ghost use Rattle.listing.specs.Text.{decimal, spaced, word, text_of};
+ghost use Rattle.listing.specs.Lines.{phase_number, first, end_line, ruled_line, line_at, next_of, use_of, entry_of};
+ghost use Rattle.listing.specs.Text.{word, text_of};
 ghost use Rattle.listing.specs.Put.{Put};
+ghost use Rattle.listing.specs.Grown.{Extends};
+
+mod room;
 
 use frames::Use;
+pub use room::Text;
+
+// A longer input is not listed.
+const LIMIT: usize = 65536;
+
+// A sum of DATA lengths past the limit on content is as good as any other.
+const PAST_CONTENT_LIMIT: u64 = 1048577;
 
 // What a payload is for.
 #[derive(Clone, Copy)]
@@ -20,14 +29,32 @@ pub enum Usage {
     Trailers,
 }
 
-// Where a listing is. at: the offset of the next frame; past the input, the input cuts the payload before it.
-// The phase is a request's, or the heading is due. sum: of the DATA lengths.
-const HEADING_DUE: u64 = 3;
+// Where a request's message is, between two frames.
+#[derive(Clone, Copy)]
+enum Phase {
+    Opening,
+    Body,
+    Trailed,
+}
 
+impl Phase {
+    fn number(self) -> u64
+        ensures { result ≡ phase_number (Some self) }
+    {
+        match self {
+            Phase::Opening => frames::OPENING,
+            Phase::Body => frames::BODY,
+            Phase::Trailed => frames::TRAILED,
+        }
+    }
+}
+
+// Where a listing is. at: the offset of the next frame; past the input, the input cuts the payload before it. Without a phase the heading is due.
+// sum: of the DATA lengths.
 #[derive(Clone, Copy)]
 pub struct Place {
     at: usize,
-    phase: u64,
+    phase: Option<Phase>,
     sum: u64,
 }
 
@@ -50,86 +77,75 @@ pub enum Line {
     TooLong,
 }
 
-fn least(a: u64, b: u64) -> u64
-    ensures { result ≡ min a b }
-{
-    if a < b { a } else { b }
-}
-
 // The input ends between two frames.
-fn end_line(p: Place, total: usize) -> Line
+fn end_line(p: Place, phase: Phase, total: usize) -> Line
+    requires { p.phase ≡ Some phase }
     ensures { result ≡ end_line total p }
 {
-    if p.phase == frames::OPENING {
-        Line::Refused {
+    match phase {
+        Phase::Opening => Line::Refused {
             bytes: total,
             code: rules::REQUEST_INCOMPLETE,
-        }
-    } else {
-        Line::Whole(total)
+        },
+        Phase::Body | Phase::Trailed => Line::Whole(total),
     }
 }
 
 // A whole header, its payload from `from` on.
-fn ruled_line(p: Place, from: usize, ftype: u64, len: u64) -> Line
-    requires { (p.phase < UNSET) × (from ≤ 65536) × (len < 2 ^ 62) }
+fn ruled_line(p: Place, phase: Phase, from: usize, ftype: u64, len: u64) -> Line
+    requires { (p.phase ≡ Some phase) × (from ≤ 65536) × (len < 2 ^ 62) }
     ensures { result ≡ ruled_line p (head p.at from ftype len) }
 {
-    // more is past the limit on content, whatever is added
-    let sum = least(p.sum, 1048577);
     let place = frames::Place {
-        phase: p.phase,
+        phase: phase.number(),
         stated: None,
-        sum,
+        sum: p.sum.min(PAST_CONTENT_LIMIT),
     };
     let to = from + len as usize;
-    match place.rule(ftype, len) {
-        Ok(Use::Skipped) => Line::Frame {
-            at: p.at,
-            ftype,
-            len,
-            usage: Usage::Skipped,
-            next: Place { at: to, ..p },
-        },
-        Ok(Use::Content) => Line::Frame {
-            at: p.at,
-            ftype,
-            len,
-            usage: Usage::Content,
-            next: Place {
+    let purpose = match place.rule(ftype, len) {
+        Ok(purpose) => purpose,
+        Err(code) => {
+            return Line::Refused {
+                bytes: from,
+                code: code.number(),
+            };
+        }
+    };
+    let (usage, next) = match purpose {
+        Use::Skipped => (Usage::Skipped, Place { at: to, ..p }),
+        Use::Content => (
+            Usage::Content,
+            Place {
                 at: to,
                 sum: p.sum + len,
                 ..p
             },
-        },
-        Ok(Use::HeaderSection) => Line::Frame {
-            at: p.at,
-            ftype,
-            len,
-            usage: Usage::HeaderSection,
-            next: Place {
+        ),
+        Use::HeaderSection => (
+            Usage::HeaderSection,
+            Place {
                 at: to,
-                phase: frames::BODY,
+                phase: Some(Phase::Body),
                 sum: 0,
             },
-        },
-        Ok(Use::Trailers) => Line::Frame {
-            at: p.at,
-            ftype,
-            len,
-            usage: Usage::Trailers,
-            next: Place {
+        ),
+        Use::Trailers => (
+            Usage::Trailers,
+            Place {
                 at: to,
-                phase: frames::TRAILED,
+                phase: Some(Phase::Trailed),
                 ..p
             },
-        },
+        ),
         // a control stream's
-        Ok(_) => unreachable!(),
-        Err(code) => Line::Refused {
-            bytes: from,
-            code: code.number(),
-        },
+        Use::Settings | Use::Goaway | Use::MaxPushId | Use::CancelPush => unreachable!(),
+    };
+    Line::Frame {
+        at: p.at,
+        ftype,
+        len,
+        usage,
+        next,
     }
 }
 
@@ -138,7 +154,7 @@ pub fn start() -> Place
 {
     Place {
         at: 0,
-        phase: HEADING_DUE,
+        phase: None,
         sum: 0,
     }
 }
@@ -149,18 +165,17 @@ pub fn next(s: &[u8], p: Place) -> Line
 {
     let total = s.len();
     let at = p.at;
-    if 65536 < total {
+    if LIMIT < total {
         return Line::TooLong;
     }
-    if frames::TRAILED < p.phase {
+    let Some(phase) = p.phase else {
         return Line::Heading(Place {
-            at,
-            phase: frames::OPENING,
-            sum: p.sum,
+            phase: Some(Phase::Opening),
+            ..p
         });
-    }
+    };
     if at == total {
-        return end_line(p, total);
+        return end_line(p, phase, total);
     }
     let Some(here) = varint::ends(s, at) else {
         return Line::Refused {
@@ -175,106 +190,82 @@ pub fn next(s: &[u8], p: Place) -> Line
             code: rules::FRAME_ERROR,
         };
     };
-    ruled_line(p, from, ftype, varint::value(s, here))
+    ruled_line(p, phase, from, ftype, varint::value(s, here))
 }
 
-// ---- the text of a line, put into a room that any line fits
+// ---- the text of a line
 
-pub fn put(room: &mut [u8; 2048], to: usize, word: &[u8]) -> usize
-    requires { to + length word.now ≤ 2048 }
-    ensures { Put room.old to word.now room.new result }
-{
-    let mut i = 0;
-    while i < word.len() {
-        room[to + i] = word[i];
-        i += 1;
-    }
-    to + i
-}
-
-fn put_digit(room: &mut [u8; 2048], to: usize, digit: u64) -> usize
-    requires { (to < 2048) × (digit < 10) }
-    ensures { Put room.old to ((48 + digit) ∷ []) room.new result }
-{
-    room[to] = 48 + digit as u8;
-    to + 1
-}
-
-pub fn put_decimal(room: &mut [u8; 2048], to: usize, n: u64) -> usize
-    requires { to + length (decimal n) ≤ 2048 }
-    ensures { Put room.old to (decimal n) room.new result }
-{
-    if n < 10 {
-        return put_digit(room, to, n);
-    }
-    let last = put_decimal(room, to, n / 10);
-    put_digit(room, last, n % 10)
-}
-
-// A number and a blank.
-pub fn put_spaced(room: &mut [u8; 2048], to: usize, n: u64) -> usize
-    requires { to + 21 ≤ 2048 }
-    ensures { Put room.old to (spaced n) room.new result }
-{
-    let blank = put_decimal(room, to, n);
-    put(room, blank, b" ")
-}
-
-fn put_usage(room: &mut [u8; 2048], to: usize, usage: Usage) -> usize
-    requires { to + 14 ≤ 2048 }
-    ensures { Put room.old to (word (use_of usage)) room.new result }
+fn put_usage(text: &mut Text, usage: Usage)
+    requires { text.old.length + 14 ≤ 2048 }
+    ensures { Extends text.old (word (use_of usage)) text.new }
 {
     match usage {
-        Usage::Skipped => put(room, to, b"skipped"),
-        Usage::Content => put(room, to, b"content"),
-        Usage::HeaderSection => put(room, to, b"header section"),
-        Usage::Trailers => put(room, to, b"trailers"),
+        Usage::Skipped => text.put(b"skipped"),
+        Usage::Content => text.put(b"content"),
+        Usage::HeaderSection => text.put(b"header section"),
+        Usage::Trailers => text.put(b"trailers"),
     }
 }
 
-fn frame_text(at: u64, ftype: u64, len: u64, usage: Usage, room: &mut [u8; 2048]) -> usize
-    ensures { Put room.old 0 (text_of (frame at ftype len (use_of usage))) room.new result }
+fn frame_text(text: &mut Text, at: u64, ftype: u64, len: u64, usage: Usage)
+    requires { text.old.length + 78 ≤ 2048 }
+    ensures { Extends text.old (text_of (frame at ftype len (use_of usage))) text.new }
 {
-    let second = put_spaced(room, 0, at);
-    let third = put_spaced(room, second, ftype);
-    let last = put_spaced(room, third, len);
-    let end = put_usage(room, last, usage);
-    put(room, end, b"\n")
+    text.put_spaced(at);
+    text.put_spaced(ftype);
+    text.put_spaced(len);
+    put_usage(text, usage);
+    text.put(b"\n");
 }
 
-fn whole_text(total: u64, room: &mut [u8; 2048]) -> usize
-    ensures { Put room.old 0 (text_of (whole total)) room.new result }
+fn whole_text(text: &mut Text, total: u64)
+    requires { text.old.length + 31 ≤ 2048 }
+    ensures { Extends text.old (text_of (whole total)) text.new }
 {
-    let second = put(room, 0, b"end ");
-    let last = put_spaced(room, second, total);
-    put(room, last, b"whole\n")
+    text.put(b"end ");
+    text.put_spaced(total);
+    text.put(b"whole\n");
 }
 
-fn refused_text(bytes: u64, code: u64, room: &mut [u8; 2048]) -> usize
-    ensures { Put room.old 0 (text_of (refused bytes code)) room.new result }
+fn refused_text(text: &mut Text, bytes: u64, code: u64)
+    requires { text.old.length + 50 ≤ 2048 }
+    ensures { Extends text.old (text_of (refused bytes code)) text.new }
 {
-    let second = put(room, 0, b"refused ");
-    let last = put_spaced(room, second, bytes);
-    let end = put_decimal(room, last, code);
-    put(room, end, b"\n")
+    text.put(b"refused ");
+    text.put_spaced(bytes);
+    text.put_decimal(code);
+    text.put(b"\n");
 }
 
-// The text of a line at the start of the room, and how many bytes it has; the rest of the room stays. One behind the other, the texts of the lines
-// are what is printed (specs, Put, `prints`).
-pub fn text(line: Line, room: &mut [u8; 2048]) -> usize
-    ensures { Put room.old 0 (text_of (entry_of line)) room.new result }
-{
-    match line {
-        Line::Heading(_) => put(room, 0, b"offset type length use\n"),
-        Line::Frame {
-            at,
-            ftype,
-            len,
-            usage,
-            next: _,
-        } => frame_text(at as u64, ftype, len, usage, room),
-        Line::Whole(total) => whole_text(total as u64, room),
-        Line::Refused { bytes, code } => refused_text(bytes as u64, code, room),
-        Line::TooLong => put(room, 0, b"too long\n"),
+impl Line {
+    // Where the listing goes on; a last line leads nowhere.
+    pub fn next(self) -> Option<Place>
+        ensures { result ≡ next_of self }
+    {
+        match self {
+            Line::Heading(next) | Line::Frame { next, .. } => Some(next),
+            Line::Whole(_) | Line::Refused { .. } | Line::TooLong => None,
+        }
+    }
+
+    // The line's text, in place of what the room held; the rest of the room stays. One behind the other, the texts of the lines are what is printed
+    // (specs, Put, `prints`).
+    pub fn write(self, text: &mut Text)
+        ensures { Put text.old.room 0 (text_of (entry_of self)) text.new.room text.new.length }
+    {
+        text.clear();
+        match self {
+            Line::Heading(_) => text.put(b"offset type length use\n"),
+            Line::Frame {
+                at,
+                ftype,
+                len,
+                usage,
+                ..
+            } => frame_text(text, at as u64, ftype, len, usage),
+            Line::Whole(total) => whole_text(text, total as u64),
+            Line::Refused { bytes, code } => refused_text(text, bytes as u64, code),
+            Line::TooLong => text.put(b"too long\n"),
+        }
     }
 }

@@ -1,5 +1,5 @@
 -- The lines that `replay` prints, byte by byte. Assumes nothing.
-use Rattle.std.specs.Prelude.{ℕ, suc, List, [], ◌∷◌, ◌++◌, Bool, true, false, eqb, length}
+use Rattle.std.specs.Prelude.{Option, Some, None, ℕ, zero, suc, List, [], ◌∷◌, ◌++◌, Bool, true, false, eqb, length}
 use Rattle.rules.specs.Events.{CONTENT, SECTION, SECTION-END, QPACK, SETTINGS, GOAWAY, MAX-PUSH-ID, WHOLE, FREED}
 use Rattle.record.specs.Kinds.{FREE, REQUEST, UNTYPED, CONTROL, ENCODER, DECODER}
 use Rattle.frames.specs.Modes.{HEADER-SECTION-DUE, TRAILERS-DUE}
@@ -28,6 +28,15 @@ blank n = ascii " " ++ decimal n
 -- a blank, and a number or `-`
 unfoldable pub maybe : (there n : ℕ) → List ℕ
 maybe there n = pick (eqb there 0) (ascii " -") (blank n)
+
+-- the same of an Option, and of a flag beside a value
+unfoldable pub maybe_text : Option ℕ → List ℕ
+maybe_text None = ascii " -"
+maybe_text (Some n) = blank n
+
+unfoldable pub flagged : (there n : ℕ) → Option ℕ
+flagged zero n = None
+flagged (suc there) n = Some n
 
 -- the section size, the QPACK table's capacity and the blocked streams
 unfoldable pub settings_text : Kept → List ℕ

@@ -1,9 +1,11 @@
 -- WHAT A LINE LEAVES AND PRINTS: the lent call that its letter means, and the line of what the call answered. Assumes nothing.
-use Rattle.std.specs.Prelude.{ℕ, zero, suc, ◌≤◌, ◌<◌, ◌≡◌, refl, List, [], ◌∷◌, true, false, length, take, replicate, Some, None, unwrap_or}
+use Rattle.std.specs.Prelude.{Option, Some, None, Bool, eqb, ℕ, ◌+◌, zero, suc, ◌≤◌, ◌<◌, ◌≡◌, refl, List, [], ◌∷◌, true, false, length, take, replicate, unwrap_or}
 use Rattle.std.proofs.Common.{ap, subst, ◌∙◌, arith}
 use Rattle.std.proofs.lemmas.List.{length-replicate}
+use Rattle.std.proofs.lemmas.Bool.{eqb-true, eqb-false}
 use Rattle.rules.specs.Integers.{integer}
 use Rattle.listing.specs.Put.{Put}
+use Rattle.listing.specs.declared.room.Text.{Text}
 use Rattle.record.specs.declared.Record.{Record}
 use Rattle.record.specs.Row.{free_record}
 use Rattle.connection.specs.declared.Call.{Call}
@@ -69,22 +71,29 @@ pub data Plays (p : Pair) (l : Line) (piece : List ℕ) (q : Pair) (text : List 
   writes : Writes p l q text → Plays p l piece q text
 
 -- A LINE OF A RUN: the script is too long, or at its end; the line is no call; or its call is made
-pub data Runs (script : List ℕ) (at : ℕ) (p : Pair) (before after : List ℕ) (r : Step) (text : List ℕ) : Type 0 where
-  too_long : 1048576 < length script → r.on ≡ false → text ≡ long_line → Runs script at p before after r text
-  at_end : length script ≤ at → r.on ≡ false → text ≡ [] → Runs script at p before after r text
-  bad : LineAt at before None after → r.on ≡ false → text ≡ bad_line → Runs script at p before after r text
-  plays : (l : Line) → LineAt at before (Some l) after → Plays p l (take l.count after) r.pair text → r.at ≡ l.next → r.on ≡ true → Runs script at p before after r text
+pub data Runs (script : List ℕ) (at : ℕ) (p : Pair) (before after : List ℕ) (r : Option Step) (text : List ℕ) : Type 0 where
+  too_long : 1048576 < length script → r ≡ None → text ≡ long_line → Runs script at p before after r text
+  at_end : length script ≤ at → r ≡ None → text ≡ [] → Runs script at p before after r text
+  bad : LineAt at before None after → r ≡ None → text ≡ bad_line → Runs script at p before after r text
+  plays : (l : Line) (q : Pair) → LineAt at before (Some l) after → Plays p l (take l.count after) q text → r ≡ Some (record { pair = q; at = l.next }) → Runs script at p before after r text
 
--- a text that says so is at the start of the room
-pub record Lined (Tells : List ℕ → Type 0) (room after : List ℕ) (count : ℕ) : Type 0 where
+-- a text that says so is put from a place of the room on
+pub record Lined (Tells : List ℕ → Type 0) (room : List ℕ) (to : ℕ) (after : Text) : Type 0 where
   pub text : List ℕ
   pub tells : Tells text
-  pub put : Put room 0 text after count
+  pub put : Put room to text after.room after.length
 
-pub lined : {Tells : List ℕ → Type 0} {room text after : List ℕ} {most r : ℕ} → Tells text → Puts room 0 text most after r → Lined Tells room after r
+abbrev pub Prints : (Tells : List ℕ → Type 0) (before after : Text) → Type 0
+Prints Tells before after = Lined Tells before.room before.length after
+
+-- room for any line
+abbrev pub HasLine : Text → Type 0
+HasLine t = t.length + 1425 ≤ 2048
+
+pub lined : {Tells : List ℕ → Type 0} {room text : List ℕ} {to most : ℕ} {after : Text} → Tells text → Puts room to text most after.room after.length → Lined Tells room to after
 lined t p = record { text = _; tells = t; put = p.put }
 
-pub told : {A B : List ℕ → Type 0} {room after : List ℕ} {r : ℕ} → ((text : List ℕ) → A text → B text) → Lined A room after r → Lined B room after r
+pub told : {A B : List ℕ → Type 0} {room : List ℕ} {to : ℕ} {after : Text} → ((text : List ℕ) → A text → B text) → Lined A room to after → Lined B room to after
 told f l = record { text = l.text; tells = f l.text l.tells; put = l.put }
 
 -- ---- rows and buffers that are lent in part
@@ -97,26 +106,48 @@ take_replicate (suc n) (suc m) x h = ap (λ xs. x ∷ xs) (take_replicate n m x 
 free_rows : (n : ℕ) {x : Record} → n ≤ 32 → x ≡ free_record → take n (replicate 32 x) ≡ replicate n free_record
 free_rows n {x} h e = take_replicate n 32 x h ∙ ap (replicate n) e
 
--- the kept row stays
-abbrev pub beside : Pair → Connection → Pair
-beside p c = record { conn = c; rows = p.rows }
+-- the row that is lent, and what is left of it
+pub record Lends (p : Pair) (n : ℕ) (rows : List Record) : Type 0 where
+  pub here : n ≡ 24 → rows ≡ p.rows
+  pub elsewhere : (n ≡ 24 → ⊥) → rows ≡ replicate 32 free_record
 
-module _ (p : Pair) (n : ℕ) (h : n ≤ 32) (w : n ≡ 24 → ⊥) {x : Record} (f : x ≡ free_record) {c : Connection} {rows : List Record} where
-  pub start_other : {number : ℕ} → Started p.conn (take n (replicate 32 x)) c rows number → Starts p n (beside p c) (start_line number)
-  start_other {number} s = start_elsewhere rows number w (subst (λ ys. Started p.conn ys c rows number) (free_rows n h f) s) refl refl
+pub record Leaves (p : Pair) (n : ℕ) (c : Connection) (rows : List Record) (q : Pair) : Type 0 where
+  pub conn : q.conn ≡ c
+  pub here : n ≡ 24 → q.rows ≡ rows
+  pub elsewhere : (n ≡ 24 → ⊥) → q.rows ≡ p.rows
 
-  pub step_other : {call : Call} {id allow : ℕ} {piece : List ℕ} {r : Report} → Stepped p.conn (take n (replicate 32 x)) call id allow piece c rows r → Steps p n call id allow piece (beside p c) (report_line c r)
-  step_other {call} {id} {allow} {piece} {r} s = step_elsewhere rows r w (subst (λ ys. Stepped p.conn ys call id allow piece c rows r) (free_rows n h f) s) refl refl
+module _ (p : Pair) (n : ℕ) (h : n ≤ 32) {lent left : List Record} {c : Connection} {q : Pair} (a : Lends p n lent) (b : Leaves p n c left q) where
+  pub start_lent : {number : ℕ} → Started p.conn (take n lent) c (take n left) number → Starts p n q (start_line number)
+  start_lent {number} s = go (eqb n 24) refl
+    where
+      go : (x : Bool) → eqb n 24 ≡ x → Starts p n q (start_line number)
+      go true e =
+          let k : n ≡ 24 = eqb-true n 24 e in
+          start_here number k (rw (b.conn, b.here k, ← a.here k, ← k) s) refl
+      go false e =
+          let w : n ≡ 24 → ⊥ = eqb-false n 24 e in
+          start_elsewhere (take n left) number w (rw (b.conn, ← free_rows n h refl, ← a.elsewhere w) s) (b.elsewhere w) refl
+
+  pub step_lent : {call : Call} {id allow : ℕ} {piece : List ℕ} {r : Report} → Stepped p.conn (take n lent) call id allow piece c (take n left) r → Steps p n call id allow piece q (report_line c r)
+  step_lent {call} {id} {allow} {piece} {r} s = go (eqb n 24) refl
+    where
+      go : (x : Bool) → eqb n 24 ≡ x → Steps p n call id allow piece q (report_line c r)
+      go true e =
+          let k : n ≡ 24 = eqb-true n 24 e in
+          step_here r k (rw (b.conn, b.here k, ← a.here k, ← k) s) (rw b.conn refl)
+      go false e =
+          let w : n ≡ 24 → ⊥ = eqb-false n 24 e in
+          step_elsewhere (take n left) r w (rw (b.conn, ← free_rows n h refl, ← a.elsewhere w) s) (b.elsewhere w) (rw b.conn refl)
 
 module _ (p : Pair) (l : Line) (b : List ℕ) (h : l.room ≤ 64) (e : b ≡ replicate 64 170) where
   in_filled : take l.room b ≡ filled l.room
   in_filled = ap (take l.room) e ∙ take_replicate l.room 64 170 h
 
-  pub goaway_in : {q : Pair} {room after : List ℕ} {r : ℕ} → l.verb ≡ Verb.Goaway → Lined (Says p l.a (take l.room b) q) room after r → Lined (Writes p l q) room after r
+  pub goaway_in : {q : Pair} {room : List ℕ} {to : ℕ} {after : Text} → l.verb ≡ Verb.Goaway → Lined (Says p l.a (take l.room b) q) room to after → Lined (Writes p l q) room to after
   goaway_in {q} g s = told (λ t y. our_goaway g (subst (λ x. Says p l.a x q t) in_filled y)) s
 
-  pub write_in : {room after : List ℕ} {most r : ℕ} {w : Writing} → l.verb ≡ Verb.Write w → Puts room 0 (write_line (write_of w l.a l.b (length (take l.room b))) (take l.room b)) most after r
-      → Lined (Writes p l p) room after r
+  pub write_in : {room : List ℕ} {to most : ℕ} {after : Text} {w : Writing} → l.verb ≡ Verb.Write w → Puts room to (write_line (write_of w l.a l.b (length (take l.room b))) (take l.room b)) most after.room after.length
+      → Lined (Writes p l p) room to after
   write_in v y =
       let t = in_filled in
       let k = length-replicate {A = ℕ} l.room 170 in

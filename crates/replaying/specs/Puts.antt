@@ -1,16 +1,23 @@
 -- A text of at most so many bytes, put into a room. Assumes nothing.
-use Rattle.std.specs.Prelude.{ℕ, suc, ◌+◌, ◌/◌, ◌%◌, ◌≤◌, ◌<◌, ◌^◌, ◌≡◌, refl, List, [], ◌∷◌, ◌++◌, length, take, get_or, set}
+use Rattle.std.specs.Prelude.{Option, Some, Bool, true, false, eqb, ℕ, zero, suc, ◌+◌, ◌/◌, ◌%◌, ◌≤◌, ◌<◌, ◌^◌, ◌≡◌, refl, List, [], ◌∷◌, ◌++◌, length, take, get_or}
 use Rattle.std.proofs.Common.{sym, ap, ◌∙◌, append_assoc, append-nil, add-one, arith, length-append, take-suc, take_all, length-take-le}
+use borrow.Author.Tests.{ne_eqb}
+use Rattle.std.proofs.lemmas.Bool.{eqb-true, eqb-false}
+use Rattle.rules.specs.Text.{ascii}
 use Rattle.listing.specs.Text.{decimal}
+use Rattle.listing.specs.declared.room.Text.{Text}
 use Rattle.listing.specs.Put.{Put, then_put, short}
 use Rattle.script.specs.Words.{hex_digit, hexes, hex_word}
 use Rattle.script.specs.Laws.{some_bytes}
 use Rattle.record.specs.declared.Record.{Record}
-use Rattle.replaying.specs.Lines.{record_text, rows_text}
+use Rattle.replaying.specs.Lines.{pick, maybe, maybe_text, flagged, due_text, record_text, rows_text}
 
 pub record Puts (room : List ℕ) (to : ℕ) (text : List ℕ) (most : ℕ) (after : List ℕ) (r : ℕ) : Type 0 where
   pub put : Put room to text after r
   pub few : length text ≤ most
+
+abbrev pub Adds : (before : Text) (text : List ℕ) (most : ℕ) (after : Text) → Type 0
+Adds before text most after = Puts before.room before.length text most after.room after.length
 
 -- the place behind a text
 pub behind : {room text after : List ℕ} {to most r : ℕ} → Puts room to text most after r → r ≤ to + most
@@ -68,12 +75,37 @@ next_record rows d i h a b =
     let f : 0 + length (take i rows) ≡ i = omega arith in
     puts_as (rw (add-one i, take-suc rows i d h) (e ∙ rw f refl)) (then_puts a b)
 
--- a byte in two digits
-pub two_digits : (room : List ℕ) (to b : ℕ) {x h l : ℕ} → to + 2 ≤ 2048 → x ≡ b → h ≡ hex_digit (x / 16) → l ≡ hex_digit (x % 16) → Puts room to (hexes (b ∷ [])) 2 (set (set room to h) (to + 1) l) (to + 2)
+-- a flag beside a value, as an Option
+pub maybe_is : (there n : ℕ) {o : Option ℕ} → o ≡ flagged there n → maybe there n ≡ maybe_text o
+unfolding maybe flagged maybe_text pick
+maybe_is zero n e = rw e refl
+maybe_is (suc there) n e = rw e (simp (ne_eqb (suc there) 0 (λ z. omega arith)))
+
+pub flag_set : (there n : ℕ) → (there ≡ 0 → ⊥) → Some n ≡ flagged there n
+unfolding flagged
+flag_set zero n w = absurd (w refl)
+flag_set (suc there) n w = refl
+
+pub puts_hexes : {room after : List ℕ} {to m r h l : ℕ} (b : ℕ) → h ≡ hex_digit (b / 16) → l ≡ hex_digit (b % 16) → Puts room to (h ∷ l ∷ []) m after r → Puts room to (hexes (b ∷ [])) m after r
 unfolding hexes
-two_digits room to b w e f g =
-    let n : to + 1 ≡ suc to = omega arith in
-    record { put = record { is = rw (n, f, g, e) refl; next = omega arith; within = w }; few = omega arith }
+puts_hexes b e f p = rw (← e, ← f) p
+
+-- a section is due
+pub due_is : (r : Record) → r.kind ≡ 1 → 6 ≤ r.mode → r.mode < 8 → due_text r ≡ 43 ∷ []
+unfolding due_text pick ascii
+due_is r k a b = go (eqb r.mode 6) refl
+  where
+    go : (x : Bool) → eqb r.mode 6 ≡ x → due_text r ≡ 43 ∷ []
+    go true e = rw (k, eqb-true r.mode 6 e) refl
+    go false e = let w = eqb-false r.mode 6 e in let m : r.mode ≡ 7 = omega arith in rw (k, m) refl
+
+pub due_none : (r : Record) → (r.kind ≡ 1 → r.mode ≡ 6 → ⊥) → (r.kind ≡ 1 → r.mode ≡ 7 → ⊥) → due_text r ≡ []
+unfolding due_text pick
+due_none r v w = go (eqb r.kind 1) refl
+  where
+    go : (x : Bool) → eqb r.kind 1 ≡ x → due_text r ≡ []
+    go true e = let k = eqb-true r.kind 1 e in rw k (simp (ne_eqb r.mode 6 (v k), ne_eqb r.mode 7 (w k)))
+    go false e = simp e
 
 pub puts_dash : {room x : List ℕ} {to m r : ℕ} (bytes : List ℕ) → length bytes ≡ 0 → Puts room to (45 ∷ []) m x r → Puts room to (hex_word bytes) m x r
 unfolding hex_word

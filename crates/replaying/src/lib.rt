@@ -5,304 +5,278 @@ ghost use Rattle.std.specs.Prelude.{◌≡◌, ◌+◌, ◌*◌, ◌<◌, ◌≤
 ghost use Rattle.rules.specs.Integers.{integer};
 ghost use Rattle.varint.specs.Write.{Meets};
 ghost use Rattle.listing.specs.Text.{decimal};
-ghost use Rattle.script.specs.Words.{hex_digit, hexes, hex_word};
-ghost use Rattle.replaying.specs.Lines.{blank, maybe as maybeText, settings_text, head_text, event_text, report_line, start_line, written_line, value_line, kind_text, due_text, record_text, rows_text, conn_text, state_line, write_of, write_line, read_line};
-ghost use Rattle.replaying.specs.Puts.{Puts};
-ghost use Rattle.replaying.specs.Plays.{Lined, Starts, Steps, Says, Writes, Plays};
+ghost use Rattle.script.specs.Words.{hex_digit, hex_word};
+ghost use Rattle.replaying.specs.Lines.{blank, flagged, maybe_text, settings_text, head_text, event_text, report_line, start_line, written_line, value_line, kind_text, due_text, record_text, rows_text, conn_text, state_line, write_of, write_line, read_line};
+ghost use Rattle.replaying.specs.Puts.{Adds};
+ghost use Rattle.replaying.specs.Plays.{Prints, HasLine, Lends, Leaves, Starts, Steps, Says, Writes, Plays};
 ghost use Rattle.replaying.specs.Runs.{StepAt};
 
 use connection::doors::Doors;
 use connection::{Call, Connection, Own, Report};
 use control::Kept;
+use listing::Text;
 use record::Record;
 use rules::codes::House;
 use script::{Line, Verb, Writing};
 use varint::Whole;
 
-// ---- parts of a printed line, from a place of the room on
+// A longer script is not played.
+const LIMIT: usize = 1048576;
 
-fn wide(x: u8) -> u64
-    ensures { result ≡ x }
-{
-    x as u64
-}
+// How many records the row has that is kept from line to line, and how many may be lent at most.
+const KEPT: usize = 24;
 
-fn number(room: &mut [u8; 2048], to: usize, n: u64) -> usize
-    requires { to + 20 ≤ 2048 }
-    ensures { Puts room.old to (decimal n) 20 room.new result }
+const MOST: usize = 32;
+
+// The most bytes that a write is lent.
+const BUFFER: usize = 64;
+
+// ---- parts of a printed line, put behind what the text has
+
+fn number(text: &mut Text, n: u64)
+    requires { text.old.length + 20 ≤ 2048 }
+    ensures { Adds text.old (decimal n) 20 text.new }
 {
-    listing::put_decimal(room, to, n)
+    text.put_decimal(n);
 }
 
 // A blank, and a number.
-fn spaced(room: &mut [u8; 2048], to: usize, n: u64) -> usize
-    requires { to + 21 ≤ 2048 }
-    ensures { Puts room.old to (blank n) 21 room.new result }
+fn spaced(text: &mut Text, n: u64)
+    requires { text.old.length + 21 ≤ 2048 }
+    ensures { Adds text.old (blank n) 21 text.new }
 {
-    let at = listing::put(room, to, b" ");
-    number(room, at, n)
+    text.put(b" ");
+    number(text, n);
+}
+
+// The records of the C interface have a flag beside a value.
+fn given(there: u64, value: u64) -> Option<u64>
+    ensures { result ≡ flagged there value }
+{
+    if there == 0 { None } else { Some(value) }
 }
 
 // A blank, and a number or `-`.
-fn maybe(room: &mut [u8; 2048], to: usize, there: u64, n: u64) -> usize
-    requires { to + 21 ≤ 2048 }
-    ensures { Puts room.old to (maybeText there n) 21 room.new result }
+fn maybe(text: &mut Text, value: Option<u64>)
+    requires { text.old.length + 21 ≤ 2048 }
+    ensures { Adds text.old (maybe_text value) 21 text.new }
 {
-    if there == 0 {
-        return listing::put(room, to, b" -");
+    match value {
+        Some(n) => spaced(text, n),
+        None => text.put(b" -"),
     }
-    spaced(room, to, n)
 }
 
 // The settings that a connection record keeps.
-fn settings(room: &mut [u8; 2048], to: usize, kept: Kept) -> usize
-    requires { to + 63 ≤ 2048 }
-    ensures { Puts room.old to (settings_text kept) 63 room.new result }
+fn settings(text: &mut Text, kept: Kept)
+    requires { text.old.length + 63 ≤ 2048 }
+    ensures { Adds text.old (settings_text kept) 63 text.new }
 {
     if kept.set == 0 {
-        return listing::put(room, to, b" - 0 0");
+        text.put(b" - 0 0");
+        return;
     }
-    let a = maybe(room, to, kept.limited, kept.size);
-    let b = spaced(room, a, kept.capacity);
-    spaced(room, b, kept.blocked)
+    maybe(text, given(kept.limited, kept.size));
+    spaced(text, kept.capacity);
+    spaced(text, kept.blocked);
 }
 
 // A hexadecimal digit.
-fn hex(n: u64) -> u8
+fn hex(n: u8) -> u8
     requires { n < 16 }
     ensures { result ≡ hex_digit n }
 {
-    if n < 10 {
-        return 48 + n as u8;
-    }
-    87 + n as u8
+    if n < 10 { b'0' + n } else { b'a' + (n - 10) }
 }
 
-// A byte in two digits.
-fn spelt_byte(room: &mut [u8; 2048], to: usize, b: u8) -> usize
-    requires { to + 2 ≤ 2048 }
-    ensures { Puts room.old to (hexes (b ∷ [])) 2 room.new result }
+// Bytes, in two digits each; `-` for none.
+fn spelt(text: &mut Text, bytes: &[u8])
+    requires { (length bytes.now ≤ 64) × (text.old.length + 128 ≤ 2048) }
+    ensures { Adds text.old (hex_word bytes.now) 128 text.new }
 {
-    let x = wide(b);
-    room[to] = hex(x / 16);
-    room[to + 1] = hex(x % 16);
-    to + 2
-}
-
-// Bytes; `-` for none.
-fn spelt(room: &mut [u8; 2048], to: usize, bytes: &[u8]) -> usize
-    requires { (length bytes.now ≤ 64) × (to + 128 ≤ 2048) }
-    ensures { Puts room.old to (hex_word bytes.now) 128 room.new result }
-{
-    if bytes.len() == 0 {
-        return listing::put(room, to, b"-");
+    if bytes.is_empty() {
+        text.put(b"-");
+        return;
     }
-    let mut at = to;
-    let mut i = 0;
-    while i < bytes.len() {
-        at = spelt_byte(room, at, bytes[i]);
-        i += 1;
+    for b in bytes {
+        text.put(&[hex(b / 16), hex(b % 16)]);
     }
-    at
 }
 
 // ---- the line of a call
 
 // The number, the bytes consumed, the headers finished.
-fn head(room: &mut [u8; 2048], code: u64, used: u64, heads: u64) -> usize
-    ensures { Puts room.old 0 (head_text code used heads) 63 room.new result }
+fn head(text: &mut Text, code: u64, used: u64, heads: u64)
+    requires { text.old.length + 63 ≤ 2048 }
+    ensures { Adds text.old (head_text code used heads) 63 text.new }
 {
-    let a = number(room, 0, code);
-    let b = spaced(room, a, used);
-    let c = spaced(room, b, heads);
-    listing::put(room, c, b" ")
+    number(text, code);
+    spaced(text, used);
+    spaced(text, heads);
+    text.put(b" ");
 }
 
 // A word, and two numbers.
-fn part(room: &mut [u8; 2048], to: usize, word: &[u8], a: u64, b: u64) -> usize
-    requires { (length word.now ≤ 8) × (to + 50 ≤ 2048) }
-    ensures { Puts room.old to (word.now ++ blank a ++ blank b) 50 room.new result }
+fn part(text: &mut Text, word: &[u8], a: u64, b: u64)
+    requires { (length word.now ≤ 8) × (text.old.length + 50 ≤ 2048) }
+    ensures { Adds text.old (word.now ++ blank a ++ blank b) 50 text.new }
 {
-    let c = listing::put(room, to, word);
-    let d = spaced(room, c, a);
-    spaced(room, d, b)
+    text.put(word);
+    spaced(text, a);
+    spaced(text, b);
 }
 
 // What a call on a stream gave.
-fn event(room: &mut [u8; 2048], to: usize, kept: Kept, r: Report) -> usize
-    requires { to + 75 ≤ 2048 }
-    ensures { Puts room.old to (event_text kept r) 75 room.new result }
+fn event(text: &mut Text, kept: Kept, r: Report)
+    requires { text.old.length + 75 ≤ 2048 }
+    ensures { Adds text.old (event_text kept r) 75 text.new }
 {
-    if r.event == rules::CONTENT {
-        return part(room, to, b"content", r.start, r.len);
+    match r.event {
+        rules::CONTENT => part(text, b"content", r.start, r.len),
+        rules::SECTION => {
+            part(text, b"section", r.start, r.len);
+            text.put(b" 0");
+        }
+        rules::SECTION_END => {
+            part(text, b"section", r.start, r.len);
+            text.put(b" 1");
+        }
+        rules::QPACK => {
+            part(text, b"qpack", r.value, r.start);
+            spaced(text, r.len);
+        }
+        rules::SETTINGS => {
+            text.put(b"settings");
+            settings(text, kept);
+        }
+        rules::GOAWAY => {
+            text.put(b"goaway");
+            spaced(text, r.value);
+        }
+        rules::MAX_PUSH_ID => {
+            text.put(b"maxpush");
+            spaced(text, r.value);
+        }
+        rules::WHOLE => text.put(b"whole"),
+        rules::FREED => text.put(b"freed"),
+        _ => text.put(b"-"),
     }
-    if r.event == rules::SECTION {
-        let a = part(room, to, b"section", r.start, r.len);
-        return listing::put(room, a, b" 0");
-    }
-    if r.event == rules::SECTION_END {
-        let a = part(room, to, b"section", r.start, r.len);
-        return listing::put(room, a, b" 1");
-    }
-    if r.event == rules::QPACK {
-        let a = part(room, to, b"qpack", r.value, r.start);
-        return spaced(room, a, r.len);
-    }
-    if r.event == rules::SETTINGS {
-        let a = listing::put(room, to, b"settings");
-        return settings(room, a, kept);
-    }
-    if r.event == rules::GOAWAY {
-        let a = listing::put(room, to, b"goaway");
-        return spaced(room, a, r.value);
-    }
-    if r.event == rules::MAX_PUSH_ID {
-        let a = listing::put(room, to, b"maxpush");
-        return spaced(room, a, r.value);
-    }
-    if r.event == rules::WHOLE {
-        return listing::put(room, to, b"whole");
-    }
-    if r.event == rules::FREED {
-        return listing::put(room, to, b"freed");
-    }
-    listing::put(room, to, b"-")
 }
 
-fn report_line(room: &mut [u8; 2048], c: Connection, r: Report) -> usize
-    ensures { Puts room.old 0 (report_line c r) 139 room.new result }
+fn report_line(text: &mut Text, c: Connection, r: Report)
+    requires { HasLine text.old }
+    ensures { Adds text.old (report_line c r) 139 text.new }
 {
-    let side = c.side;
-    let kept = side.kept;
-    let a = head(room, r.number, r.used, r.heads);
-    let b = event(room, a, kept, r);
-    listing::put(room, b, b"\n")
+    head(text, r.number, r.used, r.heads);
+    event(text, c.side.kept, r);
+    text.put(b"\n");
 }
 
-fn start_line(room: &mut [u8; 2048], code: u64) -> usize
-    ensures { Puts room.old 0 (start_line code) 65 room.new result }
+fn start_line(text: &mut Text, code: u64)
+    requires { HasLine text.old }
+    ensures { Adds text.old (start_line code) 65 text.new }
 {
-    let a = head(room, code, 0, 0);
-    listing::put(room, a, b"-\n")
+    head(text, code, 0, 0);
+    text.put(b"-\n");
 }
 
-fn written_line(room: &mut [u8; 2048], code: u64, count: u64, buffer: &[u8]) -> usize
-    requires { length buffer.now ≤ 64 }
-    ensures { Puts room.old 0 (written_line code count buffer.now) 221 room.new result }
+fn written_line(text: &mut Text, code: u64, count: u64, buffer: &[u8])
+    requires { HasLine text.old × (length buffer.now ≤ 64) }
+    ensures { Adds text.old (written_line code count buffer.now) 221 text.new }
 {
-    let a = head(room, code, 0, 0);
-    let b = listing::put(room, a, b"written");
-    let c = spaced(room, b, count);
-    let d = listing::put(room, c, b" ");
-    let e = spelt(room, d, buffer);
-    listing::put(room, e, b"\n")
+    head(text, code, 0, 0);
+    text.put(b"written");
+    spaced(text, count);
+    text.put(b" ");
+    spelt(text, buffer);
+    text.put(b"\n");
 }
 
-fn value_line(room: &mut [u8; 2048], value: u64, size: u64) -> usize
-    ensures { Puts room.old 0 (value_line value size) 54 room.new result }
+fn value_line(text: &mut Text, value: u64, size: u64)
+    requires { HasLine text.old }
+    ensures { Adds text.old (value_line value size) 54 text.new }
 {
-    let a = listing::put(room, 0, b"0 0 0 value");
-    let b = spaced(room, a, value);
-    let c = spaced(room, b, size);
-    listing::put(room, c, b"\n")
+    text.put(b"0 0 0 value");
+    spaced(text, value);
+    spaced(text, size);
+    text.put(b"\n");
 }
 
 // ---- the line of the state
 
-fn kind(room: &mut [u8; 2048], to: usize, k: u64) -> usize
-    requires { to + 7 ≤ 2048 }
-    ensures { Puts room.old to (kind_text k) 7 room.new result }
+fn kind(text: &mut Text, kind: u8)
+    requires { text.old.length + 7 ≤ 2048 }
+    ensures { Adds text.old (kind_text kind) 7 text.new }
 {
-    if k == record::REQUEST {
-        return listing::put(room, to, b"request");
+    match u64::from(kind) {
+        record::REQUEST => text.put(b"request"),
+        record::UNTYPED => text.put(b"untyped"),
+        record::CONTROL => text.put(b"control"),
+        record::ENCODER => text.put(b"encoder"),
+        record::DECODER => text.put(b"decoder"),
+        _ => text.put(b"skipped"),
     }
-    if k == record::UNTYPED {
-        return listing::put(room, to, b"untyped");
-    }
-    if k == record::CONTROL {
-        return listing::put(room, to, b"control");
-    }
-    if k == record::ENCODER {
-        return listing::put(room, to, b"encoder");
-    }
-    if k == record::DECODER {
-        return listing::put(room, to, b"decoder");
-    }
-    listing::put(room, to, b"skipped")
 }
 
 // Whether a section is due of a request.
-fn due(room: &mut [u8; 2048], to: usize, r: Record) -> usize
-    requires { to + 1 ≤ 2048 }
-    ensures { Puts room.old to (due_text r) 1 room.new result }
+fn due(text: &mut Text, r: Record)
+    requires { text.old.length + 1 ≤ 2048 }
+    ensures { Adds text.old (due_text r) 1 text.new }
 {
-    if r.kind != record::REQUEST_KIND {
-        return to;
+    if r.kind == record::REQUEST_KIND {
+        match r.mode {
+            record::HEADER_DUE_MODE | record::TRAILERS_DUE_MODE => text.put(b"+"),
+            _ => {}
+        }
     }
-    if r.mode == record::HEADER_DUE_MODE {
-        return listing::put(room, to, b"+");
-    }
-    if r.mode == record::TRAILERS_DUE_MODE {
-        return listing::put(room, to, b"+");
-    }
-    to
 }
 
-fn shown(room: &mut [u8; 2048], to: usize, index: u64, r: Record) -> usize
-    requires { to + 51 ≤ 2048 }
-    ensures { Puts room.old to (record_text index r) 51 room.new result }
+fn shown(text: &mut Text, index: u64, r: Record)
+    requires { text.old.length + 51 ≤ 2048 }
+    ensures { Adds text.old (record_text index r) 51 text.new }
 {
     if r.kind == record::FREE_KIND {
-        return to;
+        return;
     }
-    let a = spaced(room, to, index);
-    let b = listing::put(room, a, b":");
-    let c = number(room, b, r.id);
-    let d = listing::put(room, c, b":");
-    let e = kind(room, d, wide(r.kind));
-    due(room, e, r)
+    spaced(text, index);
+    text.put(b":");
+    number(text, r.id);
+    text.put(b":");
+    kind(text, r.kind);
+    due(text, r);
 }
 
-fn records(room: &mut [u8; 2048], to: usize, rows: [Record; 32]) -> usize
-    requires { to + 1224 ≤ 2048 }
-    ensures { Puts room.old to (rows_text 0 (take 24 rows)) 1224 room.new result }
+fn records(text: &mut Text, rows: [Record; MOST])
+    requires { text.old.length + 1224 ≤ 2048 }
+    ensures { Adds text.old (rows_text 0 (take 24 rows)) 1224 text.new }
 {
-    let mut at = to;
-    let mut i = 0;
-    while i < 24 {
-        let r = rows[i];
-        at = shown(room, at, i as u64, r);
-        i += 1;
+    for i in 0..KEPT {
+        shown(text, i as u64, rows[i]);
     }
-    at
 }
 
-fn conn_text(room: &mut [u8; 2048], doors: Doors, kept: Kept) -> usize
-    ensures { Puts room.old 0 (conn_text doors kept) 200 room.new result }
+fn conn_text(text: &mut Text, doors: Doors, kept: Kept)
+    requires { HasLine text.old }
+    ensures { Adds text.old (conn_text doors kept) 200 text.new }
 {
-    let ours = doors.goaway;
-    let theirs = kept.goaway;
-    let push = kept.push;
-    let a = listing::put(room, 0, b"0 0 0 state");
-    let b = spaced(room, a, doors.code);
-    let d = spaced(room, b, doors.requests);
-    let e = spaced(room, d, doors.oneways);
-    let f = maybe(room, e, doors.goaways, ours.0);
-    let g = maybe(room, f, kept.goaways, theirs.0);
-    let h = maybe(room, g, kept.pushes, push.0);
-    settings(room, h, kept)
+    text.put(b"0 0 0 state");
+    spaced(text, doors.code);
+    spaced(text, doors.requests);
+    spaced(text, doors.oneways);
+    maybe(text, given(doors.goaways, doors.goaway.0));
+    maybe(text, given(kept.goaways, kept.goaway.0));
+    maybe(text, given(kept.pushes, kept.push.0));
+    settings(text, kept);
 }
 
 // The connection, and each record of the row's 24 that is not free.
-fn state_line(room: &mut [u8; 2048], c: Connection, rows: [Record; 32]) -> usize
-    ensures { Puts room.old 0 (state_line c (take 24 rows)) 1425 room.new result }
+fn state_line(text: &mut Text, c: Connection, rows: [Record; MOST])
+    requires { HasLine text.old }
+    ensures { Adds text.old (state_line c (take 24 rows)) 1425 text.new }
 {
-    let doors = c.doors;
-    let side = c.side;
-    let kept = side.kept;
-    let a = conn_text(room, doors, kept);
-    let b = records(room, a, rows);
-    listing::put(room, b, b"\n")
+    conn_text(text, c.doors, c.side.kept);
+    records(text, rows);
+    text.put(b"\n");
 }
 
 // ---- calls
@@ -311,99 +285,70 @@ fn state_line(room: &mut [u8; 2048], c: Connection, rows: [Record; 32]) -> usize
 #[derive(Clone, Copy)]
 pub struct Pair {
     pub conn: Connection,
-    pub rows: [Record; 32],
+    pub rows: [Record; MOST],
 }
 
-// What a call leaves, and how many bytes its line has.
-#[derive(Clone, Copy)]
-struct Played {
-    pair: Pair,
-    count: usize,
+impl Pair {
+    // The row that a line's call is lent: the kept one, or another of n free records.
+    fn lent(self, n: u64) -> [Record; MOST]
+        ensures { Lends self n result }
+    {
+        if n == KEPT as u64 {
+            self.rows
+        } else {
+            [record::free(); MOST]
+        }
+    }
+
+    // What the call leaves: of the row only if it was the kept one.
+    fn left(self, n: u64, conn: Connection, rows: [Record; MOST]) -> Pair
+        ensures { Leaves self n conn rows result }
+    {
+        if n == KEPT as u64 {
+            Pair { conn, rows }
+        } else {
+            Pair { conn, ..self }
+        }
+    }
 }
 
-fn started(room: &mut [u8; 2048], pair: Pair, n: u64) -> Played
-    requires { n ≤ 32 }
-    ensures { Lined (Starts pair n result.pair) room.old room.new result.count }
+fn started(text: &mut Text, pair: Pair, n: u64) -> Pair
+    requires { HasLine text.old × (n ≤ 32) }
+    ensures { Prints (Starts pair n result) text.old text.new }
 {
-    let conn = pair.conn;
-    let rows = pair.rows;
-    if n == 24 {
-        let b = faces::drive_start(conn, rows, 24);
-        let left = b.conn;
-        let kept = b.rows;
-        let count = start_line(room, b.number);
-        return Played {
-            pair: Pair {
-                conn: left,
-                rows: kept,
-            },
-            count,
-        };
-    }
-    let free = record::free();
-    let b = faces::drive_start(conn, [free; 32], n as usize);
-    let left = b.conn;
-    let count = start_line(room, b.number);
-    Played {
-        pair: Pair { conn: left, rows },
-        count,
-    }
+    let b = faces::drive_start(pair.conn, pair.lent(n), n as usize);
+    start_line(text, b.number);
+    pair.left(n, b.conn, b.rows)
 }
 
-// A call on one stream, lent the kept row or another of n free records.
+// A call on one stream.
 fn streamed(
-    room: &mut [u8; 2048],
+    text: &mut Text,
     pair: Pair,
     n: u64,
     call: Call,
     id: u64,
     allow: u64,
     piece: &[u8],
-) -> Played
-    requires { n ≤ 32 }
-    ensures { Lined (Steps pair n call id allow piece.now result.pair) room.old room.new result.count }
+) -> Pair
+    requires { HasLine text.old × (n ≤ 32) }
+    ensures { Prints (Steps pair n call id allow piece.now result) text.old text.new }
 {
-    let conn = pair.conn;
-    let rows = pair.rows;
-    if n == 24 {
-        let d = faces::drive(conn, rows, 24, call, id, allow, piece);
-        let left = d.conn;
-        let kept = d.rows;
-        let report = d.report;
-        let count = report_line(room, left, report);
-        return Played {
-            pair: Pair {
-                conn: left,
-                rows: kept,
-            },
-            count,
-        };
-    }
-    let free = record::free();
-    let d = faces::drive(conn, [free; 32], n as usize, call, id, allow, piece);
-    let left = d.conn;
-    let report = d.report;
-    let count = report_line(room, left, report);
-    Played {
-        pair: Pair { conn: left, rows },
-        count,
-    }
+    let d = faces::drive(pair.conn, pair.lent(n), n as usize, call, id, allow, piece);
+    report_line(text, d.conn, d.report);
+    pair.left(n, d.conn, d.rows)
 }
 
 // Our GOAWAY, into a buffer.
-fn told_goaway(room: &mut [u8; 2048], pair: Pair, id: u64, buffer: &mut [u8]) -> Played
-    requires { length buffer.old ≤ 64 }
-    ensures { Lined (Says pair id buffer.old result.pair) room.old room.new result.count }
+fn told_goaway(text: &mut Text, pair: Pair, id: u64, buffer: &mut [u8]) -> Pair
+    requires { HasLine text.old × (length buffer.old ≤ 64) }
+    ensures { Prints (Says pair id buffer.old result) text.old text.new }
 {
-    let conn = pair.conn;
-    let rows = pair.rows;
-    let gone = faces::drive_goaway(conn, id, buffer);
-    let left = gone.conn;
-    let w = gone.written;
-    let count = written_line(room, w.number, w.count, buffer);
-    Played {
-        pair: Pair { conn: left, rows },
-        count,
+    let gone = faces::drive_goaway(pair.conn, id, buffer);
+    written_line(text, gone.written.number, gone.written.count, buffer);
+    Pair {
+        conn: gone.conn,
+        ..pair
     }
 }
 
@@ -419,132 +364,114 @@ fn wrote(writing: Writing, a: u64, b: u64, buffer: &mut [u8]) -> Result<usize, H
     }
 }
 
-fn written(room: &mut [u8; 2048], writing: Writing, a: u64, b: u64, buffer: &mut [u8]) -> usize
-    requires { length buffer.old ≤ 64 }
-    ensures { Puts room.old 0 (write_line (write_of writing a b (length buffer.old)) buffer.old) 221 room.new result }
+fn written(text: &mut Text, writing: Writing, a: u64, b: u64, buffer: &mut [u8])
+    requires { HasLine text.old × (length buffer.old ≤ 64) }
+    ensures { Adds text.old (write_line (write_of writing a b (length buffer.old)) buffer.old) 221 text.new }
 {
     match wrote(writing, a, b, buffer) {
-        Err(refusal) => written_line(room, refusal.number(), 0, buffer),
-        Ok(count) => written_line(room, 0, count as u64, buffer),
+        Err(refusal) => written_line(text, refusal.number(), 0, buffer),
+        Ok(count) => written_line(text, 0, count as u64, buffer),
     }
 }
 
 // A buffer, filled so that it can be seen untouched.
-fn filled() -> [u8; 64]
+fn filled() -> [u8; BUFFER]
     ensures { result ≡ replicate 64 170 }
 {
-    [170u8; 64]
+    [170; BUFFER]
 }
 
 // A GOAWAY, and a write, into a buffer of the line's size.
-fn goaway(room: &mut [u8; 2048], pair: Pair, l: Line) -> Played
-    requires { (l.room ≤ 64) × (l.verb ≡ Verb.Goaway) }
-    ensures { Lined (Writes pair l result.pair) room.old room.new result.count }
+fn goaway(text: &mut Text, pair: Pair, l: Line) -> Pair
+    requires { HasLine text.old × (l.room ≤ 64) × (l.verb ≡ Verb.Goaway) }
+    ensures { Prints (Writes pair l result) text.old text.new }
 {
     let mut buffer = filled();
-    told_goaway(room, pair, l.a, &mut buffer[..l.room])
+    told_goaway(text, pair, l.a, &mut buffer[..l.room])
 }
 
-fn buffered(room: &mut [u8; 2048], pair: Pair, l: Line, writing: Writing) -> Played
-    requires { (l.room ≤ 64) × (l.verb ≡ Verb.Write writing) }
-    ensures { Lined (Writes pair l result.pair) room.old room.new result.count }
+fn buffered(text: &mut Text, pair: Pair, l: Line, writing: Writing)
+    requires { HasLine text.old × (l.room ≤ 64) × (l.verb ≡ Verb.Write writing) }
+    ensures { Prints (Writes pair l pair) text.old text.new }
 {
     let mut buffer = filled();
-    let count = written(room, writing, l.a, l.b, &mut buffer[..l.room]);
-    Played { pair, count }
+    written(text, writing, l.a, l.b, &mut buffer[..l.room]);
 }
 
-fn value(room: &mut [u8; 2048], bytes: &[u8]) -> usize
-    ensures { Puts room.old 0 (read_line (integer 0 bytes.now)) 54 room.new result }
+fn value(text: &mut Text, bytes: &[u8])
+    requires { HasLine text.old }
+    ensures { Adds text.old (read_line (integer 0 bytes.now)) 54 text.new }
 {
     match varint::read(bytes, 0) {
-        None => listing::put(room, 0, b"0 0 0 cut\n"),
-        Some(Whole { value: v, next }) => value_line(room, v, next as u64),
+        None => text.put(b"0 0 0 cut\n"),
+        Some(Whole { value: v, next }) => value_line(text, v, next as u64),
     }
 }
 
-// The call of a line.
-fn play(room: &mut [u8; 2048], pair: Pair, l: Line, piece: &[u8]) -> Played
-    requires { IfSome l.row (λ n. n ≤ 32) × (l.room ≤ 64) }
-    ensures { Lined (Plays pair l piece.now result.pair) room.old room.new result.count }
+// The call of a line, and what the pair is behind it.
+fn play(text: &mut Text, pair: Pair, l: Line, piece: &[u8]) -> Pair
+    requires { HasLine text.old × IfSome l.row (λ n. n ≤ 32) × (l.room ≤ 64) }
+    ensures { Prints (Plays pair l piece.now result) text.old text.new }
 {
-    let row = l.row.unwrap_or(24);
+    let row = l.row.unwrap_or(KEPT as u64);
     match l.verb {
-        Verb::Start => started(room, pair, row),
-        Verb::Open => streamed(room, pair, row, Call::Open, l.a, l.b, piece),
-        Verb::Feed => streamed(room, pair, row, Call::On(Own::Feed), l.a, l.b, piece),
-        Verb::Give => streamed(room, pair, row, Call::On(Own::Give), l.a, l.b, piece),
-        Verb::End => streamed(room, pair, row, Call::On(Own::End), l.a, l.b, piece),
-        Verb::Reset => streamed(room, pair, row, Call::On(Own::Reset), l.a, l.b, piece),
-        Verb::Value => Played {
-            pair,
-            count: value(room, piece),
-        },
-        Verb::State => Played {
-            pair,
-            count: state_line(room, pair.conn, pair.rows),
-        },
-        Verb::Goaway => goaway(room, pair, l),
-        Verb::Write(writing) => buffered(room, pair, l, writing),
+        Verb::Start => started(text, pair, row),
+        Verb::Open => streamed(text, pair, row, Call::Open, l.a, l.b, piece),
+        Verb::Feed => streamed(text, pair, row, Call::On(Own::Feed), l.a, l.b, piece),
+        Verb::Give => streamed(text, pair, row, Call::On(Own::Give), l.a, l.b, piece),
+        Verb::End => streamed(text, pair, row, Call::On(Own::End), l.a, l.b, piece),
+        Verb::Reset => streamed(text, pair, row, Call::On(Own::Reset), l.a, l.b, piece),
+        Verb::Value => {
+            value(text, piece);
+            pair
+        }
+        Verb::State => {
+            state_line(text, pair.conn, pair.rows);
+            pair
+        }
+        Verb::Goaway => goaway(text, pair, l),
+        Verb::Write(writing) => {
+            buffered(text, pair, l, writing);
+            pair
+        }
     }
 }
 
 // ---- the run
 
-// What a line leaves: the pair, the place of the next line, and how many bytes of the room are to be printed. on: whether the run goes on.
+// Where a run goes on: with the pair, at a place of the script.
 #[derive(Clone, Copy)]
 pub struct Step {
     pub pair: Pair,
     pub at: usize,
-    pub count: usize,
-    pub on: bool,
 }
 
-// A started pair.
-pub fn start() -> Pair {
-    let free = record::free();
-    let b = faces::drive_start(connection::fresh(), [free; 32], 24);
-    let conn = b.conn;
+// A started pair, at the start of the script.
+pub fn start() -> Step {
+    let b = faces::drive_start(connection::fresh(), [record::free(); MOST], KEPT);
     let rows = b.rows;
-    Pair { conn, rows }
+    let pair = Pair { conn: b.conn, rows };
+    Step { pair, at: 0 }
 }
 
-// The line at a place of the script: its call is made, and what it prints is at the start of the room.
-pub fn next(script: &[u8], at: usize, pair: Pair, scratch: &mut [u8], room: &mut [u8; 2048]) -> Step
-    ensures { StepAt script.now at pair scratch.old room.old result scratch.new room.new }
+// The line at a place of the script: its call is made, and what it prints takes the text's place. The last line leads nowhere.
+pub fn next(script: &[u8], step: Step, scratch: &mut [u8], text: &mut Text) -> Option<Step>
+    ensures { StepAt script.now step scratch.old text.old.room result scratch.new text.new }
 {
-    if 1048576 < script.len() {
-        let count = listing::put(room, 0, b"too long\n");
-        return Step {
-            pair,
-            at,
-            count,
-            on: false,
-        };
+    text.clear();
+    if LIMIT < script.len() {
+        text.put(b"too long\n");
+        return None;
     }
-    if script.len() <= at {
-        return Step {
-            pair,
-            at,
-            count: 0,
-            on: false,
-        };
+    if script.len() <= step.at {
+        return None;
     }
-    let Some(l) = script::line_at(script, at, scratch) else {
-        let count = listing::put(room, 0, b"bad line\n");
-        return Step {
-            pair,
-            at,
-            count,
-            on: false,
-        };
+    let Some(l) = script::line_at(script, step.at, scratch) else {
+        text.put(b"bad line\n");
+        return None;
     };
-    let played = play(room, pair, l, &scratch[..l.count]);
-    let left = played.pair;
-    Step {
-        pair: left,
+    Some(Step {
+        pair: play(text, step.pair, l, &scratch[..l.count]),
         at: l.next,
-        count: played.count,
-        on: true,
-    }
+    })
 }

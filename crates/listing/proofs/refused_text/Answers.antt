@@ -5,12 +5,12 @@ use Rattle.listing.specs.Put.{short, spaced_short, put_refused}
 use borrow.Author.Rules.{rules}
 use Rattle.listing.proofs.refused_text.Goals as goal
 
-pub put_decimal-end-requires : goal.put_decimal-end-requires
-put_decimal-end-requires c = let a = c.args in omega (arith, c.put-second.ensures.next, c.put_spaced-last.ensures.next, spaced_short a.bytes (search rules), short a.code (search rules))
+pub put_decimal-requires : goal.put_decimal-requires
+put_decimal-requires c = let a = c.args in omega (arith, spaced_short a.bytes (search rules), short a.code (search rules))
 
-pub put-requires : goal.put-requires
-put-requires c = let a = c.args in omega (arith, c.put-second.ensures.next, c.put_spaced-last.ensures.next, spaced_short a.bytes (search rules), short a.code (search rules), c.put_decimal-end.ensures.next)
+pub put-requires-2 : goal.put-requires-2
+put-requires-2 c = let a = c.args in omega (arith, spaced_short a.bytes (search rules), short a.code (search rules))
 
 pub returns : goal.returns
 unfolding ascii
-returns c = let a = c.args in put_refused a.bytes a.code c.put-second.ensures c.put_spaced-last.ensures c.put_decimal-end.ensures c.put.ensures
+returns c = let a = c.args in put_refused a.bytes a.code c.put.ensures c.put_spaced.ensures c.put_decimal.ensures c.put-2.ensures

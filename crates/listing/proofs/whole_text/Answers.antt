@@ -5,9 +5,9 @@ use Rattle.listing.specs.Put.{spaced_short, put_whole}
 use borrow.Author.Rules.{rules}
 use Rattle.listing.proofs.whole_text.Goals as goal
 
-pub put-requires : goal.put-requires
-put-requires c = let a = c.args in omega (arith, c.put-second.ensures.next, c.put_spaced-last.ensures.next, spaced_short a.total (search rules))
+pub put-requires-2 : goal.put-requires-2
+put-requires-2 c = omega (arith, spaced_short c.args.total (search rules))
 
 pub returns : goal.returns
 unfolding ascii
-returns c = let a = c.args in put_whole a.total c.put-second.ensures c.put_spaced-last.ensures c.put.ensures
+returns c = put_whole c.args.total c.put.ensures c.put_spaced.ensures c.put-2.ensures

@@ -1,9 +1,6 @@
--- `play` ends: each line that leads on leaves less of the script; the room stays as large. Assumes nothing.
-use Rattle.std.proofs.Common.{length, ◌-◌, ◌≡◌}
+-- `play` ends: each line that leads on leaves less of the script. Assumes nothing.
+use Rattle.replaying.specs.Runs.{to_come}
 use Rattle.replay.proofs.play.Given as goal
 
-abbrev pub invariant-loop-left : goal.invariant-loop-left
-invariant-loop-left g l = length l.room ≡ 2048
-
-abbrev pub decreases-loop-left : goal.decreases-loop-left
-decreases-loop-left g l = length l.script - l.at
+abbrev pub decreases-loop-next : goal.decreases-loop-next
+decreases-loop-next g l = to_come l.script l.next

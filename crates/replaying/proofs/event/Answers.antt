@@ -2,46 +2,46 @@
 use native.Mathlib.Omega.{arith}
 use Rattle.rules.specs.Text.{ascii}
 use Rattle.replaying.specs.Puts.{puts_word, more, then_puts}
-use borrow.Author.Tests.{eq-eqb, ne_eqb}
+use borrow.Author.Tests.{ne_eqb}
 use Rattle.replaying.specs.Lines.{event_text, pick}
 use Rattle.replaying.proofs.event.Goals as goal
 
-pub returns-then-r-eq-CONTENT : goal.returns-then-r-eq-CONTENT
+pub returns-in-1 : goal.returns-in-1
 unfolding event_text pick ascii
-returns-then-r-eq-CONTENT c = simp (eq-eqb _ _ c.if-r-eq-CONTENT.true) (more c.part.ensures (omega arith))
+returns-in-1 c = rw c.in-1.is (more c.part.ensures (omega arith))
 
-pub returns-then-r-eq-SECTION : goal.returns-then-r-eq-SECTION
+pub returns-in-2 : goal.returns-in-2
 unfolding event_text pick ascii
-returns-then-r-eq-SECTION c = simp (ne_eqb _ _ c.if-r-eq-CONTENT.false, eq-eqb _ _ c.if-r-eq-SECTION.true) (more (then_puts c.part-a.ensures (puts_word c.put.ensures)) (omega arith))
+returns-in-2 c = rw c.in-2.is (more (then_puts c.part-in-2.ensures (puts_word c.put.ensures)) (omega arith))
 
-pub returns-then-r-eq-SECTION_END : goal.returns-then-r-eq-SECTION_END
+pub returns-in-3 : goal.returns-in-3
 unfolding event_text pick ascii
-returns-then-r-eq-SECTION_END c = simp (ne_eqb _ _ c.if-r-eq-CONTENT.false, ne_eqb _ _ c.if-r-eq-SECTION.false, eq-eqb _ _ c.if-r-eq-SECTION_END.true) (more (then_puts c.part-a-then-r-eq-SECTION_END.ensures (puts_word c.put-then-r-eq-SECTION_END.ensures)) (omega arith))
+returns-in-3 c = rw c.in-3.is (more (then_puts c.part-in-3.ensures (puts_word c.put-in-3.ensures)) (omega arith))
 
-pub returns-then-r-eq-QPACK : goal.returns-then-r-eq-QPACK
+pub returns-in-7 : goal.returns-in-7
 unfolding event_text pick ascii
-returns-then-r-eq-QPACK c = simp (ne_eqb _ _ c.if-r-eq-CONTENT.false, ne_eqb _ _ c.if-r-eq-SECTION.false, ne_eqb _ _ c.if-r-eq-SECTION_END.false, eq-eqb _ _ c.if-r-eq-QPACK.true) (more (then_puts c.part-a-then-r-eq-QPACK.ensures c.spaced.ensures) (omega arith))
+returns-in-7 c = rw c.in-7.is (more (then_puts c.part-in-7.ensures c.spaced.ensures) (omega arith))
 
-pub returns-then-r-eq-SETTINGS : goal.returns-then-r-eq-SETTINGS
+pub returns-in-8 : goal.returns-in-8
 unfolding event_text pick ascii
-returns-then-r-eq-SETTINGS c = simp (ne_eqb _ _ c.if-r-eq-CONTENT.false, ne_eqb _ _ c.if-r-eq-SECTION.false, ne_eqb _ _ c.if-r-eq-SECTION_END.false, ne_eqb _ _ c.if-r-eq-QPACK.false, eq-eqb _ _ c.if-r-eq-SETTINGS.true) (more (then_puts (puts_word c.put-a.ensures) c.settings.ensures) (omega arith))
+returns-in-8 c = rw c.in-8.is (more (then_puts (puts_word c.put-in-8.ensures) c.settings.ensures) (omega arith))
 
-pub returns-then-r-eq-GOAWAY : goal.returns-then-r-eq-GOAWAY
+pub returns-in-9 : goal.returns-in-9
 unfolding event_text pick ascii
-returns-then-r-eq-GOAWAY c = simp (ne_eqb _ _ c.if-r-eq-CONTENT.false, ne_eqb _ _ c.if-r-eq-SECTION.false, ne_eqb _ _ c.if-r-eq-SECTION_END.false, ne_eqb _ _ c.if-r-eq-QPACK.false, ne_eqb _ _ c.if-r-eq-SETTINGS.false, eq-eqb _ _ c.if-r-eq-GOAWAY.true) (more (then_puts (puts_word c.put-a-then-r-eq-GOAWAY.ensures) c.spaced-then-r-eq-GOAWAY.ensures) (omega arith))
+returns-in-9 c = rw c.in-9.is (more (then_puts (puts_word c.put-in-9.ensures) c.spaced-in-9.ensures) (omega arith))
 
-pub returns-then-r-eq-MAX_PUSH_ID : goal.returns-then-r-eq-MAX_PUSH_ID
+pub returns-in-10 : goal.returns-in-10
 unfolding event_text pick ascii
-returns-then-r-eq-MAX_PUSH_ID c = simp (ne_eqb _ _ c.if-r-eq-CONTENT.false, ne_eqb _ _ c.if-r-eq-SECTION.false, ne_eqb _ _ c.if-r-eq-SECTION_END.false, ne_eqb _ _ c.if-r-eq-QPACK.false, ne_eqb _ _ c.if-r-eq-SETTINGS.false, ne_eqb _ _ c.if-r-eq-GOAWAY.false, eq-eqb _ _ c.if-r-eq-MAX_PUSH_ID.true) (more (then_puts (puts_word c.put-a-then-r-eq-MAX_PUSH_ID.ensures) c.spaced-then-r-eq-MAX_PUSH_ID.ensures) (omega arith))
+returns-in-10 c = rw c.in-10.is (more (then_puts (puts_word c.put-in-10.ensures) c.spaced-in-10.ensures) (omega arith))
 
-pub returns-then-r-eq-WHOLE : goal.returns-then-r-eq-WHOLE
+pub returns-in-11 : goal.returns-in-11
 unfolding event_text pick ascii
-returns-then-r-eq-WHOLE c = simp (ne_eqb _ _ c.if-r-eq-CONTENT.false, ne_eqb _ _ c.if-r-eq-SECTION.false, ne_eqb _ _ c.if-r-eq-SECTION_END.false, ne_eqb _ _ c.if-r-eq-QPACK.false, ne_eqb _ _ c.if-r-eq-SETTINGS.false, ne_eqb _ _ c.if-r-eq-GOAWAY.false, ne_eqb _ _ c.if-r-eq-MAX_PUSH_ID.false, eq-eqb _ _ c.if-r-eq-WHOLE.true) (more (puts_word c.put-then-r-eq-WHOLE.ensures) (omega arith))
+returns-in-11 c = rw c.in-11.is (more (puts_word c.put-in-11.ensures) (omega arith))
 
-pub returns-then-r-eq-FREED : goal.returns-then-r-eq-FREED
+pub returns-in-12 : goal.returns-in-12
 unfolding event_text pick ascii
-returns-then-r-eq-FREED c = simp (ne_eqb _ _ c.if-r-eq-CONTENT.false, ne_eqb _ _ c.if-r-eq-SECTION.false, ne_eqb _ _ c.if-r-eq-SECTION_END.false, ne_eqb _ _ c.if-r-eq-QPACK.false, ne_eqb _ _ c.if-r-eq-SETTINGS.false, ne_eqb _ _ c.if-r-eq-GOAWAY.false, ne_eqb _ _ c.if-r-eq-MAX_PUSH_ID.false, ne_eqb _ _ c.if-r-eq-WHOLE.false, eq-eqb _ _ c.if-r-eq-FREED.true) (more (puts_word c.put-then-r-eq-FREED.ensures) (omega arith))
+returns-in-12 c = rw c.in-12.is (more (puts_word c.put-in-12.ensures) (omega arith))
 
-pub returns : goal.returns
+pub returns-in_default : goal.returns-in_default
 unfolding event_text pick ascii
-returns c = simp (ne_eqb _ _ c.if-r-eq-CONTENT.false, ne_eqb _ _ c.if-r-eq-SECTION.false, ne_eqb _ _ c.if-r-eq-SECTION_END.false, ne_eqb _ _ c.if-r-eq-QPACK.false, ne_eqb _ _ c.if-r-eq-SETTINGS.false, ne_eqb _ _ c.if-r-eq-GOAWAY.false, ne_eqb _ _ c.if-r-eq-MAX_PUSH_ID.false, ne_eqb _ _ c.if-r-eq-WHOLE.false, ne_eqb _ _ c.if-r-eq-FREED.false) (more (puts_word c.put-2.ensures) (omega arith))
+returns-in_default c = let r = c.args.r in simp (ne_eqb r.event 1 (λ e. omega arith), ne_eqb r.event 2 (λ e. omega arith), ne_eqb r.event 3 (λ e. omega arith), ne_eqb r.event 7 (λ e. omega arith), ne_eqb r.event 8 (λ e. omega arith), ne_eqb r.event 9 (λ e. omega arith), ne_eqb r.event 10 (λ e. omega arith), ne_eqb r.event 11 (λ e. omega arith), ne_eqb r.event 12 (λ e. omega arith)) (more (puts_word c.put-in_default.ensures) (omega arith))

@@ -6,4 +6,4 @@ use Rattle.replaying.proofs.head.Goals as goal
 
 pub returns : goal.returns
 unfolding head_text ascii
-returns c = then_puts (then_puts (then_puts c.number-a.ensures c.spaced-b.ensures) c.spaced-c.ensures) (puts_word c.put.ensures)
+returns c = then_puts (then_puts (then_puts c.number.ensures (c.spaced.ensures)) (c.spaced-2.ensures)) (puts_word c.put.ensures)

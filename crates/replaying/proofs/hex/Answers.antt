@@ -8,6 +8,6 @@ pub returns-then-n-lt10 : goal.returns-then-n-lt10
 unfolding hex_digit
 returns-then-n-lt10 c = let e = lt-ltb _ _ c.if-n-lt10.true in rw (e, hex_digit) (omega arith)
 
-pub returns : goal.returns
+pub returns-else-n-lt10 : goal.returns-else-n-lt10
 unfolding hex_digit
-returns c = let e = le-ltb _ _ c.if-n-lt10.false in rw (e, hex_digit) (omega arith)
+returns-else-n-lt10 c = let e = le-ltb _ _ c.if-n-lt10.false in rw (e, hex_digit) (omega arith)

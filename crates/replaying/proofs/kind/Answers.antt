@@ -1,30 +1,31 @@
 -- `replaying::kind` meets its contract: a word for each kind. Assumes nothing.
+use native.Mathlib.Omega.{arith}
 use Rattle.rules.specs.Text.{ascii}
 use Rattle.replaying.specs.Puts.{puts_word}
-use borrow.Author.Tests.{eq-eqb, ne_eqb}
+use borrow.Author.Tests.{ne_eqb}
 use Rattle.replaying.specs.Lines.{kind_text, pick}
 use Rattle.replaying.proofs.kind.Goals as goal
 
-pub returns-then-k-eq-REQUEST : goal.returns-then-k-eq-REQUEST
+pub returns-in-1 : goal.returns-in-1
 unfolding kind_text pick ascii
-returns-then-k-eq-REQUEST c = simp (eq-eqb _ _ c.if-k-eq-REQUEST.true) (puts_word c.put.ensures)
+returns-in-1 c = rw (← c.from.ensures, c.in-1.is) (puts_word c.put.ensures)
 
-pub returns-then-k-eq-UNTYPED : goal.returns-then-k-eq-UNTYPED
+pub returns-in-2 : goal.returns-in-2
 unfolding kind_text pick ascii
-returns-then-k-eq-UNTYPED c = simp (ne_eqb _ _ c.if-k-eq-REQUEST.false, eq-eqb _ _ c.if-k-eq-UNTYPED.true) (puts_word c.put-then-k-eq-UNTYPED.ensures)
+returns-in-2 c = rw (← c.from.ensures, c.in-2.is) (puts_word c.put-in-2.ensures)
 
-pub returns-then-k-eq-CONTROL : goal.returns-then-k-eq-CONTROL
+pub returns-in-3 : goal.returns-in-3
 unfolding kind_text pick ascii
-returns-then-k-eq-CONTROL c = simp (ne_eqb _ _ c.if-k-eq-REQUEST.false, ne_eqb _ _ c.if-k-eq-UNTYPED.false, eq-eqb _ _ c.if-k-eq-CONTROL.true) (puts_word c.put-then-k-eq-CONTROL.ensures)
+returns-in-3 c = rw (← c.from.ensures, c.in-3.is) (puts_word c.put-in-3.ensures)
 
-pub returns-then-k-eq-ENCODER : goal.returns-then-k-eq-ENCODER
+pub returns-in-4 : goal.returns-in-4
 unfolding kind_text pick ascii
-returns-then-k-eq-ENCODER c = simp (ne_eqb _ _ c.if-k-eq-REQUEST.false, ne_eqb _ _ c.if-k-eq-UNTYPED.false, ne_eqb _ _ c.if-k-eq-CONTROL.false, eq-eqb _ _ c.if-k-eq-ENCODER.true) (puts_word c.put-then-k-eq-ENCODER.ensures)
+returns-in-4 c = rw (← c.from.ensures, c.in-4.is) (puts_word c.put-in-4.ensures)
 
-pub returns-then-k-eq-DECODER : goal.returns-then-k-eq-DECODER
+pub returns-in-5 : goal.returns-in-5
 unfolding kind_text pick ascii
-returns-then-k-eq-DECODER c = simp (ne_eqb _ _ c.if-k-eq-REQUEST.false, ne_eqb _ _ c.if-k-eq-UNTYPED.false, ne_eqb _ _ c.if-k-eq-CONTROL.false, ne_eqb _ _ c.if-k-eq-ENCODER.false, eq-eqb _ _ c.if-k-eq-DECODER.true) (puts_word c.put-then-k-eq-DECODER.ensures)
+returns-in-5 c = rw (← c.from.ensures, c.in-5.is) (puts_word c.put-in-5.ensures)
 
-pub returns : goal.returns
+pub returns-in_default : goal.returns-in_default
 unfolding kind_text pick ascii
-returns c = simp (ne_eqb _ _ c.if-k-eq-REQUEST.false, ne_eqb _ _ c.if-k-eq-UNTYPED.false, ne_eqb _ _ c.if-k-eq-CONTROL.false, ne_eqb _ _ c.if-k-eq-ENCODER.false, ne_eqb _ _ c.if-k-eq-DECODER.false) (puts_word c.put-2.ensures)
+returns-in_default c = let k = c.args.kind in simp (ne_eqb k 1 (λ e. omega arith), ne_eqb k 2 (λ e. omega arith), ne_eqb k 3 (λ e. omega arith), ne_eqb k 4 (λ e. omega arith), ne_eqb k 5 (λ e. omega arith)) (puts_word c.put-in_default.ensures)

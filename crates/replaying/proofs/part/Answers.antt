@@ -4,4 +4,4 @@ use Rattle.replaying.specs.Puts.{puts_word, more, then_puts}
 use Rattle.replaying.proofs.part.Goals as goal
 
 pub returns : goal.returns
-returns c = more (then_puts (then_puts (puts_word c.put-c.ensures) c.spaced-d.ensures) c.spaced.ensures) (omega (arith, c.requires.0))
+returns c = more (then_puts (then_puts (puts_word c.put.ensures) c.spaced.ensures) c.spaced-2.ensures) (omega (arith, c.requires.0))

@@ -20,5 +20,8 @@ returns-in-End c = told (λ t s. ends c.in-End.is s) (rw c.unwrap_or-row.ensures
 pub returns-in-Reset : goal.returns-in-Reset
 returns-in-Reset c = told (λ t s. resets c.in-Reset.is s) (rw c.unwrap_or-row.ensures at c.streamed-in-Reset.ensures)
 
+pub returns-in-Goaway : goal.returns-in-Goaway
+returns-in-Goaway c = told (λ t s. writes s) c.goaway.ensures
+
 pub returns-in-Write : goal.returns-in-Write
 returns-in-Write c = told (λ t s. writes s) c.buffered.ensures

@@ -12,4 +12,4 @@ returns-then-r-eq-FREE_KIND c = simp (eq-eqb _ _ c.if-r-eq-FREE_KIND.true) (more
 
 pub returns : goal.returns
 unfolding record_text pick ascii
-returns c = let w = c.wide.ensures in simp (ne_eqb _ _ c.if-r-eq-FREE_KIND.false) (then_puts (then_puts (then_puts (then_puts (then_puts c.spaced-a.ensures (puts_word c.put-b.ensures)) c.number-c.ensures) (puts_word c.put-d.ensures)) (rw w at c.kind-e.ensures)) c.due.ensures)
+returns c = simp (ne_eqb _ _ c.if-r-eq-FREE_KIND.false) (then_puts (then_puts (then_puts (then_puts (then_puts c.spaced.ensures (puts_word c.put.ensures)) (c.number.ensures)) (puts_word c.put-2.ensures)) (c.kind.ensures)) (c.due.ensures))

@@ -6,4 +6,4 @@ use Rattle.replaying.proofs.spaced.Goals as goal
 
 pub returns : goal.returns
 unfolding blank ascii
-returns c = then_puts (puts_word c.put-at.ensures) c.number.ensures
+returns c = then_puts ((puts_word c.put.ensures)) (c.number.ensures)

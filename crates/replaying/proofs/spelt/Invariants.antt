@@ -1,12 +1,9 @@
 -- `replaying::spelt` meets its contract: the invariant is the text of the bytes so far. Assumes nothing.
-use Prim.Native.Nat.{◌*◌, ◌≤◌, ◌-◌}
-use lib.ListN.{length, take}
+use Prim.Native.Nat.{◌*◌}
+use lib.ListN.{take}
 use Rattle.script.specs.Words.{hexes}
-use Rattle.replaying.specs.Puts.{Puts}
+use Rattle.replaying.specs.Puts.{Adds}
 use Rattle.replaying.proofs.spelt.Given as goal
 
-abbrev pub invariant-loop-i : goal.invariant-loop-i
-invariant-loop-i l = (l.i ≤ length l.bytes) × Puts l.initial.room l.to (hexes (take l.i l.bytes)) (2 * l.i) l.room l.at
-
-abbrev pub decreases-loop-i : goal.decreases-loop-i
-decreases-loop-i l = length l.bytes - l.i
+abbrev pub invariant-loop-b : goal.invariant-loop-b
+invariant-loop-b l = Adds l.initial.text (hexes (take l.b-index l.bytes)) (2 * l.b-index) l.text

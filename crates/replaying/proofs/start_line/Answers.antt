@@ -6,4 +6,4 @@ use Rattle.replaying.proofs.start_line.Goals as goal
 
 pub returns : goal.returns
 unfolding start_line ascii
-returns c = then_puts c.head-a.ensures (puts_word c.put.ensures)
+returns c = then_puts c.head.ensures (puts_word c.put.ensures)

@@ -6,4 +6,4 @@ use Rattle.replaying.proofs.value_line.Goals as goal
 
 pub returns : goal.returns
 unfolding value_line ascii
-returns c = then_puts (then_puts (then_puts (puts_word c.put-a.ensures) c.spaced-b.ensures) c.spaced-c.ensures) (puts_word c.put.ensures)
+returns c = then_puts (then_puts (then_puts ((puts_word c.put.ensures)) (c.spaced.ensures)) (c.spaced-2.ensures)) (puts_word c.put-2.ensures)

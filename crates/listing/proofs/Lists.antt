@@ -21,8 +21,10 @@ use Rattle.meaning.specs.RequestLaws.{RuleView, r_skipped, r_content, r_header, 
 use Rattle.meaning.specs.FrameLaws.{head, View, cut_type, cut_length, cut_payload, a_frame, view, enough}
 use Rattle.listing.specs.Listing.{Entry, heading, refused, too_long, frame_of, last_of, entries_of, reading, limit, listing}
 use Rattle.listing.specs.Listing as lister
-use Rattle.listing.specs.Lines.{place, first, message_of, after, usage_of, use_of, line_of, ruled_line, end_of, end_line, line_in, entry_of, behind as what-follows, with_rest, lines_from}
+use Rattle.listing.specs.Lines.{phase_number, place, first, message_of, after, usage_of, use_of, line_of, ruled_line, end_of, end_line, line_in, entry_of, behind as what-follows, with_rest, lines_from}
 use Rattle.listing.specs.At.{frames_none, line_too_long, line_heading, line_cut_payload, inside}
+use Rattle.std.specs.Prelude.{Some}
+use Rattle.listing.specs.declared.Phase.TheVariants.{Opening}
 use Rattle.listing.specs.declared.Place.{Place}
 use Rattle.frames.specs.Modes.{TRAILED}
 
@@ -81,10 +83,10 @@ module _ (R : Rules) (a b : Section) (others : List Section) (head-sound : R.hea
   -- ---- a complete payload
 
   record Behind (u : Use) (q : Message) (payload : List ℕ) (m : Message) (to : ℕ) (p : Place) : Type 0 where
-    goes_on : completed (request R) u q payload (left m) ≡ on (message_of p.phase p.sum) (left (message_of p.phase p.sum)) []
+    goes_on : completed (request R) u q payload (left m) ≡ on (message_of (phase_number p.phase) p.sum) (left (message_of (phase_number p.phase) p.sum)) []
     same_use : use_of (usage_of u) ≡ u
     at_end : p.at ≡ to
-    listed : p.phase ≤ TRAILED
+    listed : phase_number p.phase ≤ TRAILED
 
   -- DATA goes on only behind the header section
   carried : (phase sum len : ℕ) {m q : Message} {s : Step} → message_of phase sum ≡ m → CarryView len m s → s ≡ goes q
@@ -113,32 +115,32 @@ module _ (R : Rules) (a b : Section) (others : List Section) (head-sound : R.hea
   trailers_on (suc zero) sum {stated} {n} e = let i : none ≡ stated = cc in let j : sum ≡ n = cc in rw (i, j) refl
   trailers_on (suc (suc k)) sum e = let z : ◌≡◌ {A = ℕ} 0 1 = cc in absurd (omega arith)
 
-  behind : (t len : ℕ) {m q : Message} {u : Use} (payload : List ℕ) (to : ℕ) (p : Place) → p.phase ≤ TRAILED → message_of p.phase p.sum ≡ m → RuleView t len m (accept u q)
+  behind : (t len : ℕ) {m q : Message} {u : Use} (payload : List ℕ) (to : ℕ) (p : Place) → phase_number p.phase ≤ TRAILED → message_of (phase_number p.phase) p.sum ≡ m → RuleView t len m (accept u q)
       → Behind u q payload m to (after u to len p)
   unfolding completed after use_of usage_of message_of
   behind t len payload to p h e (r_skipped n) = record { goes_on = rw e refl; same_use = refl; at_end = refl; listed = h }
   behind t len {m = m} payload to p h e (r_content z c) =
-      let k = carried p.phase p.sum len e (carry_view len m) c in
+      let k = carried (phase_number p.phase) p.sum len e (carry_view len m) c in
       let i = k.0 in
       let j = k.1 in
       record { goes_on = rw (i, j) refl; same_use = refl; at_end = refl; listed = h }
   behind t len payload to p h e (r_header z l) = record { goes_on = behind_header payload; same_use = refl; at_end = refl; listed = omega arith }
   behind t len payload to p h e (r_trailers {stated = st} {sum = n} z l) =
-      record { goes_on = behind_trailers st n payload ∙ rw (trailers_on p.phase p.sum e) refl; same_use = refl; at_end = refl; listed = omega arith }
+      record { goes_on = behind_trailers st n payload ∙ rw (trailers_on (phase_number p.phase) p.sum e) refl; same_use = refl; at_end = refl; listed = omega arith }
 
   -- ---- the line at a place, and what the rules say from there
 
-  module _ (total : ℕ) (p : Place) (listed : p.phase ≤ TRAILED) (rest : Place → List Entry) where
+  module _ (total : ℕ) (p : Place) (listed : phase_number p.phase ≤ TRAILED) (rest : Place → List Entry) where
     end_line_lem : (e : End) → with_rest rest (end_of total e) ≡ entries_of total (ending (ended e total))
     unfolding entry_of what-follows end_of entries_of ended accepted last_of
     end_line_lem complete = refl
     end_line_lem (lacking code) = refl
 
-    line_none : with_rest rest (line_in total p no_more) ≡ says total (message_of p.phase p.sum) no_more
+    line_none : with_rest rest (line_in total p no_more) ≡ says total (message_of (phase_number p.phase) p.sum) no_more
     unfolding line_in end_line judge
-    line_none = end_line_lem (end_of_ended (ends (message_of p.phase p.sum)))
+    line_none = end_line_lem (end_of_ended (ends (message_of (phase_number p.phase) p.sum)))
 
-    line_in_header : with_rest rest (line_in total p in_header) ≡ says total (message_of p.phase p.sum) in_header
+    line_in_header : with_rest rest (line_in total p in_header) ≡ says total (message_of (phase_number p.phase) p.sum) in_header
     unfolding line_in judge entry_of what-follows entries_of accepted last_of
     line_in_header = refl
 
@@ -154,9 +156,9 @@ module _ (R : Rules) (a b : Section) (others : List Section) (head-sound : R.hea
       accepted-line u q bytes r e f = ap (λ x. lister.frame at t len x ∷ rest (after u (from + len) len p)) e ∙ ap (λ x. lister.frame at t len u ∷ x) f ∙ sym (entries_frame total (head at from t len) u bytes r)
 
       abbrev m : Message
-      m = message_of p.phase p.sum
+      m = message_of (phase_number p.phase) p.sum
 
-      cut_line : (part : List ℕ) → ((next : Place) → next.at ≡ from + len → next.phase ≤ TRAILED → rest next ≡ refused total FRAME-ERROR ∷ [])
+      cut_line : (part : List ℕ) → ((next : Place) → next.at ≡ from + len → phase_number next.phase ≤ TRAILED → rest next ≡ refused total FRAME-ERROR ∷ [])
           → (r : Ruling Message) → RuleView t len m r
           → with_rest rest (line_of p (head at from t len) r) ≡ entries_of total (elim r [
             | refuse code ↦ put (rules.refused (head at from t len) ∷ []) (ending (fault code from))
@@ -168,12 +170,12 @@ module _ (R : Rules) (a b : Section) (others : List Section) (head-sound : R.hea
           let k = behind t len part (from + len) p listed refl v in
           accepted-line u q part (ending (fault (of_connection frame_error) total)) k.same_use (ih (after u (from + len) len p) k.at_end k.listed)
 
-      line-in-payload : (part : List ℕ) → ((next : Place) → next.at ≡ from + len → next.phase ≤ TRAILED → rest next ≡ refused total FRAME-ERROR ∷ [])
+      line-in-payload : (part : List ℕ) → ((next : Place) → next.at ≡ from + len → phase_number next.phase ≤ TRAILED → rest next ≡ refused total FRAME-ERROR ∷ [])
           → with_rest rest (line_in total p (in_payload (head at from t len) part)) ≡ says total m (in_payload (head at from t len) part)
       unfolding line_in ruled_line judge
       line-in-payload part ih = cut_line part ih (rule m t len) (rule_view m t len)
 
-      module _ (payload : List ℕ) (fs : Frames) (ih : (next : Place) → next.at ≡ from + len → next.phase ≤ TRAILED → rest next ≡ says total (message_of next.phase next.sum) fs) where
+      module _ (payload : List ℕ) (fs : Frames) (ih : (next : Place) → next.at ≡ from + len → phase_number next.phase ≤ TRAILED → rest next ≡ says total (message_of (phase_number next.phase) next.sum) fs) where
         abbrev onward : Onward Message → Reading
         onward o = elim o [
           | rules.Onward.stops code ↦ ending (fault code (from + len))
@@ -207,12 +209,12 @@ module _ (R : Rules) (a b : Section) (others : List Section) (head-sound : R.hea
     total = length s
 
     record Read (most : ℕ) (p : Place) : Type 0 where
-      within : p.at ≤ total → lines_from most s p ≡ says total (message_of p.phase p.sum) (frames_from p.at (drop p.at s))
+      within : p.at ≤ total → lines_from most s p ≡ says total (message_of (phase_number p.phase) p.sum) (frames_from p.at (drop p.at s))
       beyond : total < p.at → lines_from most s p ≡ refused total FRAME-ERROR ∷ []
 
-    module _ (k : ℕ) (read_on : (p : Place) → p.phase ≤ TRAILED → 0 < k → total < k + p.at → Read k p) (p : Place) (listed : p.phase ≤ TRAILED) where
+    module _ (k : ℕ) (read_on : (p : Place) → phase_number p.phase ≤ TRAILED → 0 < k → total < k + p.at → Read k p) (p : Place) (listed : phase_number p.phase ≤ TRAILED) where
       lines-view : (b : ℕ) (bs : List ℕ) → drop p.at s ≡ b ∷ bs → p.at + length (b ∷ bs) ≡ total → total ≤ k + p.at → {fs : Frames} → View (length bs) p.at (b ∷ bs) fs
-          → with_rest (lines_from k s) (line_in total p fs) ≡ says total (message_of p.phase p.sum) fs
+          → with_rest (lines_from k s) (line_in total p fs) ≡ says total (message_of (phase_number p.phase) p.sum) fs
       lines-view b bs d n l (cut_type e) = line_in_header total p listed (lines_from k s)
       lines-view b bs d n l (cut_length e f) = line_in_header total p listed (lines_from k s)
       lines-view b bs d n l (cut_payload {t = t} {here = here} {len = len} {from = from} {rest = rest} {pay = pay} e f c) =
@@ -227,15 +229,15 @@ module _ (R : Rules) (a b : Section) (others : List Section) (head-sound : R.hea
           let on-there : drop len pay ≡ drop (from + len) s = drop_on s p.at (ap (integer p.at) d ∙ e) f in
           let same = frames_same (length bs) (from + len) (drop len pay) on-there (omega arith) in
           line_frame total p listed (lines_from k s) p.at from t len (take len pay) (frames_up_to (length bs) (from + len) (drop len pay))
-          (λ next a g. (read_on next g (omega arith) (omega arith)).within (omega arith) ∙ ap (λ x. says total (message_of next.phase next.sum) (frames_from x (drop x s))) a ∙ ap (says total (message_of next.phase next.sum)) same)
+          (λ next a g. (read_on next g (omega arith) (omega arith)).within (omega arith) ∙ ap (λ x. says total (message_of (phase_number next.phase) next.sum) (frames_from x (drop x s))) a ∙ ap (says total (message_of (phase_number next.phase) next.sum)) same)
 
       lines-in : (bs : List ℕ) → drop p.at s ≡ bs → p.at + length bs ≡ total → total ≤ k + p.at
-          → with_rest (lines_from k s) (line_in total p (frames_from p.at bs)) ≡ says total (message_of p.phase p.sum) (frames_from p.at bs)
+          → with_rest (lines_from k s) (line_in total p (frames_from p.at bs)) ≡ says total (message_of (phase_number p.phase) p.sum) (frames_from p.at bs)
       unfolding frames_from
       lines-in [] d n l = rw (frames_none p.at [] (omega arith)) (line_none total p listed (lines_from k s))
       lines-in (b ∷ bs) d n l = lines-view b bs d n l (view (length bs) p.at b bs)
 
-    lines : (most : ℕ) (p : Place) → p.phase ≤ TRAILED → 0 < most → total < most + p.at → Read most p
+    lines : (most : ℕ) (p : Place) → phase_number p.phase ≤ TRAILED → 0 < most → total < most + p.at → Read most p
     unfolding lines_from entry_of what-follows
     lines zero p h k l = absurd (omega arith)
     lines (suc k) p h z l = record {
@@ -249,7 +251,7 @@ module _ (R : Rules) (a b : Section) (others : List Section) (head-sound : R.hea
     lines_by zero h = absurd (omega arith)
     lines_by (suc k) h =
         ap (with_rest (lines_from k s)) (sym (line_heading s first short (omega arith)))
-        ∙ ap (λ x. heading ∷ x) ((lines k (place 0 0 0) (omega arith) (omega arith) (omega arith)).within (omega arith))
+        ∙ ap (λ x. heading ∷ x) ((lines k (place 0 (Some Opening) 0) (omega arith) (omega arith) (omega arith)).within (omega arith))
 
 -- THE LINES READ ONE BY ONE ARE THE LISTING: `next` from `start` on, each time from where the line before says, gives just the lines of the listing,
 -- the last one too; one more step than the input has bytes, and one for the heading, is always enough.

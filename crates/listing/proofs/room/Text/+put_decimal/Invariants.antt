@@ -1,5 +1,5 @@
 -- The number falls. Assumes nothing.
-use Rattle.listing.proofs.+put_decimal.Given as goal
+use Rattle.listing.proofs.room.Text.+put_decimal.Given as goal
 
 abbrev pub decreases-put_decimal : goal.decreases-put_decimal
 decreases-put_decimal l = l.n

@@ -1,0 +1,4 @@
+pub mod Phases
+pub mod Lists
+pub mod Falls
+pub mod Put
