@@ -121,6 +121,10 @@ abbrev length_first : Facts → (value : List ℕ) → Maybe Reason
 length_first f v =
     lower_of (lower_of (lower_of f.first reason.RepeatedLength (is_some f.stated)) reason.NoDigits (is_no_digits v)) reason.LengthAbove (ltb largest (capped (decimal v)))
 
+-- a Content-Length
+abbrev pub length_by : Facts → (value : List ℕ) → Facts
+length_by f v = facts f.size (length_first f v) f.pseudo true f.method f.scheme f.authority f.path f.host (option_or f.stated (Some (capped (decimal v))))
+
 unfoldable pub note_by : Name → Facts → (value : List ℕ) → Span → Facts
 note_by name.Method f v p =
     facts f.size (lower_of (known_first f (is_some f.method)) reason.BadMethod (is_bad_method v)) true f.plain (option_or f.method (Some p)) f.scheme f.authority f.path f.host f.stated
@@ -129,7 +133,7 @@ note_by name.Authority f v p = facts f.size (known_first f (is_some f.authority)
 note_by name.Path f v p = facts f.size (known_first f (is_some f.path)) true f.plain f.method f.scheme f.authority (option_or f.path (Some p)) f.host f.stated
 note_by name.Host f v p =
     facts f.size (lower_of f.first reason.RepeatedHost (is_some f.host)) f.pseudo true f.method f.scheme f.authority f.path (option_or f.host (Some p)) f.stated
-note_by name.Length f v p = facts f.size (length_first f v) f.pseudo true f.method f.scheme f.authority f.path f.host (option_or f.stated (Some (capped (decimal v))))
+note_by name.Length f v p = length_by f v
 note_by name.Te f v p = plain_by f (lower_of f.first reason.OtherTe (is_other_te v))
 note_by name.Connection f v p = plain_by f (lower_of f.first reason.ConnectionField true)
 note_by name.Unknown f v p = pseudo_by f reason.UnknownPseudo true

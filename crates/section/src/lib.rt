@@ -12,7 +12,7 @@ ghost use Rattle.fields.specs.Walk.{held};
 ghost use Rattle.fields.specs.Decimal.{capped};
 ghost use Rattle.section.specs.Checks.{lower_of, lowest, found};
 ghost use Rattle.section.specs.Names.{other_name, one_name, of_seven, of_ten, long_name, name_of};
-ghost use Rattle.section.specs.Facts.{no_facts, pseudo_by, plain_by, note_by, line_step, facts_of, walked};
+ghost use Rattle.section.specs.Facts.{no_facts, pseudo_by, plain_by, length_by, note_by, line_step, facts_of, walked};
 ghost use Rattle.section.specs.Judging.{header_row, by_places, is_http, is_path, sends_content, by_request, by_authority, by_trailers};
 ghost use Rattle.section.specs.declared.Fault.TheVariants as faults;
 ghost use Rattle.section.specs.declared.Name.TheVariants as names;
@@ -242,9 +242,9 @@ impl Facts {
         }
     }
 
-    #[tactic(auto, unfolding(crate::specs::Facts::note_by, rules::specs::Integers::largest))]
-    fn length_line(self, table: &Table, value: &[u8], span: Span) -> Facts
-        ensures { result ≡ note_by names.Length self value.now span }
+    #[tactic(auto, unfolding(rules::specs::Integers::largest))]
+    fn length_line(self, table: &Table, value: &[u8]) -> Facts
+        ensures { result ≡ length_by self value.now }
     {
         let number = fields::decimal_of(value);
         let first = lower(self.first, Reason::RepeatedLength, self.stated.is_some());
@@ -282,7 +282,7 @@ impl Facts {
                     ..self.plain_line(first)
                 }
             }
-            Name::Length => self.length_line(table, value, span),
+            Name::Length => self.length_line(table, value),
             Name::Te => {
                 let other = !fields::same_bytes(value, b"trailers");
                 self.plain_line(lower(self.first, Reason::OtherTe, other))
