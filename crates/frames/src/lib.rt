@@ -116,7 +116,7 @@ impl Use {
     }
 }
 
-// A place between two frames: its phase, a number as above; the length that is stated; the sum of DATA.
+// A place between two frames: its phase, a number as the cells of the C interface have it; the length that is stated; the sum of DATA.
 #[derive(Clone, Copy)]
 pub struct Place {
     pub phase: u64,
