@@ -113,14 +113,6 @@ found_few above = omega arith
 pub size_few : (v : ℕ) → size_of v ≤ 8
 size_few v = found_few (found v)
 
-found_none : {v : ℕ} {o : Option (List ℕ)} {f : Maybe Form} → Found v o f → length (bytes_of o) ≡ 0 → o ≡ none
-unfolding bytes_of
-found_none {v} (fits {r = r} s h) e = let l = length_row r v in absurd (omega arith)
-found_none above e = refl
-
-pub size_none : (v : ℕ) → size_of v ≡ 0 → written v ≡ none
-size_none v e = found_none (found v) e
-
 some_bytes : (o : Option (List ℕ)) → 0 < length (bytes_of o) → o ≡ some (bytes_of o)
 unfolding bytes_of
 some_bytes none h = absurd (omega arith)
@@ -216,7 +208,7 @@ drop_high zero m k n e = let q : m ≡ k = omega arith in rw q
 drop_high (suc d) zero k n e = absurd (omega arith)
 drop_high (suc d) (suc m) k n e = drop_high d m k n (omega arith)
 
-pub shift_bytes : (k : ℕ) → 2 ^ (8 * k) ≡ 256 ^ k
+shift_bytes : (k : ℕ) → 2 ^ (8 * k) ≡ 256 ^ k
 shift_bytes zero = refl
 shift_bytes (suc k) = let e : 8 * suc k ≡ 8 * k + 8 = omega arith in rw (e, pow-add 2 (8 * k) 8, pow-suc 256 k) (ap (λ n. n * 256) (shift_bytes k))
 
