@@ -174,10 +174,6 @@ pub stands_back : (has stated sum : ℕ) {phase : ℕ} {p : _} → Stands has st
 stands_back has stated sum (a_place {phase = ph}) = let e = place_back ph has stated sum in rw (← e) a_place
 stands_back has stated sum (any_set k i) = any_set k i
 
-pub length_small : (has stated : ℕ) {limit : ℕ} → stated ≤ limit → length_in (stated_in has stated) ≤ limit
-length_small zero n h = omega arith
-length_small (suc k) n h = h
-
 -- the same ruling
 pub ruled_back : (phase has stated sum t l : ℕ) {ph m k : ℕ} {st : Option ℕ} → ph ≡ phase → st ≡ stated_in has stated → m ≡ sum → k ≡ number_of (rule (place_of ph (has_in st) (length_in st) m) t l) → k ≡ number_of (rule (place_of phase has stated sum) t l)
 ruled_back phase has stated sum t l a b d e = rw (a, b, d) at e ∙ ap (λ p. number_of (rule p t l)) (place_back phase has stated sum)
