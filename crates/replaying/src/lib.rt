@@ -413,6 +413,7 @@ fn play(text: &mut Text, pair: Pair, l: Line, piece: &[u8]) -> Pair
     requires { HasLine text.old × IfSome l.row (λ n. n ≤ 32) × (l.room ≤ 64) }
     ensures { Prints (Plays pair l piece.now result) text.old text.new }
 {
+    // the number of the kept row, as `Plays` (specs) has it: a script lends no other of 24
     let row = l.row.unwrap_or(KEPT as u64);
     match l.verb {
         Verb::Start => started(text, pair, row),
@@ -449,6 +450,7 @@ pub struct Step {
 // A started pair, at the start of the script.
 pub fn start() -> Step {
     let b = faces::drive_start(connection::fresh(), [record::free(); MOST], KEPT);
+    // a variable: straight from one field into another, an array gets no proof
     let rows = b.rows;
     let pair = Pair { conn: b.conn, rows };
     Step { pair, at: 0 }
