@@ -2,7 +2,7 @@
 use Rattle.std.specs.Prelude.{◌≡◌, List, [], Bool, true, false, length, Result, Ok, Err}
 use Rattle.std.proofs.Math.Path.{refl, sym, ap}
 use Rattle.std.proofs.Common.{◌∙◌, arith}
-use Prim.Native.Nat.{ℕ, zero, suc, ◌≤◌, ◌<◌}
+use Prim.Native.Nat.{ℕ}
 use Rattle.std.proofs.Math.Option.{Option, none, some}
 use Rattle.rules.specs.Numbers.{CLOSED-CRITICAL-STREAM, Code, of_connection, closed_critical_stream, id_error, code_number}
 use Rattle.rules.specs.declared.codes.Code as declared-code
@@ -19,14 +19,13 @@ use Rattle.meaning.specs.OneWays.{Came, still_untyped, type_refused, a_control_s
 use Rattle.meaning.proofs.OneWays.{calls_read, always_reads}
 use Rattle.varint.specs.ByByte.{prog}
 use Rattle.frames.specs.Modes.{mode_of}
-use Rattle.frames.specs.declared.Cells.{Cells}
 use Rattle.frames.specs.Uses.{any_set}
 use Rattle.frames.specs.Heads.{head_state}
 use Rattle.frames.specs.Answers.{mode_state}
 use Rattle.oneway.specs.declared.OneWay as numbers
 use Rattle.oneway.specs.Stands.{one_state_at, one_state, OneStands}
 use Rattle.oneway.specs.Frames.{frame_cells}
-use Rattle.record.specs.Kinds.{CONTROL, DECODER}
+use Rattle.record.specs.Kinds.{CONTROL}
 
 -- ---- ended or reset
 
@@ -60,44 +59,6 @@ freed_code (in_stream_type g) c e = cc
 freed_code (in_control s) c e = let f : code.ClosedCriticalStream ≡ c = cc in rw (sym f) refl
 freed_code (in_qpack q) c e = let f : code.ClosedCriticalStream ≡ c = cc in rw (sym f) refl
 freed_code in_skipped c e = cc
-
-module _ (c : Cells) (p : Control) (k : List ℕ) where
-  low : (kind : ℕ) → kind < CONTROL → Ok tt ≡ freed_or (one_state_at kind c p k)
-  unfolding freed_or one_state_at
-  low zero h = refl
-  low (suc zero) h = refl
-  low (suc (suc zero)) h = refl
-  low (suc (suc (suc n))) h = absurd (omega arith)
-
-  high : (kind : ℕ) → DECODER < kind → Ok tt ≡ freed_or (one_state_at kind c p k)
-  unfolding freed_or one_state_at
-  high zero h = absurd (omega arith)
-  high (suc zero) h = absurd (omega arith)
-  high (suc (suc zero)) h = absurd (omega arith)
-  high (suc (suc (suc zero))) h = absurd (omega arith)
-  high (suc (suc (suc (suc zero)))) h = absurd (omega arith)
-  high (suc (suc (suc (suc (suc zero))))) h = absurd (omega arith)
-  high (suc (suc (suc (suc (suc (suc n)))))) h = refl
-
-  held : (kind : ℕ) → CONTROL ≤ kind → kind ≤ DECODER → Err code.ClosedCriticalStream ≡ freed_or (one_state_at kind c p k)
-  unfolding freed_or one_state_at
-  held zero h l = absurd (omega arith)
-  held (suc zero) h l = absurd (omega arith)
-  held (suc (suc zero)) h l = absurd (omega arith)
-  held (suc (suc (suc zero))) h l = refl
-  held (suc (suc (suc (suc zero)))) h l = refl
-  held (suc (suc (suc (suc (suc zero))))) h l = refl
-  held (suc (suc (suc (suc (suc (suc n)))))) h l = absurd (omega arith)
-
-module _ (w : numbers.OneWay) where
-  pub closes_untyped : w.kind < CONTROL → Closes w (Ok tt)
-  closes_untyped h p k = low w.cells p k w.kind h
-
-  pub closes_skipped : DECODER < w.kind → Closes w (Ok tt)
-  closes_skipped h p k = high w.cells p k w.kind h
-
-  pub closes_held : CONTROL ≤ w.kind → w.kind ≤ DECODER → Closes w (Err code.ClosedCriticalStream)
-  closes_held h l p k = held w.cells p k w.kind h l
 
 -- ---- it is the rules' own
 

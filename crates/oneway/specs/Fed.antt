@@ -217,22 +217,6 @@ module _ (o : OneWay) (seen : Seen) (s : List ℕ) (allow : ℕ) where
   same_kind : (kind : ℕ) → o.kind ≡ kind → ◌≡◌ {A = OneWay} (record { kind = kind; cells = o.cells }) o
   same_kind kind e = ap (λ n. record { kind = n; cells = o.cells }) (sym e)
 
-  pub fed_type : {r : OneAnswer} → o.kind ≡ UNTYPED → OneFed (untyped o.cells) seen s allow r → OneFed o seen s allow r
-  fed_type e b = record {
-    is = λ p k st. ap (λ n. feed (seen_of seen) allow (one_state_at n o.cells p k) s) e ∙ b.is p k (rw e at st);
-    within = b.within;
-    part = b.part;
-    sound = b.sound;
-    shaped = λ sh. b.shaped (rw e at sh);
-    plain = λ sh h. b.plain (rw e at sh) h;
-    known = b.known;
-    stays = λ x. b.stays x ∙ same_kind 2 e;
-    behind = b.behind;
-    held = b.held;
-    listed = b.listed;
-    leaves = λ x y p k st. b.leaves x y p k (rw e at st);
-  }
-
   control_stands : (kind : ℕ) (p : Control) (k : List ℕ) → kind ≡ CONTROL → OneStands kind o.cells p k → frames_stand o.cells p k
   unfolding OneStands
   control_stands kind p k e st = rw e at st

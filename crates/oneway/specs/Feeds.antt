@@ -250,9 +250,6 @@ module _ (r : Record) (o : Heeds r) (d : Side) {c : Cells} (ec : c ≡ cells_in 
   part_is : (a.event ≡ FAULT → ⊥) → a.start + a.len ≡ a.used
   part_is n = ⊎_elim (λ e. e) (λ e. absurd (n e)) own_fed.part
 
-  pub part_from : (a.event ≡ FAULT → ⊥) → a.start ≤ a.used
-  part_from n = let e = part_is n in omega arith
-
   pub part_in : (a.event ≡ FAULT → ⊥) → {n : ℕ} → n ≡ begun_in a.event a.len → a.start + n ≤ length s
   part_in n q = let e = part_is n in let l = begun_low a.event a.len in omega (arith, own_fed.within)
 
@@ -489,13 +486,6 @@ module _ (r : Record) (o : Heeds r) (d : Side) {c : Cells} (ec : c ≡ cells_in 
             (b.0, b.1 ∙ is)
 
 -- ---- the calls
-
-module _ (r : Record) (d : Side) (want : OneState → Heard) {a : Heard} where
-  pub heard_shut : (Heeds r → ⊥) → a ≡ heard 1 0 0 0 0 0 0 r d → HeardAs r d want a
-  heard_shut n q = shut n q
-
-  pub heard_open : Heeds r → a ≡ want (state_here r d) → HeardAs r d want a
-  heard_open o q = opened o q
 
 module _ (r : Record) (o : Heeds r) (d : Side) {c : Cells} {kind : ℕ} (ek : kind ≡ r.kind) (ec : c ≡ cells_in r) {n : Result Unit declared-code.Code} (closed : Closes (record { kind = kind; cells = c }) n) where
   freed_is : n ≡ freed_or (state_here r d)

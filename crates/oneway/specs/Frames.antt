@@ -303,9 +303,6 @@ module _ (s : List ℕ) (at : ℕ) (before : OneWay) (c : Cells) (allow : ℕ) (
   part_ends : (a.event ≡ FAULT → ⊥) → (at + a.start) + a.len ≡ at + a.used
   part_ends n = ends_here a.start a.len a.used fed.part n
 
-  pub start_fits : (a.event ≡ FAULT → ⊥) → at + a.start ≤ length s
-  start_fits n = let x = part_ends n in let y = used_fits in omega arith
-
   left_sane : (a.event ≡ KEPT → ⊥) → Sane a.cells × (3 ≤ a.cells.phase)
   left_sane n = (fed.sane n, (let e = fed.phase in omega arith))
 

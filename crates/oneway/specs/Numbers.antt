@@ -6,12 +6,11 @@ use Prim.Native.Nat.{ℕ, zero, suc, ◌+◌, ◌-◌, ◌≤◌}
 use Rattle.std.proofs.lemmas.List.{length-replicate, take_at, drop_at}
 use borrow.Rule.Slice.PartMut.{put_mid}
 use Rattle.std.proofs.lemmas.List.Edits.{sets-eq}
-use Rattle.std.proofs.Math.Seq.{length-sets, take-append_seam, drop-drop}
+use Rattle.std.proofs.Math.Seq.{take-append_seam, drop-drop}
 use borrow.Author.Tests.{eq-eqb, ne_eqb}
 use Rattle.rules.specs.Events.{KEPT-PART}
 use Rattle.record.specs.Kinds.{CONTROL}
 use Rattle.record.specs.Row.{is_stated, length_of}
-use Rattle.frames.specs.Modes.{UNSET}
 use Rattle.control.specs.declared.Kept.{Kept}
 use Rattle.control.specs.Judged.{push_id}
 use Rattle.control.specs.Rules.{some_if, control_at, control_of}
@@ -34,9 +33,6 @@ abbrev saying : (set limited size capacity blocked goaways goaway pushes push : 
 saying s l z c b gs g ps p = record { set = s; limited = l; size = z; capacity = c; blocked = b; goaways = gs; goaway = push_id g; pushes = ps; push = push_id p }
 
 module _ (k : Kept) where
-  pub set_in : (phase s : ℕ) → s ≡ phase - UNSET → saying s k.limited k.size k.capacity k.blocked k.goaways k.goaway.0 k.pushes k.push.0 ≡ kept_in phase k
-  set_in phase s e = ap (λ x. saying x k.limited k.size k.capacity k.blocked k.goaways k.goaway.0 k.pushes k.push.0) e
-
   pub tidy_none : k.set ≡ 0 → nothing_said ≡ kept_numbers (control_of k)
   unfolding kept_numbers control_at
   tidy_none e = sym (ap (λ s. kept_numbers (control_at s k)) e)
@@ -78,9 +74,6 @@ unfolding begun_in
 begun_none event len n = let x = ne_eqb event 6 n in rw (x, begun_in) refl
 
 -- ---- bytes, and then zeros
-
-pub joined_long : {all : List ℕ} (k : List ℕ) → all ≡ bytes_of k → length all ≡ 256
-joined_long k e = ap length e ∙ length-sets (replicate 256 0) 0 k ∙ length-replicate {A = ℕ} 256 0
 
 pub bytes_back : (k : List ℕ) (n : ℕ) → n ≡ length k → length k ≤ 256 → take n (bytes_of k) ≡ k
 bytes_back k n e h =

@@ -41,15 +41,6 @@ unfoldable pub once_of : (times kind : ℕ) → Result ℕ declared-code.Code
 once_of zero kind = Ok kind
 once_of (suc n) kind = Err code.StreamCreationError
 
-pub once_fresh : (n kind : ℕ) → n ≡ 0 → Ok kind ≡ once_of n kind
-unfolding once_of
-once_fresh n kind e = rw e refl
-
-pub once_again : (n kind : ℕ) → (n ≡ 0 → ⊥) → Err code.StreamCreationError ≡ once_of n kind
-unfolding once_of
-once_again zero kind z = absurd (z refl)
-once_again (suc n) kind z = refl
-
 -- ---- laws: one for each row of the rule
 
 control_type : (c e d : ℕ) → KindOf (once_of c CONTROL) (type_rule (types_of c e d) 0)

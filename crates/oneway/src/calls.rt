@@ -76,7 +76,7 @@ pub fn fresh() -> Side
 }
 
 // number: accepted, not an open one-way stream, no section is due, or the code. A part is len bytes of the piece from start on. used and heads: bytes and frame headers of the piece.
-// value: the QPACK stream's type, or the push ID.
+// value: the QPACK stream's type, or the push ID. Numbers (of rules), since the report that a host in C reads has them so.
 #[derive(Clone, Copy)]
 pub struct Heard {
     pub number: u64,
@@ -243,7 +243,7 @@ fn value_in(which: u64, k: Kept) -> u64
     }
 }
 
-// Judged; the stream goes on behind it.
+// Judged; the stream goes on behind it. Which payload is its mode's number, as `control::judge` has it, which C calls too.
 fn judged(
     which: u64,
     phase: u64,

@@ -3,7 +3,7 @@ use Rattle.std.specs.Prelude.{◌≡◌, refl, ℕ, zero, suc, ◌-◌, ◌*◌,
 use Rattle.std.proofs.Common.{ap, ◌∙◌, arith}
 use borrow.Author.Tests.{ltb-true, ltb-false}
 use Rattle.varint.specs.ByByte.{part, Good}
-use Rattle.frames.specs.Modes.{IN-TYPE, IN-SKIPPED, IN-CONTENT, HEADER-SECTION-DUE, TRAILERS-DUE, IN-SETTINGS, IN-CANCEL-PUSH, OPENING, TRAILED, UNSET, SET}
+use Rattle.frames.specs.Modes.{IN-TYPE, IN-SKIPPED, HEADER-SECTION-DUE, TRAILERS-DUE, IN-CANCEL-PUSH, OPENING, TRAILED}
 use Rattle.frames.specs.declared.Cells.{Cells}
 use Rattle.frames.specs.Answers.{Sane}
 use Rattle.record.specs.Kinds.{REQUEST, UNTYPED, CONTROL, ENCODER, SKIPPED}
@@ -69,23 +69,6 @@ module _ (id : ℕ) (c : Cells) (i : id < 2 ^ 62) where
     control_mode = λ e f. omega arith;
     bare_phase = λ e f. omega arith;
     bare_mode = λ e f. omega arith;
-    bare = λ e. omega arith;
-  }
-
-  pub control_shape : id % 4 ≡ 2 → UNSET ≤ c.phase → c.phase ≤ SET → (IN-CONTENT ≤ c.mode → IN-SETTINGS ≤ c.mode) → Shaped CONTROL id c
-  control_shape a b d m = record {
-    opened = omega arith;
-    known = omega arith;
-    ids = i;
-    request_id = λ e. omega arith;
-    one_way_id = λ e. a;
-    phases = d;
-    request_phase = λ e. omega arith;
-    request_mode = λ e. omega arith;
-    control_phase = λ e. b;
-    control_mode = λ e f. m f;
-    bare_phase = λ e f. absurd (f refl);
-    bare_mode = λ e f. absurd (f refl);
     bare = λ e. omega arith;
   }
 

@@ -64,7 +64,7 @@ pub struct Record {
     pub room: u16,
 }
 
-// An open stream.
+// An open stream; its kind a number, since Shaped, Fit and Written compare it.
 #[derive(Clone, Copy)]
 pub struct Stream {
     pub kind: u64,

@@ -1,7 +1,6 @@
 -- Laws of a call's answer: the record is read, and is an open request or not. Assumes nothing.
 use Rattle.std.specs.Prelude.{◌≡◌, refl, ℕ, zero, suc, ◌≤◌}
-use Rattle.std.proofs.Common.{sym, ap, ◌∙◌, subst, arith}
-use Rattle.rules.specs.Numbers.{NOT-OPEN}
+use Rattle.std.proofs.Common.{sym, ◌∙◌, subst, arith}
 use Rattle.rules.specs.Message.{Message}
 use Rattle.meaning.specs.Machine.{State}
 use Rattle.frames.specs.Modes.{TRAILED}
@@ -13,11 +12,7 @@ use Rattle.frames.specs.Apart.{message}
 use Rattle.record.specs.declared.Record.{Record}
 use Rattle.record.specs.Sound.{own_place}
 use Rattle.requests.specs.declared.Reply.{Reply}
-use Rattle.requests.specs.Reply.{Open, refused, Answered, shut, opened, Keeps}
-
-module _ (r : Record) (want : State Message → Reply) {a : Reply} where
-  pub keeps_shut : (Open r → ⊥) → a ≡ refused 1 r → Keeps r want a
-  keeps_shut n q = record { answers = shut n q; stays = λ z. (let e : a.number ≡ NOT-OPEN = ap (λ x. x.number) q in absurd (omega arith)) }
+use Rattle.requests.specs.Reply.{Answered, shut, opened}
 
 -- A CALL HAS ONE ANSWER
 pub one_answer : (r : Record) (want : State Message → Reply) (a b : Reply) → Answered r want a → Answered r want b → a ≡ b

@@ -1,9 +1,9 @@
 -- A section given to a stream, in numbers: the answer, and that it is the rules' own. Assumes nothing.
-use Rattle.std.specs.Prelude.{◌≡◌, ℕ, zero, suc, ◌≤◌, ◌<◌, ◌^◌, List, Bool, true, false, eqb, ltb, Result, Ok, Err}
+use Rattle.std.specs.Prelude.{◌≡◌, ℕ, zero, suc, ◌≤◌, ◌^◌, List, Bool, true, false, eqb, ltb, Result, Ok, Err}
 use Rattle.std.proofs.Math.Path.{refl, ap}
 use Rattle.std.proofs.Common.{sym, ◌∙◌, subst, arith}
 use Rattle.std.proofs.Math.Option.{Option, none, some}
-use borrow.Author.Tests.{lt-ltb, le-ltb, eq-eqb, ne_eqb}
+use borrow.Author.Tests.{le-ltb, eq-eqb, ne_eqb}
 use Rattle.rules.specs.Numbers.{NO-SECTION, UNREADABLE, FRAME-UNEXPECTED, code_number}
 use Rattle.rules.specs.Block.{Section, readable, lines}
 use Rattle.rules.specs.Reading.{header_section, trailers, Next, stop, go}
@@ -63,10 +63,6 @@ given_of c block = elim (ltb TRAILED c.phase) [ true ↦ Err NO-SECTION | false 
 -- ---- laws: the answer
 
 module _ (c : Cells) (block : List ℕ) where
-  pub given_control : TRAILED < c.phase → Err NO-SECTION ≡ given_of c block
-  unfolding given_of
-  given_control h = let x = lt-ltb TRAILED c.phase h in rw (x, given_of) refl
-
   module _ (h : c.phase ≤ TRAILED) where
     pub given_header : c.mode ≡ HEADER-SECTION-DUE → {r : Result Cells ℕ} → r ≡ headed_as c (header_of (lines block)) → r ≡ given_of c block
     unfolding given_of

@@ -15,7 +15,7 @@ use Rattle.record.specs.declared.Record.{Record}
 use Rattle.record.specs.Row.{free_record}
 use Rattle.record.specs.Sound.{cells_in, own_place}
 use Rattle.requests.specs.declared.Reply.{Reply}
-use Rattle.requests.specs.Reply.{Open, state_in, reply, refused, left_by, ended_by, ended_as, reset_as, Answered, opened}
+use Rattle.requests.specs.Reply.{Open, state_in, reply, refused, left_by, ended_by, ended_as, Answered, opened}
 use Rattle.requests.specs.Severity.{left_alone}
 use Rattle.requests.specs.Answered.{own_stands}
 
@@ -46,6 +46,3 @@ module _ (r : Record) (o : Open r) where
 
   pub end_code : {n : ℕ} {a : Reply} {q : Record} {d : Cells} → d ≡ cells_in r → Ends d n → (n ≡ 0 → ⊥) → q ≡ left_by n r → a ≡ refused n q → Answered r (ended_as r) a
   end_code {n} w e z f g = opened o (g ∙ ap (refused n) f ∙ by_code r n (finish (request document) 0 (state_in r)) (end_number w e) z)
-
-  pub reset_open : {a : Reply} {q : Record} → q ≡ free_record → a ≡ reply 0 12 0 0 0 0 q → Answered r (reset_as r) a
-  reset_open f g = opened o (g ∙ ap (reply 0 12 0 0 0 0) f)

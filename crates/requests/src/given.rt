@@ -63,6 +63,7 @@ fn give_trailers(c: Cells, block: &[u8]) -> Result<Cells, u64>
     }
 }
 
+// An Err is a number of rules: the house's own, or the code, as `Reply` has it.
 #[tactic(auto, unfolding(crate::specs::Taken::given_of))]
 pub fn give(c: Cells, block: &[u8]) -> Result<Cells, u64>
     ensures { result ≡ given_of c block.now }

@@ -15,6 +15,7 @@ use record::{Reading, Record, Stream};
 
 // number 0: accepted; 1: not an open request; 4, 5, 6; else the code. event 0: none, 1: content, 2: section bytes, 3: the last of them,
 // 11: the request is whole, 12: freed. A part is len bytes of the piece from start on. used and heads: bytes and frame headers of the piece.
+// Numbers (of rules), since the report that a host in C reads has them so.
 #[derive(Clone, Copy)]
 pub struct Reply {
     pub number: u64,
