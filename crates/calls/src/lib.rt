@@ -15,7 +15,7 @@ use rules::codes::House;
 
 // ---- the row
 
-// Where the first record is that a call is about, and the length if there is none.
+// Where the first record is that a call is about, and the length if there is none: FirstIn says so, and the doors ask how far the search came.
 fn find(row: &[Record], call: Call, id: u64) -> usize
     ensures { FirstIn call id row.now result }
 {

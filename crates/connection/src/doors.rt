@@ -67,7 +67,7 @@ fn refused(number: u64, d: Doors) -> Opening
     Opening { number, doors: d }
 }
 
-// A record must be free; free is how many are.
+// A record must be free; free is how many are, as the definition has it, though a call's search counts no further than one.
 fn admitted(free: u64, next: Doors, d: Doors) -> Opening
     ensures { result ≡ admitted_as free next d }
 {

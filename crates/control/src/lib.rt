@@ -107,7 +107,7 @@ fn judge_goaway(kept: Kept, id: PushId) -> Verdict
     }
 }
 
-// A MAX_PUSH_ID may not be below an earlier one.
+// A MAX_PUSH_ID may not be below an earlier one. Apart from the GOAWAY's: its fields, event and order are others, and one function of four parameters is no plainer.
 fn judge_max_push(kept: Kept, id: PushId) -> Verdict
     ensures { result ≡ max_push_of kept id }
 {

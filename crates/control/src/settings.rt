@@ -41,7 +41,7 @@ fn pair_at(payload: &[u8], at: usize) -> Option<Pair>
     })
 }
 
-// Looks again at the pairs before a place: is one of their identifiers the one sought?
+// Looks again at the pairs before a place: is one of their identifiers the one sought? No iterator: each pair says where the next begins.
 fn seen(payload: &[u8], until: usize, sought: u64) -> bool
     ensures { Looked payload.now 0 until sought result }
 {

@@ -11,6 +11,7 @@ use std::io::Read;
 pub fn read_all<R: Read>(reader: &mut R, room: &mut [u8]) -> io::Result<usize>
     ensures { Came room.old result room.new }
 {
+    // No iterator: each read says how far the next begins.
     let mut count = 0;
     while count < room.len() {
         let more = reader.read(&mut room[count..])?;

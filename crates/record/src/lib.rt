@@ -204,6 +204,7 @@ fn fits(kind: u64, id: u64, c: Cells) -> bool
 
 // ---- the one among the cells of a state
 
+// Apart from `placed`, the half beside it: each says which cells it alters.
 fn headed(c: Cells, acc: u64, due: u64, ftype: u64) -> Cells
     ensures { result ≡ head_as c acc due ftype }
 {

@@ -4,6 +4,7 @@
 pub mod codes;
 pub mod reasons;
 
+// Constants, for a host's report and a connection's code are numbers (include/eistulko.h), and any number can stand in lent memory (docs/DECISIONS, N14).
 pub const ACCEPTED: u64 = 0;
 
 pub const NOT_OPEN: u64 = 1;

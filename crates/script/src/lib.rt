@@ -44,6 +44,7 @@ fn number_at(s: &[u8], at: usize) -> Option<Word<u64>>
     if first == 0 {
         return Some(Word { value, next });
     }
+    // No chain: where the digits end is told too, and an overflow ends it without a number.
     while next < s.len() {
         let Some(more) = digit(s[next]) else {
             break;
@@ -66,6 +67,7 @@ fn bytes_at(s: &[u8], at: usize, room: &mut [u8]) -> Option<Word<usize>>
     }
     let mut count = 0;
     let mut next = at;
+    // No chain: it takes two bytes and stores one, and stops at three things.
     while next < s.len() {
         let Some(high) = half(s[next]) else {
             break;

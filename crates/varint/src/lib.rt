@@ -141,7 +141,7 @@ struct Form {
     size: usize,
 }
 
-// The shortest form that holds v, by RFC 9000's table.
+// The shortest form that holds v, by RFC 9000's table, a row a branch.
 fn form_of(v: u64) -> Option<Form>
     ensures { result ≡ form_of v }
 {
