@@ -76,7 +76,7 @@ event_number event.Content = CONTENT
 event_number event.Section = SECTION
 event_number event.SectionEnd = SECTION-END
 event_number (event.Fault code) = FAULT
-event_number event.Kept = KEPT
+event_number (event.Kept which) = KEPT
 event_number event.KeptPart = KEPT-PART
 
 -- THE VIEW of an event, up to a part of a kept payload
@@ -86,7 +86,7 @@ answer_at event.Content start len used heads c p k s = record { used = used; hea
 answer_at event.Section start len used heads c p k s = record { used = used; heads = heads; event = section_bytes len false; after = lives (state_of c p k) }
 answer_at event.SectionEnd start len used heads c p k s = record { used = used; heads = heads; event = section_bytes len true; after = lives (state_of c p k) }
 answer_at (event.Fault code) start len used heads c p k s = record { used = used; heads = heads; event = quiet; after = dies (code_of code) }
-answer_at event.Kept start len used heads c p k s = past used heads (judged_as both 0 p (kept_at c.mode) (k ++ take len (drop start s)))
+answer_at (event.Kept which) start len used heads c p k s = past used heads (judged_as both 0 p (kept_at which) (k ++ take len (drop start s)))
 answer_at event.KeptPart start len used heads c p k s =
     record { used = used; heads = heads; event = quiet; after = lives (state_of c p (k ++ take len (drop start s))) }
 
@@ -118,7 +118,7 @@ pub record Answers (c : Cells) (s : List ℕ) (fresh : ℕ) (want : (rest : ℕ)
   pub is : (n : ℕ) (p : Place) (k : List ℕ) → Held fresh k → StandsIn c p → want n p k ≡ answer_of r p k s
   pub within : r.used ≤ length s
   pub part : r.start + r.len ≡ r.used
-  pub sane : (r.event ≡ event.Kept → ⊥) → Sane r.cells
+  pub sane : ((which : ℕ) → r.event ≡ event.Kept which → ⊥) → Sane r.cells
   pub phase : r.cells.phase ≡ c.phase
   pub held : r.event ≡ event.KeptPart → IN-SETTINGS ≤ r.cells.mode  -- a part is kept of a kept payload alone
 
@@ -135,7 +135,7 @@ pub data Tells : (mode : ℕ) → Telling → Type 0 where
   tells_content : Tells IN-CONTENT (tell event.Content event.Content IN-TYPE)
   tells_header : Tells IN-HEADER-SECTION (tell event.SectionEnd event.Section HEADER-SECTION-DUE)
   tells_trailers : Tells IN-TRAILERS (tell event.SectionEnd event.Section TRAILERS-DUE)
-  tells_kept : (mode : ℕ) → IN-SETTINGS ≤ mode → Tells mode (tell event.Kept event.KeptPart mode)
+  tells_kept : (mode : ℕ) → IN-SETTINGS ≤ mode → Tells mode (tell (event.Kept mode) event.KeptPart mode)
 
 -- one of no bytes is over
 unfoldable pub emptied : State Place → Feeding Place

@@ -120,11 +120,11 @@ module _ (c : Cells) (s : List ℕ) (at heads : ℕ) (w : at ≤ length s) (g : 
   over_is tells_trailers left lo h n p k = section_over trailers left h n (place_in c p)
   over_is (tells_kept mode l) left lo h n p k = let e = kept_state mode left 0 0 (place_in c p) k l in rw e (kept_over (kept_at mode) left h n (place_in c p) k)
 
-  over_sane : {mode : ℕ} {t : Telling} → Tells mode t → (t.last ≡ event.Kept → ⊥) → Sane (in_mode c t.behind 0)
+  over_sane : {mode : ℕ} {t : Telling} → Tells mode t → ((which : ℕ) → t.last ≡ event.Kept which → ⊥) → Sane (in_mode c t.behind 0)
   over_sane tells_content x = sane_in c IN-TYPE 0 g (omega arith) (omega arith) (λ l. refl) (λ a b f. absurd (omega arith))
   over_sane tells_header x = sane_in c HEADER-SECTION-DUE 0 g (omega arith) (omega arith) (λ l. refl) (λ a b f. absurd (b refl))
   over_sane tells_trailers x = sane_in c TRAILERS-DUE 0 g (omega arith) (omega arith) (λ l. refl) (λ a b f. absurd (f refl))
-  over_sane (tells_kept mode h) x = absurd (x refl)
+  over_sane (tells_kept mode h) x = absurd (x mode refl)
 
   pub handed_over : (left mode : ℕ) (t : Telling) {r : Cells} → Tells mode t → (mode ≡ IN-CONTENT → 0 < left) → left ≤ length s - at → r ≡ in_mode c t.behind 0
       → Answers c s fresh (from_payload c s at heads mode left) (answer t.last at left (at + left) heads r)
@@ -196,5 +196,5 @@ told_trailers mode e = rw e tells_trailers
 beyond : {a b : ℕ} → a ≤ b → (b ≡ a → ⊥) → suc a ≤ b
 beyond l n = omega arith
 
-pub told_kept : (mode : ℕ) → HandedMode mode → (mode ≡ IN-CONTENT → ⊥) → (mode ≡ IN-HEADER-SECTION → ⊥) → (mode ≡ IN-TRAILERS → ⊥) → Tells mode (tell event.Kept event.KeptPart mode)
+pub told_kept : (mode : ℕ) → HandedMode mode → (mode ≡ IN-CONTENT → ⊥) → (mode ≡ IN-HEADER-SECTION → ⊥) → (mode ≡ IN-TRAILERS → ⊥) → Tells mode (tell (event.Kept mode) event.KeptPart mode)
 told_kept mode h c s t = tells_kept mode (beyond (beyond (beyond (beyond (beyond h.0 c) s) t) h.2) h.3)

@@ -386,7 +386,7 @@ pub struct Cells {
     pub sum: u64,
 }
 
-// What a piece brought: a part of content or of a section, a fault, or a kept payload that is complete, or a part of one.
+// What a piece brought: a part of content or of a section, a fault, the end of a kept payload, with its mode, or a part of one.
 #[derive(Clone, Copy, Debug, PartialEq, Eq)]
 pub enum Event {
     Nothing,
@@ -394,7 +394,7 @@ pub enum Event {
     Section,
     SectionEnd,
     Fault(Code),
-    Kept,
+    Kept(u64),
     KeptPart,
 }
 
@@ -409,7 +409,7 @@ impl Event {
             Event::Section => rules::SECTION,
             Event::SectionEnd => rules::SECTION_END,
             Event::Fault(_) => rules::FAULT,
-            Event::Kept => rules::KEPT,
+            Event::Kept(_) => rules::KEPT,
             Event::KeptPart => rules::KEPT_PART,
         }
     }
@@ -517,7 +517,7 @@ fn told(mode: u64) -> Telling
             behind: TRAILERS_DUE,
         },
         _ => Telling {
-            last: Event::Kept,
+            last: Event::Kept(mode),
             part: Event::KeptPart,
             behind: mode,
         },

@@ -73,7 +73,7 @@ abbrev pub IsPart : declared-event.Event → Type 0
 IsPart e = e ≡ event.Content ⊎ (e ≡ event.Section ⊎ e ≡ event.SectionEnd)
 
 abbrev pub IsNoPart : declared-event.Event → Type 0
-IsNoPart e = e ≡ event.Nothing ⊎ (e ≡ event.Kept ⊎ e ≡ event.KeptPart)
+IsNoPart e = e ≡ event.Nothing ⊎ (((which : ℕ) × (e ≡ event.Kept which)) ⊎ e ≡ event.KeptPart)
 
 abbrev pub NoFault : declared-event.Event → Type 0
 NoFault e = (code : Code) → e ≡ event.Fault code → ⊥
@@ -85,7 +85,7 @@ part_goes e (inr (inr q)) code f = cc
 
 pub none_goes : (e : declared-event.Event) → IsNoPart e → NoFault e
 none_goes e (inl q) code f = cc
-none_goes e (inr (inl q)) code f = cc
+none_goes e (inr (inl q)) code f = let z = q.1 in cc
 none_goes e (inr (inr q)) code f = cc
 
 module _ (r : Record) (start len used heads : ℕ) (d : Cells) (m : Message) (k s : List ℕ) where
@@ -95,10 +95,10 @@ module _ (r : Record) (start len used heads : ℕ) (d : Cells) (m : Message) (k 
   abbrev fed_at : declared-event.Event → Feeding Message
   fed_at e = map_feeding message (answer_at e start len used heads d (of_request m) k s)
 
-  quiet_said : (e : declared-event.Event) → IsNoPart e → (e ≡ event.Kept → ⊥) → (l : List ℕ) × (reply ACCEPTED NOTHING 0 0 used heads (request_record r.id (leaves l)) ≡ said r (fed_at e))
+  quiet_said : (e : declared-event.Event) → IsNoPart e → ((which : ℕ) → e ≡ event.Kept which → ⊥) → (l : List ℕ) × (reply ACCEPTED NOTHING 0 0 used heads (request_record r.id (leaves l)) ≡ said r (fed_at e))
   unfolding answer_at map_feeding map_outcome said_by
   quiet_said e (inl q) n = (k, rw q refl)
-  quiet_said e (inr (inl q)) n = absurd (n q)
+  quiet_said e (inr (inl q)) n = absurd (n q.0 q.1)
   quiet_said e (inr (inr q)) n = (k ++ take len (drop start s), rw q refl)
 
   part_said : (e : declared-event.Event) → IsPart e → reply ACCEPTED (event_number e) (used - len) len used heads (request_record r.id (leaves k)) ≡ said r (fed_at e)
@@ -111,19 +111,19 @@ module _ (r : Record) (start len used heads : ℕ) (d : Cells) (m : Message) (k 
   unfolding answer_at map_feeding map_outcome said_by
   fault_said e code q = rw q refl
 
-  lives_after : (e : declared-event.Event) → NoFault e → (e ≡ event.Kept → ⊥) → (l : List ℕ) × ((fed_at e).after ≡ lives (leaves l))
+  lives_after : (e : declared-event.Event) → NoFault e → ((which : ℕ) → e ≡ event.Kept which → ⊥) → (l : List ℕ) × ((fed_at e).after ≡ lives (leaves l))
   unfolding answer_at map_feeding map_outcome
   lives_after event.Nothing h f = (k, refl)
   lives_after event.Content h f = (k, refl)
   lives_after event.Section h f = (k, refl)
   lives_after event.SectionEnd h f = (k, refl)
   lives_after (event.Fault code) h f = absurd (h code refl)
-  lives_after event.Kept h f = absurd (f refl)
+  lives_after (event.Kept which) h f = absurd (f which refl)
   lives_after event.KeptPart h f = (k ++ take len (drop start s), refl)
 
-  taken_event : (e : declared-event.Event) → e ≡ event.Kept → (fed_at e).event ≡ taken (kept_at d.mode) (k ++ take len (drop start s))
+  taken_event : (e : declared-event.Event) (which : ℕ) → e ≡ event.Kept which → (fed_at e).event ≡ taken (kept_at which) (k ++ take len (drop start s))
   unfolding answer_at map_feeding past judged_as halt judged judged_event
-  taken_event e q = rw q refl
+  taken_event e which q = rw q refl
 
 -- ---- a feed
 
@@ -186,8 +186,8 @@ module _ (r : Record) (o : Open r) (piece : List ℕ) (allow : ℕ) where
     want_is : said r told ≡ fed_as r allow piece (state_in r)
     want_is = let c = cells_in r in ap (said r) (sym fed_is) ∙ due_not c.acc c.due c.ftype (message (own_place c)) [] _ _ c.mode header trailers
 
-    not_taken : ans.event ≡ event.Kept → ⊥
-    not_taken e = plainly.untold _ _ (taken_event r ans.start ans.len ans.used ans.heads ans.cells next [] piece ans.event e)
+    not_taken : (which : ℕ) → ans.event ≡ event.Kept which → ⊥
+    not_taken which e = plainly.untold _ _ (taken_event r ans.start ans.len ans.used ans.heads ans.cells next [] piece ans.event which e)
 
     pub feed_fault : (code : Code) {n : ℕ} {q : Record} → ans.event ≡ event.Fault code → n ≡ code_number (code_of code) → q ≡ left_by n r → Keeps r (fed_as r allow piece) (reply n NOTHING 0 0 ans.used ans.heads q)
     feed_fault code e z f = rw (f, z) (record {

@@ -123,7 +123,7 @@ pub fn feed(r: Record, piece: &[u8], allow: u64) -> Reply
             ..refused(code.number(), r)
         },
         // No payload of a request is kept.
-        Event::Nothing | Event::Kept | Event::KeptPart => Reply {
+        Event::Nothing | Event::Kept(_) | Event::KeptPart => Reply {
             used: a.used,
             heads: a.heads,
             ..told(rules::ACCEPTED, rules::NOTHING, kept(r.id, a.cells))
