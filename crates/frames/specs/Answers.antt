@@ -1,8 +1,8 @@
 -- The numbers of a state and of an answer, and what they say of a feed. Assumes nothing.
-use Rattle.std.specs.Prelude.{◌≡◌, refl, ℕ, zero, suc, ◌+◌, ◌-◌, ◌≤◌, ◌<◌, ◌^◌, List, [], ◌++◌, true, false, ◌⊎◌, length, take, drop}
+use Rattle.std.specs.Prelude.{◌≡◌, refl, ℕ, zero, suc, ◌+◌, ◌-◌, ◌≤◌, ◌<◌, ◌^◌, List, [], ◌++◌, true, false, length, take, drop}
 use Rattle.std.proofs.Common.{arith}
-use Rattle.rules.specs.Events.{CONTENT, SECTION, SECTION-END, FAULT, KEPT, KEPT-PART}
-use Rattle.rules.specs.Numbers.{code_number, coded}
+use Rattle.rules.specs.Events.{NOTHING, CONTENT, SECTION, SECTION-END, FAULT, KEPT, KEPT-PART}
+use Rattle.rules.specs.Named.{code_of}
 use Rattle.rules.specs.Reading.{Kept, cancel_push, Use, content, skipped, section, kept}
 use Rattle.meaning.specs.Machine.{State, in_type, in_length, in_payload, due, lives, dies, over}
 use Rattle.meaning.specs.Feed.{quiet, section_bytes, content_bytes, Feeding, halt, over_event, feed}
@@ -11,6 +11,8 @@ use Rattle.varint.specs.ByByte.{part, Good}
 use Rattle.frames.specs.Modes.{IN-TYPE, IN-LENGTH, IN-SKIPPED, IN-CONTENT, IN-HEADER-SECTION, IN-TRAILERS, HEADER-SECTION-DUE, TRAILERS-DUE, IN-SETTINGS, IN-CANCEL-PUSH, OPENING, BODY, TRAILED, UNSET, Mode, typing, sizing, paying, waiting, mode_of, at_kept}
 use Rattle.frames.specs.declared.Cells.{Cells}
 use Rattle.frames.specs.declared.Answer.{Answer}
+use Rattle.frames.specs.declared.Event as declared-event
+use Rattle.frames.specs.declared.Event.TheVariants as event
 use Rattle.frames.specs.declared.Telling.{Telling}
 use Rattle.frames.specs.Both.{Place, both}
 use Rattle.frames.specs.Uses.{place_of, Stands, a_place, any_set}
@@ -67,15 +69,25 @@ StandsIn c p = Stands c.has c.stated c.sum c.phase p
 
 -- ---- an answer
 
--- THE VIEW of an event, up to a part of a kept payload; of a fault the code is in len
-unfoldable pub answer_at : (event start len used heads : ℕ) → Cells → Place → (sofar s : List ℕ) → Feeding Place
-answer_at zero start len used heads c p k s = record { used = used; heads = heads; event = quiet; after = lives (state_of c p k) }
-answer_at (suc zero) start len used heads c p k s = record { used = used; heads = heads; event = content_bytes len; after = lives (state_of c p k) }
-answer_at (suc (suc zero)) start len used heads c p k s = record { used = used; heads = heads; event = section_bytes len false; after = lives (state_of c p k) }
-answer_at (suc (suc (suc zero))) start len used heads c p k s = record { used = used; heads = heads; event = section_bytes len true; after = lives (state_of c p k) }
-answer_at (suc (suc (suc (suc zero)))) start len used heads c p k s = record { used = used; heads = heads; event = quiet; after = dies (coded len) }
-answer_at (suc (suc (suc (suc (suc zero))))) start len used heads c p k s = past used heads (judged_as both 0 p (kept_at c.mode) (k ++ take len (drop start s)))
-answer_at (suc (suc (suc (suc (suc (suc e)))))) start len used heads c p k s =
+-- the number of an event in a host's report
+abbrev pub event_number : declared-event.Event → ℕ
+event_number event.Nothing = NOTHING
+event_number event.Content = CONTENT
+event_number event.Section = SECTION
+event_number event.SectionEnd = SECTION-END
+event_number (event.Fault code) = FAULT
+event_number (event.Kept which) = KEPT
+event_number event.KeptPart = KEPT-PART
+
+-- THE VIEW of an event, up to a part of a kept payload
+unfoldable pub answer_at : declared-event.Event → (start len used heads : ℕ) → Cells → Place → (sofar s : List ℕ) → Feeding Place
+answer_at event.Nothing start len used heads c p k s = record { used = used; heads = heads; event = quiet; after = lives (state_of c p k) }
+answer_at event.Content start len used heads c p k s = record { used = used; heads = heads; event = content_bytes len; after = lives (state_of c p k) }
+answer_at event.Section start len used heads c p k s = record { used = used; heads = heads; event = section_bytes len false; after = lives (state_of c p k) }
+answer_at event.SectionEnd start len used heads c p k s = record { used = used; heads = heads; event = section_bytes len true; after = lives (state_of c p k) }
+answer_at (event.Fault code) start len used heads c p k s = record { used = used; heads = heads; event = quiet; after = dies (code_of code) }
+answer_at (event.Kept which) start len used heads c p k s = past used heads (judged_as both 0 p (kept_at which) (k ++ take len (drop start s)))
+answer_at event.KeptPart start len used heads c p k s =
     record { used = used; heads = heads; event = quiet; after = lives (state_of c p (k ++ take len (drop start s))) }
 
 abbrev pub answer_of : Answer → Place → (sofar s : List ℕ) → Feeding Place
@@ -105,27 +117,25 @@ Held (suc n) k = k ≡ []
 pub record Answers (c : Cells) (s : List ℕ) (fresh : ℕ) (want : (rest : ℕ) → Place → (sofar : List ℕ) → Feeding Place) (r : Answer) : Type 0 where
   pub is : (n : ℕ) (p : Place) (k : List ℕ) → Held fresh k → StandsIn c p → want n p k ≡ answer_of r p k s
   pub within : r.used ≤ length s
-  pub part : r.start + r.len ≡ r.used ⊎ r.event ≡ FAULT
-  pub sane : (r.event ≡ KEPT → ⊥) → Sane r.cells
+  pub part : r.start + r.len ≡ r.used
+  pub sane : ((which : ℕ) → r.event ≡ event.Kept which → ⊥) → Sane r.cells
   pub phase : r.cells.phase ≡ c.phase
-  pub known : r.event ≤ KEPT-PART
-  pub held : r.event ≡ KEPT-PART → IN-SETTINGS ≤ r.cells.mode  -- a part is kept of a kept payload alone
-  pub listed : r.event ≡ FAULT → code_number (coded r.len) ≡ r.len  -- a fault's number is a code's
+  pub held : r.event ≡ event.KeptPart → IN-SETTINGS ≤ r.cells.mode  -- a part is kept of a kept payload alone
 
 -- ---- a payload that is handed on or kept, by its mode
 
 abbrev pub HandedMode : (mode : ℕ) → Type 0
 HandedMode mode = (IN-CONTENT ≤ mode) × (mode ≤ IN-CANCEL-PUSH) × (mode ≡ HEADER-SECTION-DUE → ⊥) × (mode ≡ TRAILERS-DUE → ⊥)
 
-abbrev pub tell : (last part behind : ℕ) → Telling
+abbrev pub tell : (last part : declared-event.Event) → (behind : ℕ) → Telling
 tell last part behind = record { last = last; part = part; behind = behind }
 
 -- how its parts are reported
 pub data Tells : (mode : ℕ) → Telling → Type 0 where
-  tells_content : Tells IN-CONTENT (tell CONTENT CONTENT IN-TYPE)
-  tells_header : Tells IN-HEADER-SECTION (tell SECTION-END SECTION HEADER-SECTION-DUE)
-  tells_trailers : Tells IN-TRAILERS (tell SECTION-END SECTION TRAILERS-DUE)
-  tells_kept : (mode : ℕ) → IN-SETTINGS ≤ mode → Tells mode (tell KEPT KEPT-PART mode)
+  tells_content : Tells IN-CONTENT (tell event.Content event.Content IN-TYPE)
+  tells_header : Tells IN-HEADER-SECTION (tell event.SectionEnd event.Section HEADER-SECTION-DUE)
+  tells_trailers : Tells IN-TRAILERS (tell event.SectionEnd event.Section TRAILERS-DUE)
+  tells_kept : (mode : ℕ) → IN-SETTINGS ≤ mode → Tells mode (tell (event.Kept mode) event.KeptPart mode)
 
 -- one of no bytes is over
 unfoldable pub emptied : State Place → Feeding Place
@@ -189,5 +199,5 @@ pub data Content (c : Cells) : Cells → Type 0 where
 abbrev pub Hands : Cells → (s : List ℕ) → (at heads mode left : ℕ) → Answer → Type 0
 Hands c s at heads mode left r = Answers c s 0 (from_payload c s at heads mode left) r × (mode ≡ IN-CONTENT → Content c r.cells)
 
-abbrev pub answer : (event start len used heads : ℕ) → Cells → Answer
-answer event start len used heads c = record { event = event; start = start; len = len; used = used; heads = heads; cells = c }
+abbrev pub answer : declared-event.Event → (start len used heads : ℕ) → Cells → Answer
+answer e start len used heads c = record { event = e; start = start; len = len; used = used; heads = heads; cells = c }

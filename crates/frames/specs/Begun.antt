@@ -5,7 +5,6 @@ use Rattle.std.proofs.Common.{◌∙◌, add-zero, inl, inr, length-drop, take_a
 use Prim.Native.Nat.{ℕ, zero, suc, ◌+◌, ◌-◌, ◌≤◌, ◌<◌, ◌^◌, zero-le}
 use Rattle.std.proofs.Math.Nat.{sub-zero}
 use native.Mathlib.Omega.{arith}
-use Rattle.rules.specs.Events.{NOTHING}
 use Rattle.rules.specs.Integers.{Int, cut, got, integer}
 use Rattle.rules.specs.Reading.{skipped}
 use Rattle.meaning.specs.Machine.{in_payload, lives, between, over, with_left}
@@ -19,6 +18,7 @@ use Rattle.frames.specs.declared.Head.{Head}
 use Rattle.frames.specs.declared.Head.TheVariants.{InType, InLength}
 use Rattle.frames.specs.declared.FrameHeader.{FrameHeader}
 use Rattle.frames.specs.declared.Answer.{Answer}
+use Rattle.frames.specs.declared.Event.TheVariants as event
 use Rattle.frames.specs.declared.Start.{Start}
 use Rattle.frames.specs.declared.Use.{Use}
 use Rattle.frames.specs.declared.Use.TheVariants.{Skipped}
@@ -103,7 +103,7 @@ abbrev pub untyped : Cells → Cells
 untyped c = record { mode = c.mode; acc = c.acc; due = c.due; ftype = 0; phase = c.phase; has = c.has; stated = c.stated; sum = c.sum }
 
 pub cut_answer : (c : Cells) (s : List ℕ) (to heads : ℕ) (r : Head) (d : Cells) → to ≤ length s → Numbers c → CutRead (drop to s) no_head r → d ≡ head_cells r (untyped c)
-    → Answers c s 1 (from_cut s to heads) (answer NOTHING (length s) 0 (length s) heads d)
+    → Answers c s 1 (from_cut s to heads) (answer event.Nothing (length s) 0 (length s) heads d)
 unfolding answer_at
 cut_answer c s to heads r d w g h q =
     let l = length-drop to s in
@@ -112,12 +112,10 @@ cut_answer c s to heads r d w g h q =
       is = λ n p k hk st. (let x = cells_place r (untyped c) p ∙ place_same c p st in let y = cells_state r (untyped c) p k in
           ap (past to heads) (sym (fresh_goes n p (drop to s)) ∙ read_out (drop to s) n no_head r p h) ∙ behind to heads (length (drop to s)) _ _ ∙ rw (x, y, l, f) refl);
       within = omega arith;
-      part = inl (omega arith);
+      part = omega arith;
       sane = λ x. head_sane r (untyped c) h.good (omega arith) g;
       phase = cells_phase r (untyped c);
-      known = omega arith;
-      held = λ e. absurd (omega arith);
-      listed = λ e. absurd (omega arith);
+      held = λ e. cc;
     })
 
 pub stop_cut : (c : Cells) (s : List ℕ) (to heads number len rest : ℕ) {r : Answer} → number ≡ NO-USE → (rest ≡ 0 → ⊥) → Answers c s 1 (from_cut s to heads) r → Answers c s 1 (from_stop s to heads number len rest) r
@@ -130,9 +128,7 @@ stop_cut c s to heads number len rest e n0 a =
       part = a.part;
       sane = a.sane;
       phase = a.phase;
-      known = a.known;
       held = a.held;
-      listed = a.listed;
     }
 
 pub numbers_more : (c d : Cells) (len : ℕ) → d ≡ more_sum c len → c.sum + len ≤ 2 ^ 62 → c.stated ≤ 2 ^ 62 → Numbers d

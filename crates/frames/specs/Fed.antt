@@ -2,15 +2,14 @@
 use Rattle.std.specs.Prelude.{◌≡◌, refl, ℕ, zero, suc, ◌+◌, ◌-◌, ◌≤◌, ◌<◌, ◌^◌, List, length, false, Some, Ok}
 use Rattle.std.proofs.Common.{sym, ap, ◌∙◌, subst, zero-le, arith, ne_eqb, le-leb}
 use Rattle.std.proofs.Math.Nat.{sub-zero}
-use Rattle.std.proofs.Math.Logic.{inl}
 use Rattle.meaning.specs.Machine.{lives}
 use Rattle.meaning.specs.Feed.{quiet, Feeding, halt, feed}
 use Rattle.meaning.specs.FeedLaws.{past, past_none, past_past}
 use Rattle.meaning.proofs.FeedLaws.{feed_due}
-use Rattle.rules.specs.Events.{NOTHING, CONTENT}
 use Rattle.frames.specs.Modes.{IN-TYPE, IN-SKIPPED, IN-CONTENT, HEADER-SECTION-DUE, TRAILERS-DUE, IN-SETTINGS, USE-SKIPPED, USE-CONTENT, NO-USE, BODY, at_waiting, at_payload}
 use Rattle.frames.specs.declared.Cells.{Cells}
 use Rattle.frames.specs.declared.Answer.{Answer}
+use Rattle.frames.specs.declared.Event.TheVariants as event
 use Rattle.frames.specs.declared.Start.{Start}
 use Rattle.frames.specs.declared.Use.TheVariants.{Skipped}
 use Rattle.frames.specs.declared.FrameHeader.{FrameHeader}
@@ -52,9 +51,7 @@ module _ (c : Cells) (s : List ℕ) (allow : ℕ) where
     part = a.part;
     sane = a.sane;
     phase = a.phase;
-    known = a.known;
     held = a.held;
-    listed = a.listed;
   }
 
   due_state : (mode a d t : ℕ) (p : Place) (k : List ℕ) → HEADER-SECTION-DUE ≤ mode → mode < IN-SETTINGS → feed both allow (state_at mode a d t p k) s ≡ halt quiet (lives (state_at mode a d t p k))
@@ -62,31 +59,27 @@ module _ (c : Cells) (s : List ℕ) (allow : ℕ) where
   due_state mode a d t p k = at_waiting (λ m. feed both allow (mode_state m a d t p k) s ≡ halt quiet (lives (mode_state m a d t p k))) (λ x. feed_due both allow x p s) mode
 
   -- a section is due
-  pub fed_due : Sane c → HEADER-SECTION-DUE ≤ c.mode → c.mode < IN-SETTINGS → Fed c s allow (answer NOTHING 0 0 0 0 c)
+  pub fed_due : Sane c → HEADER-SECTION-DUE ≤ c.mode → c.mode < IN-SETTINGS → Fed c s allow (answer event.Nothing 0 0 0 0 c)
   unfolding answer_at halt
   fed_due sane h l = record {
     is = λ n p k hk st. (let x = place_same c p st in rw x (due_state c.mode c.acc c.due c.ftype p k h l));
     within = zero-le;
-    part = inl (omega arith);
+    part = omega arith;
     sane = λ x. sane;
     phase = refl;
-    known = omega arith;
-    held = λ e. absurd (omega arith);
-    listed = λ e. absurd (omega arith);
+    held = λ e. cc;
   }
 
   -- nowhere
-  pub fed_stays : (r : Start) → Started c s allow r → wanted_in r.wanted ≡ NO-USE → Fed c s allow (answer NOTHING r.at 0 r.at 0 r.cells)
+  pub fed_stays : (r : Start) → Started c s allow r → wanted_in r.wanted ≡ NO-USE → Fed c s allow (answer event.Nothing r.at 0 r.at 0 r.cells)
   unfolding answer_at
   fed_stays r q e = record {
     is = λ n p k hk st. (let x = q.place p ∙ place_same c p st in q.stays e p k st ∙ rw x refl);
     within = q.within;
-    part = inl (omega arith);
+    part = omega arith;
     sane = λ x. q.sane;
     phase = q.phase;
-    known = omega arith;
-    held = λ e. absurd (omega arith);
-    listed = λ e. absurd (omega arith);
+    held = λ e. cc;
   }
 
   fresh_held : (mode : ℕ) (k : List ℕ) → mode < IN-CONTENT → Held (IN-SETTINGS - mode) k → Held 1 k
@@ -110,9 +103,7 @@ module _ (c : Cells) (s : List ℕ) (allow : ℕ) where
     part = a.part;
     sane = a.sane;
     phase = a.phase;
-    known = a.known;
     held = a.held;
-    listed = a.listed;
   }
 
   -- content that goes on
@@ -120,8 +111,8 @@ module _ (c : Cells) (s : List ℕ) (allow : ℕ) where
   fed_content {r} sane e a = (fed_payload sane (omega arith) (λ x. omega arith) (λ x. omega arith) (subst (λ x. Answers c s 0 (from_payload c s 0 0 x c.acc) r) (sym e) a.0), a.1 refl)
 
   -- what is not reported as content says nothing
-  pub unsaid : {says : Type 0} {r : Answer} {at heads : ℕ} {d : Cells} → r ≡ answer NOTHING at 0 at heads d → r.event ≡ CONTENT → says
-  unsaid q e = let z = ap (λ (x : Answer). x.event) q in absurd (omega arith)
+  pub unsaid : {says : Type 0} {r : Answer} {at heads : ℕ} {d : Cells} → r ≡ answer event.Nothing at 0 at heads d → r.event ≡ event.Content → says
+  unsaid q e = let z = ap (λ (x : Answer). x.event) q in cc
 
   -- a DATA frame that begins the piece, and has content: its header is whole
   module _ (sane : Sane c) (m0 : c.mode ≡ IN-TYPE) (d0 : c.due ≡ 0) (some : allow ≡ 0 → ⊥) {h : FrameHeader} (whole : WholeAt s 0 h)

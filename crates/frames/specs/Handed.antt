@@ -6,10 +6,8 @@ use Prim.Native.Nat.{ℕ, zero, suc, ◌+◌, ◌-◌, ◌≤◌, ◌<◌, ◌^�
 use Rattle.std.proofs.Math.Nat.{add-zero}
 use native.Mathlib.Omega.{arith}
 use mathlib.Core.List.{List, [], ◌++◌, append-nil}
-use Rattle.std.proofs.Math.Logic.{inl}
 use Rattle.std.proofs.Math.Dec.{eqb-suc-zero}
 use Rattle.std.proofs.Math.ListN.{take, drop, length-drop, drop_of_length-le}
-use Rattle.rules.specs.Events.{NOTHING, CONTENT, SECTION, SECTION-END, FAULT, KEPT, KEPT-PART}
 use Rattle.rules.specs.Reading.{Part, header_section, trailers, Kept, Use, content, section, kept}
 use Rattle.meaning.specs.Machine.{in_payload, due, Outcome, lives, between, over}
 use Rattle.meaning.specs.Feed.{Event, quiet, section_bytes, content_bytes, halt, over_event, named, feed}
@@ -18,6 +16,7 @@ use Rattle.meaning.proofs.FeedLaws.{feed_nothing, kept_short}
 use Rattle.varint.specs.ByByte.{prog, fresh_good}
 use Rattle.frames.specs.Modes.{IN-TYPE, IN-SKIPPED, IN-CONTENT, IN-HEADER-SECTION, IN-TRAILERS, HEADER-SECTION-DUE, TRAILERS-DUE, IN-SETTINGS, IN-CANCEL-PUSH, mode_of}
 use Rattle.frames.specs.declared.Cells.{Cells}
+use Rattle.frames.specs.declared.Event.TheVariants as event
 use Rattle.frames.specs.declared.Telling.{Telling}
 use Rattle.frames.specs.Both.{Place, both}
 use Rattle.frames.specs.Heads.{head_state}
@@ -42,28 +41,16 @@ unfolding past
 behind at heads used e o = let z = add-zero heads in rw z refl
 
 -- the events of a payload that is all there, and of one that is not
-last_known : {mode : ℕ} {t : Telling} → Tells mode t → t.last ≤ KEPT-PART
-last_known tells_content = omega arith
-last_known tells_header = omega arith
-last_known tells_trailers = omega arith
-last_known (tells_kept mode h) = omega arith
+last_whole : {mode : ℕ} {t : Telling} → Tells mode t → t.last ≡ event.KeptPart → ⊥
+last_whole tells_content e = cc
+last_whole tells_header e = cc
+last_whole tells_trailers e = cc
+last_whole (tells_kept mode h) e = cc
 
-last_whole : {mode : ℕ} {t : Telling} → Tells mode t → t.last ≡ KEPT-PART → ⊥
-last_whole tells_content e = omega arith
-last_whole tells_header e = omega arith
-last_whole tells_trailers e = omega arith
-last_whole (tells_kept mode h) e = omega arith
-
-part_known : {mode : ℕ} {t : Telling} → Tells mode t → t.part ≤ KEPT-PART
-part_known tells_content = omega arith
-part_known tells_header = omega arith
-part_known tells_trailers = omega arith
-part_known (tells_kept mode h) = omega arith
-
-part_held : {mode : ℕ} {t : Telling} → Tells mode t → t.part ≡ KEPT-PART → IN-SETTINGS ≤ mode
-part_held tells_content e = absurd (omega arith)
-part_held tells_header e = absurd (omega arith)
-part_held tells_trailers e = absurd (omega arith)
+part_held : {mode : ℕ} {t : Telling} → Tells mode t → t.part ≡ event.KeptPart → IN-SETTINGS ≤ mode
+part_held tells_content e = cc
+part_held tells_header e = cc
+part_held tells_trailers e = cc
 part_held (tells_kept mode h) e = omega arith
 
 -- the cells of content that goes on, and of content that is all there
@@ -76,15 +63,9 @@ content_past c tells_header q e = absurd (omega arith)
 content_past c tells_trailers q e = absurd (omega arith)
 content_past c (tells_kept mode h) q e = absurd (omega arith)
 
-no_fault : {mode : ℕ} {t : Telling} → Tells mode t → (t.last ≡ FAULT → ⊥) × (t.part ≡ FAULT → ⊥)
-no_fault tells_content = ((λ e. omega arith), (λ e. omega arith))
-no_fault tells_header = ((λ e. omega arith), (λ e. omega arith))
-no_fault tells_trailers = ((λ e. omega arith), (λ e. omega arith))
-no_fault (tells_kept mode h) = ((λ e. omega arith), (λ e. omega arith))
-
 module _ (c : Cells) (s : List ℕ) (at heads : ℕ) (w : at ≤ length s) (g : Numbers c) (fresh : ℕ) where
   -- the piece ends where the payload begins or goes on
-  pub none_here : (left mode : ℕ) {r : Cells} → 0 < left → left < 2 ^ 62 → HandedMode mode → length s - at ≡ 0 → r ≡ in_mode c mode left → Answers c s fresh (from_payload c s at heads mode left) (answer NOTHING at 0 at heads r)
+  pub none_here : (left mode : ℕ) {r : Cells} → 0 < left → left < 2 ^ 62 → HandedMode mode → length s - at ≡ 0 → r ≡ in_mode c mode left → Answers c s fresh (from_payload c s at heads mode left) (answer event.Nothing at 0 at heads r)
   unfolding answer_at halt past
   none_here left mode lo hi m e q =
       let d : drop at s ≡ [] = drop_of_length-le s {i = at} (omega arith) in
@@ -93,12 +74,10 @@ module _ (c : Cells) (s : List ℕ) (at heads : ℕ) (w : at ≤ length s) (g : 
       rw q (record {
         is = λ n p k hk st. ap (past at heads) (some_coming left lo _ _) ∙ rw (d, feed_nothing both n (state_at mode left 0 0 (place_in c p) k), u, h) refl;
         within = w;
-        part = inl (omega arith);
+        part = omega arith;
         sane = λ x. sane_in c mode left g m.1 hi (λ l. absurd (omega arith)) (λ a b f. lo);
         phase = refl;
-        known = omega arith;
-        held = λ e. absurd (omega arith);
-        listed = λ e. absurd (omega arith);
+        held = λ e. cc;
       })
 
   -- ---- all of it is there
@@ -141,23 +120,21 @@ module _ (c : Cells) (s : List ℕ) (at heads : ℕ) (w : at ≤ length s) (g : 
   over_is tells_trailers left lo h n p k = section_over trailers left h n (place_in c p)
   over_is (tells_kept mode l) left lo h n p k = let e = kept_state mode left 0 0 (place_in c p) k l in rw e (kept_over (kept_at mode) left h n (place_in c p) k)
 
-  over_sane : {mode : ℕ} {t : Telling} → Tells mode t → (t.last ≡ KEPT → ⊥) → Sane (in_mode c t.behind 0)
+  over_sane : {mode : ℕ} {t : Telling} → Tells mode t → ((which : ℕ) → t.last ≡ event.Kept which → ⊥) → Sane (in_mode c t.behind 0)
   over_sane tells_content x = sane_in c IN-TYPE 0 g (omega arith) (omega arith) (λ l. refl) (λ a b f. absurd (omega arith))
   over_sane tells_header x = sane_in c HEADER-SECTION-DUE 0 g (omega arith) (omega arith) (λ l. refl) (λ a b f. absurd (b refl))
   over_sane tells_trailers x = sane_in c TRAILERS-DUE 0 g (omega arith) (omega arith) (λ l. refl) (λ a b f. absurd (f refl))
-  over_sane (tells_kept mode h) x = absurd (x refl)
+  over_sane (tells_kept mode h) x = absurd (x mode refl)
 
   pub handed_over : (left mode : ℕ) (t : Telling) {r : Cells} → Tells mode t → (mode ≡ IN-CONTENT → 0 < left) → left ≤ length s - at → r ≡ in_mode c t.behind 0
       → Answers c s fresh (from_payload c s at heads mode left) (answer t.last at left (at + left) heads r)
   handed_over left mode t h lo l q = rw q (record {
     is = λ n p k hk st. over_is h left lo l n p k;
     within = omega arith;
-    part = inl (omega arith);
+    part = omega arith;
     sane = over_sane h;
     phase = refl;
-    known = last_known h;
     held = λ e. absurd (last_whole h e);
-    listed = λ e. absurd ((no_fault h).0 e);
   })
 
   -- ---- some of it is there
@@ -199,27 +176,25 @@ module _ (c : Cells) (s : List ℕ) (at heads : ℕ) (w : at ≤ length s) (g : 
     handed_on mode t hi m h q = rw q (record {
       is = λ n p k hk st. on_is h n p k;
       within = omega arith;
-      part = inl (omega arith);
+      part = omega arith;
       sane = λ x. sane_in c mode (left - (length s - at)) g m.1 (omega arith) (λ l. absurd (omega arith)) (λ a b f. omega arith);
       phase = refl;
-      known = part_known h;
       held = part_held h;
-      listed = λ e. absurd ((no_fault h).1 e);
     })
 
 -- ---- how parts are reported
 
-pub told_content : (mode : ℕ) → mode ≡ IN-CONTENT → Tells mode (tell CONTENT CONTENT IN-TYPE)
+pub told_content : (mode : ℕ) → mode ≡ IN-CONTENT → Tells mode (tell event.Content event.Content IN-TYPE)
 told_content mode e = rw e tells_content
 
-pub told_header : (mode : ℕ) → mode ≡ IN-HEADER-SECTION → Tells mode (tell SECTION-END SECTION HEADER-SECTION-DUE)
+pub told_header : (mode : ℕ) → mode ≡ IN-HEADER-SECTION → Tells mode (tell event.SectionEnd event.Section HEADER-SECTION-DUE)
 told_header mode e = rw e tells_header
 
-pub told_trailers : (mode : ℕ) → mode ≡ IN-TRAILERS → Tells mode (tell SECTION-END SECTION TRAILERS-DUE)
+pub told_trailers : (mode : ℕ) → mode ≡ IN-TRAILERS → Tells mode (tell event.SectionEnd event.Section TRAILERS-DUE)
 told_trailers mode e = rw e tells_trailers
 
 beyond : {a b : ℕ} → a ≤ b → (b ≡ a → ⊥) → suc a ≤ b
 beyond l n = omega arith
 
-pub told_kept : (mode : ℕ) → HandedMode mode → (mode ≡ IN-CONTENT → ⊥) → (mode ≡ IN-HEADER-SECTION → ⊥) → (mode ≡ IN-TRAILERS → ⊥) → Tells mode (tell KEPT KEPT-PART mode)
+pub told_kept : (mode : ℕ) → HandedMode mode → (mode ≡ IN-CONTENT → ⊥) → (mode ≡ IN-HEADER-SECTION → ⊥) → (mode ≡ IN-TRAILERS → ⊥) → Tells mode (tell (event.Kept mode) event.KeptPart mode)
 told_kept mode h c s t = tells_kept mode (beyond (beyond (beyond (beyond (beyond h.0 c) s) t) h.2) h.3)

@@ -6,11 +6,13 @@ use Prim.Native.Nat.{ℕ, zero, suc, ◌+◌, ◌-◌, ◌≤◌, ◌<◌, ◌^�
 use Rattle.std.proofs.Math.Nat.{add-zero}
 use native.Mathlib.Omega.{arith}
 use mathlib.Core.List.{List, []}
-use Rattle.std.proofs.Math.Logic.{inl, inr}
 use Rattle.std.proofs.Math.ListN.{length, length-drop}
-use Rattle.rules.specs.Events.{NOTHING, FAULT}
+use Rattle.rules.specs.Numbers.{code_number}
+use Rattle.rules.specs.Named.{code_of}
+use Rattle.rules.specs.declared.codes.Code.{Code}
 use Rattle.rules.specs.Reading as reading
 use Rattle.rules.specs.Reading.{header_section, trailers, settings, goaway, max_push_id, cancel_push, content, skipped, section, kept, accept}
+use Rattle.meaning.specs.NumberLaws.{code_high}
 use Rattle.meaning.specs.Machine.{State, in_payload, with_left}
 use Rattle.meaning.specs.Feed.{Feeding, halt, onward, left_event, behind_header, feed}
 use Rattle.meaning.specs.FeedLaws.{past}
@@ -19,14 +21,15 @@ use Rattle.varint.specs.ByByte.{prog}
 use Rattle.frames.specs.Modes.{IN-TYPE, IN-SKIPPED, IN-CONTENT, IN-HEADER-SECTION, IN-TRAILERS, IN-SETTINGS, IN-GOAWAY, IN-MAX-PUSH-ID, IN-CANCEL-PUSH, USE-SKIPPED, USE-CONTENT, USE-HEADER-SECTION, USE-TRAILERS, USE-SETTINGS, USE-GOAWAY, USE-MAX-PUSH-ID, USE-CANCEL-PUSH, NO-USE, BODY, mode_of}
 use Rattle.frames.specs.declared.Cells.{Cells}
 use Rattle.frames.specs.declared.Answer.{Answer}
+use Rattle.frames.specs.declared.Event.TheVariants as event
 use Rattle.frames.specs.declared.Use.{Use}
 use Rattle.frames.specs.declared.Use.TheVariants.{Skipped, Content, HeaderSection, Trailers, Settings, Goaway, MaxPushId, CancelPush}
 use Rattle.frames.specs.Both.{Place, both}
-use Rattle.frames.specs.Uses.{place_of, Stands, a_place, any_set, with_data, ruling_at, high_back}
+use Rattle.frames.specs.Uses.{place_of, Stands, a_place, any_set, with_data, ruling_at, refuse_back}
 use Rattle.frames.specs.Wants.{mode_in, use_in, stated_in, has_in, length_in, stands_back}
 use Rattle.frames.specs.Heads.{head_state}
 use Rattle.frames.specs.Parts.{Stopping, section_stops, kept_stops, over_stops}
-use Rattle.frames.specs.Stops.{Coming, Stop, header_of, payload_of, stop_of, not_header, Lawful}
+use Rattle.frames.specs.Stops.{Coming, Stop, header_of, payload_of, stop_of, not_header}
 use Rattle.frames.specs.Answers.{mode_state, state_at, place_at, place_in, answer_at, Sane, Numbers, emptied, coming, Answers, from_payload, some_coming, place_same, in_mode, answer}
 use Rattle.frames.specs.Handed.{sane_in, behind}
 
@@ -62,25 +65,25 @@ behind_accept (suc l) q f h = let z : suc l - 1 ≡ l = omega arith in rw z refl
 module _ (c : Cells) (s : List ℕ) (to heads len rest : ℕ) (w : to ≤ length s) (g : Numbers c) (sane : Sane c) where
   -- ---- a fault
 
-  pub stop_fault : (number : ℕ) → USE-CANCEL-PUSH < number → (number ≡ NO-USE → ⊥) → Lawful number c.phase c.sum len → Answers c s 1 (from_stop s to heads number len rest) (answer FAULT to number to heads c)
+  pub stop_fault : (code : Code) → Answers c s 1 (from_stop s to heads (code_number (code_of code)) len rest) (answer (event.Fault code) to 0 to heads c)
   unfolding answer_at payload_of behind_header halt past
-  stop_fault number h n9 law =
+  stop_fault code =
+      let number = code_number (code_of code) in
+      let n9 : number ≡ NO-USE → ⊥ = λ e. (let h = code_high (code_of code) in omega arith) in
       let u = add-zero to in
       let z = add-zero heads in
       record {
-        is = λ n p k hk st. ap (past to heads) (not_header s number len rest to p n9 ∙ ap (λ x. behind_header both len x (λ q. feed both rest q (drop to s))) (high_back p number len h)) ∙ rw (u, z) refl;
+        is = λ n p k hk st. ap (past to heads) (not_header s number len rest to p n9 ∙ ap (λ x. behind_header both len x (λ q. feed both rest q (drop to s))) (refuse_back p (code_of code) len)) ∙ rw (u, z) refl;
         within = w;
-        part = inr refl;
+        part = omega arith;
         sane = λ x. sane;
         phase = refl;
-        known = omega arith;
-        held = λ e. absurd (omega arith);
-        listed = λ e. law.listed h n9;
+        held = λ e. cc;
       }
 
   -- ---- no more headers
 
-  pub stop_out : (number : ℕ) {r : Cells} → number ≡ NO-USE → rest ≡ 0 → r ≡ in_mode c IN-TYPE 0 → Answers c s 1 (from_stop s to heads number len rest) (answer NOTHING to 0 to heads r)
+  pub stop_out : (number : ℕ) {r : Cells} → number ≡ NO-USE → rest ≡ 0 → r ≡ in_mode c IN-TYPE 0 → Answers c s 1 (from_stop s to heads number len rest) (answer event.Nothing to 0 to heads r)
   unfolding answer_at mode_state mode_of head_state prog stop_of header_of halt past
   stop_out number e z q =
       let u = add-zero to in
@@ -88,12 +91,10 @@ module _ (c : Cells) (s : List ℕ) (to heads len rest : ℕ) (w : to ≤ length
       rw (q, e, z) (record {
         is = λ n p k hk st. (let x = place_same c p st in let y = feed_held both (Rattle.meaning.specs.Machine.fresh) p (drop to s) in rw (x, y, u, v) refl);
         within = w;
-        part = inl (omega arith);
+        part = omega arith;
         sane = λ x. sane_in c IN-TYPE 0 g (omega arith) (omega arith) (λ l. refl) (λ a b f. absurd (omega arith));
         phase = refl;
-        known = omega arith;
-        held = λ e. absurd (omega arith);
-        listed = λ e. absurd (omega arith);
+        held = λ e. cc;
       })
 
   -- ---- a payload of some bytes
@@ -107,7 +108,7 @@ module _ (c : Cells) (s : List ℕ) (to heads len rest : ℕ) (w : to ≤ length
   -- ---- a skipped payload that the piece ends in
 
   pub stop_skip : (number : ℕ) {r : Cells} → number ≡ USE-SKIPPED → length s - to < len → len < 2 ^ 62 → r ≡ in_mode c IN-SKIPPED (len - (length s - to))
-      → Answers c s 1 (from_stop s to heads number len rest) (answer NOTHING (length s) 0 (length s) heads r)
+      → Answers c s 1 (from_stop s to heads number len rest) (answer event.Nothing (length s) 0 (length s) heads r)
   unfolding answer_at mode_state mode_of
   stop_skip number e l hi q =
       let d = length-drop to s in
@@ -118,12 +119,10 @@ module _ (c : Cells) (s : List ℕ) (to heads len rest : ℕ) (w : to ≤ length
             rw x (ap (past to heads) (not_header s USE-SKIPPED len rest to p (λ z. omega arith) ∙ behind_ruling USE-SKIPPED skipped p p (unfold ruling_at in refl) (λ z. absurd (omega arith)) ∙ some_coming len (omega arith) _ _ ∙ skip_short both rest p (len - 1) (drop to s) (omega arith))
             ∙ behind to heads (length (drop to s)) _ _ ∙ rw (d, f, b) refl));
         within = omega arith;
-        part = inl (omega arith);
+        part = omega arith;
         sane = λ x. sane_in c IN-SKIPPED (len - (length s - to)) g (omega arith) (omega arith) (λ l. absurd (omega arith)) (λ a b f. omega arith);
         phase = refl;
-        known = omega arith;
-        held = λ e. absurd (omega arith);
-        listed = λ e. absurd (omega arith);
+        held = λ e. cc;
       })
 
   -- ---- content: DATA moves the sum
@@ -145,9 +144,7 @@ module _ (c : Cells) (s : List ℕ) (to heads len rest : ℕ) (w : to ≤ length
         part = a.part;
         sane = a.sane;
         phase = a.phase;
-        known = a.known;
         held = a.held;
-        listed = a.listed;
       }
 
   -- ---- a section or a kept payload
@@ -164,9 +161,7 @@ module _ (c : Cells) (s : List ℕ) (to heads len rest : ℕ) (w : to ≤ length
     part = a.part;
     sane = a.sane;
     phase = a.phase;
-    known = a.known;
     held = a.held;
-    listed = a.listed;
   }
 
   pub stop_handed : (u : Use) {r : Answer} → (u ≡ Skipped → ⊥) → (u ≡ Content → ⊥) → Answers c s 0 (from_payload c s to heads (mode_in u) len) r → Answers c s 1 (from_stop s to heads (use_in u) len rest) r

@@ -89,7 +89,7 @@ high_back p (suc (suc (suc (suc (suc (suc zero)))))) len h = absurd (omega arith
 high_back p (suc (suc (suc (suc (suc (suc (suc zero))))))) len h = absurd (omega arith)
 high_back p (suc (suc (suc (suc (suc (suc (suc (suc k)))))))) len h = refl
 
-refuse_back : (p : Place) (code : Code) (len : ℕ) → ruling_at p (code_number code) len ≡ refuse code
+pub refuse_back : (p : Place) (code : Code) (len : ℕ) → ruling_at p (code_number code) len ≡ refuse code
 refuse_back p code len = high_back p (code_number code) len (let h = code_high code in omega arith) ∙ ap refuse (coded_back code)
 
 data_back : (len : ℕ) (m q : Message) → CarryView len m (goes q) → with_data len (of_request m) ≡ of_request q

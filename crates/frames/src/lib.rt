@@ -2,15 +2,15 @@
 #![tactic(auto)]
 
 ghost use Rattle.std.specs.Prelude.{◌≡◌, ◌+◌, ◌≤◌, ◌<◌, ◌^◌, length, Some, None, Ok};
-ghost use Rattle.rules.specs.Events.{NOTHING, CONTENT};
 ghost use Rattle.frames.specs.Both.{rule};
 ghost use Rattle.frames.specs.Modes.{BODY, UNSET, IN-SKIPPED, IN-CONTENT};
 ghost use Rattle.frames.specs.Uses.{place_of, number_of, passes_of};
 ghost use Rattle.frames.specs.Wants.{mode_in, use_in, ruled_in, wanted_in, halt_at, stated_in, has_in, length_in};
 ghost use Rattle.frames.specs.declared.Use.TheVariants.{Skipped};
+ghost use Rattle.frames.specs.declared.Event.TheVariants as event;
 ghost use Rattle.frames.specs.Ruled.{one_of};
 ghost use Rattle.frames.specs.Heads.{head_in, GoodHead, HeadStepped, HeadRead};
-ghost use Rattle.frames.specs.Answers.{Sane, Numbers, HandedMode, Tells, Answers, in_mode, Content, Hands, answer};
+ghost use Rattle.frames.specs.Answers.{event_number, Sane, Numbers, HandedMode, Tells, Answers, in_mode, Content, Hands, answer};
 ghost use Rattle.frames.specs.Stopped.{more_sum, from_stop};
 ghost use Rattle.frames.specs.Begun.{head_cells, from_cut, start, Started};
 ghost use Rattle.frames.specs.Fed.{Fed};
@@ -386,10 +386,39 @@ pub struct Cells {
     pub sum: u64,
 }
 
-// An event up to a part of a kept payload (crate rules); of a fault the code is in len. A part is len bytes of the piece from start on.
+// What a piece brought: a part of content or of a section, a fault, the end of a kept payload, with its mode, or a part of one.
+#[derive(Clone, Copy, Debug, PartialEq, Eq)]
+pub enum Event {
+    Nothing,
+    Content,
+    Section,
+    SectionEnd,
+    Fault(Code),
+    Kept(u64),
+    KeptPart,
+}
+
+impl Event {
+    // As a host's report has it.
+    pub fn number(self) -> u64
+        ensures { result ≡ event_number self }
+    {
+        match self {
+            Event::Nothing => rules::NOTHING,
+            Event::Content => rules::CONTENT,
+            Event::Section => rules::SECTION,
+            Event::SectionEnd => rules::SECTION_END,
+            Event::Fault(_) => rules::FAULT,
+            Event::Kept(_) => rules::KEPT,
+            Event::KeptPart => rules::KEPT_PART,
+        }
+    }
+}
+
+// A part is len bytes of the piece from start on.
 #[derive(Clone, Copy)]
 pub struct Answer {
-    pub event: u64,
+    pub event: Event,
     pub start: usize,
     pub len: u64,
     pub used: usize,
@@ -447,10 +476,10 @@ fn in_mode(c: Cells, mode: u64, acc: u64) -> Cells
 
 // No event, at the end of what was used.
 fn quiet(used: usize, heads: u64, cells: Cells) -> Answer
-    ensures { result ≡ answer NOTHING used 0 used heads cells }
+    ensures { result ≡ answer event.Nothing used 0 used heads cells }
 {
     Answer {
-        event: rules::NOTHING,
+        event: Event::Nothing,
         start: used,
         len: 0,
         used,
@@ -462,8 +491,8 @@ fn quiet(used: usize, heads: u64, cells: Cells) -> Answer
 // How the parts of a payload are reported: the event of the last one, of one before it, and the mode behind the payload.
 #[derive(Clone, Copy)]
 struct Telling {
-    last: u64,
-    part: u64,
+    last: Event,
+    part: Event,
     behind: u64,
 }
 
@@ -473,23 +502,23 @@ fn told(mode: u64) -> Telling
 {
     match mode {
         IN_CONTENT => Telling {
-            last: rules::CONTENT,
-            part: rules::CONTENT,
+            last: Event::Content,
+            part: Event::Content,
             behind: IN_TYPE,
         },
         IN_HEADER_SECTION => Telling {
-            last: rules::SECTION_END,
-            part: rules::SECTION,
+            last: Event::SectionEnd,
+            part: Event::Section,
             behind: HEADER_SECTION_DUE,
         },
         IN_TRAILERS => Telling {
-            last: rules::SECTION_END,
-            part: rules::SECTION,
+            last: Event::SectionEnd,
+            part: Event::Section,
             behind: TRAILERS_DUE,
         },
         _ => Telling {
-            last: rules::KEPT,
-            part: rules::KEPT_PART,
+            last: Event::Kept(mode),
+            part: Event::KeptPart,
             behind: mode,
         },
     }
@@ -576,8 +605,7 @@ fn stopped(s: &[u8], h: Halt, c: Cells, heads: u64) -> Answer
             }
         }
         Some(Err(code)) => Answer {
-            event: rules::FAULT,
-            len: code.number(),
+            event: Event::Fault(code),
             ..quiet(h.at, heads, c)
         },
         Some(Ok(Use::Content)) => {
@@ -720,7 +748,7 @@ pub fn feed(s: &[u8], c: Cells, allow: u64) -> Answer
 // Any other event says nothing.
 pub fn brisk(s: &[u8], c: Cells, allow: u64) -> Answer
     requires { Sane c }
-    ensures { result.event ≡ CONTENT → Fed c s.now allow result × Content c result.cells }
+    ensures { result.event ≡ event.Content → Fed c s.now allow result × Content c result.cells }
 {
     if c.mode == IN_CONTENT {
         return handed(s, 0, c.acc, IN_CONTENT, c, 0);

@@ -6,9 +6,7 @@ use Prim.Native.Nat.{ℕ, zero, suc, ◌+◌, ◌-◌, ◌≤◌, ◌<◌}
 use Rattle.std.proofs.Math.Nat.{add-zero}
 use native.Mathlib.Omega.{arith}
 use mathlib.Core.List.{List, [], ◌∷◌}
-use Rattle.std.proofs.Math.Logic.{inl, inr}
 use Rattle.std.proofs.Math.ListN.{length, drop, drop_of_length-le}
-use Rattle.rules.specs.Numbers.{coded, code_number}
 use Rattle.rules.specs.declared.codes.Code.{Code}
 use Rattle.rules.specs.Named.{code_of}
 use Rattle.rules.specs.Control.{Control, unset, control}
@@ -24,11 +22,12 @@ use Rattle.frames.specs.Both as place
 use Rattle.frames.specs.Uses.{place_of, a_place}
 use Rattle.frames.specs.Heads.{head_state}
 use Rattle.frames.specs.Answers.{mode_state, state_of, StandsIn, Sane}
+use Rattle.frames.specs.declared.Event.TheVariants as event
+use Rattle.oneway.specs.declared.Event.TheVariants as one
 use Rattle.oneway.specs.declared.Seen.{Seen}
 use Rattle.oneway.specs.declared.OneWay.{OneWay}
 use Rattle.oneway.specs.declared.OneAnswer.{OneAnswer}
 use Rattle.oneway.specs.Types.{seen_of, KindOf}
-use Rattle.meaning.specs.NumberLaws.{coded_back}
 use Rattle.oneway.specs.Stands.{one_state_at, one_state, OneStands, qpack_of, one_answer_at, OneSoundAt, OneSound, cells_of, OneShapeAt, OneShape, StandsAt, Says, OneFed}
 use Rattle.oneway.specs.Typed.{one_past, one_past_none, TypeWhole, TypeCut}
 use Rattle.oneway.specs.Frames.{frame_sane, frames_stand, frames_from, Controlled}
@@ -38,7 +37,7 @@ abbrev pub untyped : Cells → OneWay
 untyped c = record { kind = 2; cells = c }
 
 abbrev pub quiet_at : (to : ℕ) → OneWay → OneAnswer
-quiet_at to w = record { event = 0; start = to; len = 0; used = to; heads = 0; payload = 0; stream = w }
+quiet_at to w = record { event = one.Frames event.Nothing; start = to; len = 0; used = to; heads = 0; stream = w }
 
 -- ---- a QPACK or skipped stream
 
@@ -85,7 +84,7 @@ module _ (s : List ℕ) (at : ℕ) (w : at ≤ length s) (c : Cells) where
   left : length (drop at s) ≡ length s - at
   left = length-drop at s
 
-  skipped_all : (kind : ℕ) (p : Control) (k : List ℕ) → DECODER < kind → one_past at (bare_feed kind (drop at s)) ≡ one_answer_at 0 (length s) 0 (length s) 0 0 (record { kind = kind; cells = c }) p k s
+  skipped_all : (kind : ℕ) (p : Control) (k : List ℕ) → DECODER < kind → one_past at (bare_feed kind (drop at s)) ≡ one_answer_at (one.Frames event.Nothing) (length s) 0 (length s) 0 (record { kind = kind; cells = c }) p k s
   unfolding one_past bare_feed kind_feed one_answer_at one_state_at
   skipped_all zero p k h = absurd (omega arith)
   skipped_all (suc zero) p k h = absurd (omega arith)
@@ -96,7 +95,7 @@ module _ (s : List ℕ) (at : ℕ) (w : at ≤ length s) (c : Cells) where
   skipped_all (suc (suc (suc (suc (suc (suc n)))))) p k h = let e : at + length (drop at s) ≡ length s = omega (arith, left) in rw e refl
 
   qpack_all : (kind : ℕ) (p : Control) (k : List ℕ) → ENCODER ≤ kind → kind ≤ DECODER → at < length s
-      → one_past at (bare_feed kind (drop at s)) ≡ one_answer_at 7 at (length s - at) (length s) 0 0 (record { kind = kind; cells = c }) p k s
+      → one_past at (bare_feed kind (drop at s)) ≡ one_answer_at one.Qpack at (length s - at) (length s) 0 (record { kind = kind; cells = c }) p k s
   unfolding one_past bare_feed one_answer_at one_state_at qpack_of
   qpack_all zero p k h l m = absurd (omega arith)
   qpack_all (suc zero) p k h l m = absurd (omega arith)
@@ -107,7 +106,7 @@ module _ (s : List ℕ) (at : ℕ) (w : at ≤ length s) (c : Cells) where
   qpack_all (suc (suc (suc (suc (suc (suc n)))))) p k h l m = absurd (omega arith)
 
   qpack_none : (kind : ℕ) (p : Control) (k : List ℕ) → ENCODER ≤ kind → kind ≤ DECODER → length s ≤ at
-      → one_past at (bare_feed kind (drop at s)) ≡ one_answer_at 0 at 0 at 0 0 (record { kind = kind; cells = c }) p k s
+      → one_past at (bare_feed kind (drop at s)) ≡ one_answer_at (one.Frames event.Nothing) at 0 at 0 (record { kind = kind; cells = c }) p k s
   unfolding one_past bare_feed one_answer_at one_state_at halt
   qpack_none zero p k h l m = absurd (omega arith)
   qpack_none (suc zero) p k h l m = absurd (omega arith)
@@ -122,49 +121,43 @@ module _ (s : List ℕ) (at : ℕ) (w : at ≤ length s) (o : OneWay) where
   bare_skipped h e b = rw e (record {
     is = λ p k st. skipped_all s at w o.cells o.kind p k h;
     within = omega arith;
-    part = inl (omega arith);
+    part = omega arith;
     sound = bare_sound o.kind o.cells (omega arith);
     shaped = λ sh. sh;
-    plain = λ sh l. refl;
-    known = omega arith;
-    stays = λ x. absurd (omega arith);
-    behind = λ x. absurd (omega arith);
-    held = λ x. absurd (omega arith);
-    listed = λ x. absurd (omega arith);
-    leaves = λ x y p k st. stands_bare o.kind o.cells p (omega arith);
+    plain = λ sh. tt;
+    stays = λ code x. cc;
+    behind = λ which x. cc;
+    held = λ x. cc;
+    leaves = λ g p k st. stands_bare o.kind o.cells p (omega arith);
   })
 
   pub bare_bytes : ENCODER ≤ o.kind → o.kind ≤ DECODER → at < length s
-      → Bare s at o (record { event = 7; start = at; len = length s - at; used = length s; heads = 0; payload = 0; stream = o })
+      → Bare s at o (record { event = one.Qpack; start = at; len = length s - at; used = length s; heads = 0; stream = o })
   bare_bytes h l m b = record {
     is = λ p k st. qpack_all s at w o.cells o.kind p k h l m;
     within = omega arith;
-    part = inl (omega arith);
+    part = omega arith;
     sound = bare_sound o.kind o.cells h;
     shaped = λ sh. sh;
-    plain = λ sh l. absurd (omega arith);
-    known = omega arith;
-    stays = λ x. absurd (omega arith);
-    behind = λ x. absurd (omega arith);
-    held = λ x. absurd (omega arith);
-    listed = λ x. absurd (omega arith);
-    leaves = λ x y p k st. stands_bare o.kind o.cells p (omega arith);
+    plain = λ sh. tt;
+    stays = λ code x. cc;
+    behind = λ which x. cc;
+    held = λ x. cc;
+    leaves = λ g p k st. stands_bare o.kind o.cells p (omega arith);
   }
 
   pub bare_none : {r : OneAnswer} → ENCODER ≤ o.kind → o.kind ≤ DECODER → length s ≤ at → r ≡ quiet_at at o → Bare s at o r
   bare_none h l m e b = rw e (record {
     is = λ p k st. qpack_none s at w o.cells o.kind p k h l m;
     within = w;
-    part = inl (omega arith);
+    part = omega arith;
     sound = bare_sound o.kind o.cells h;
     shaped = λ sh. sh;
-    plain = λ sh l. refl;
-    known = omega arith;
-    stays = λ x. absurd (omega arith);
-    behind = λ x. absurd (omega arith);
-    held = λ x. absurd (omega arith);
-    listed = λ x. absurd (omega arith);
-    leaves = λ x y p k st. stands_bare o.kind o.cells p (omega arith);
+    plain = λ sh. tt;
+    stays = λ code x. cc;
+    behind = λ which x. cc;
+    held = λ x. cc;
+    leaves = λ g p k st. stands_bare o.kind o.cells p (omega arith);
   })
 
 -- ---- what is sound, by its kind
@@ -206,12 +199,10 @@ module _ (o : OneWay) (seen : Seen) (s : List ℕ) (allow : ℕ) where
     sound = b.sound;
     shaped = b.shaped;
     plain = b.plain;
-    known = b.known;
     stays = b.stays;
     behind = b.behind;
     held = b.held;
-    listed = b.listed;
-    leaves = λ x y p k st. b.leaves x y p k tt;
+    leaves = λ g p k st. b.leaves g p k tt;
   }
 
   same_kind : (kind : ℕ) → o.kind ≡ kind → ◌≡◌ {A = OneWay} (record { kind = kind; cells = o.cells }) o
@@ -232,13 +223,11 @@ module _ (o : OneWay) (seen : Seen) (s : List ℕ) (allow : ℕ) where
     part = b.part;
     sound = b.sound;
     shaped = λ sh. b.shaped (rw e at sh, sh);
-    plain = λ sh h. b.plain (rw e at sh, sh) h;
-    known = b.known;
+    plain = λ sh. b.plain (rw e at sh, sh);
     stays = b.stays;
     behind = b.behind;
     held = b.held;
-    listed = b.listed;
-    leaves = λ x y p k st. b.leaves x y p k (control_stands o.kind p k e st);
+    leaves = λ g p k st. b.leaves g p k (control_stands o.kind p k e st);
   }
 
 -- ---- a stream whose type is read
@@ -291,19 +280,17 @@ module _ (c : Cells) (seen : Seen) (s : List ℕ) (allow : ℕ) where
   typed_cut {e} q f g = rw (g, f) (record {
     is = λ p k st. type_state _ p k (q.is (seen_of seen) allow) ∙ ended p k;
     within = omega arith;
-    part = inl (omega arith);
+    part = omega arith;
     sound = q.good;
     shaped = λ sh. refl;
-    plain = λ sh h. refl;
-    known = omega arith;
-    stays = λ x. absurd (omega arith);
-    behind = λ x. absurd (omega arith);
-    held = λ x. absurd (omega arith);
-    listed = λ x. absurd (omega arith);
-    leaves = λ x y p k st. st.0;
+    plain = λ sh. tt;
+    stays = λ code x. cc;
+    behind = λ which x. cc;
+    held = λ x. cc;
+    leaves = λ g p k st. st.0;
   })
     where
-      ended : (p : Control) (k : List ℕ) → one_past (length s) (type_feed (seen_of seen) allow (prog e.due e.acc) []) ≡ one_answer_at 0 (length s) 0 (length s) 0 0 (untyped (cells_of e.acc e.due 0)) p k s
+      ended : (p : Control) (k : List ℕ) → one_past (length s) (type_feed (seen_of seen) allow (prog e.due e.acc) []) ≡ one_answer_at (one.Frames event.Nothing) (length s) 0 (length s) 0 (untyped (cells_of e.acc e.due 0)) p k s
       ended p k = ap (one_past (length s)) (cut_feed (seen_of seen) allow e.acc e.due) ∙ (let y = add-zero (length s) in rw y refl)
 
   module _ {t next : ℕ} (q : TypeWhole s c.acc c.due t next) where
@@ -311,29 +298,24 @@ module _ (c : Cells) (seen : Seen) (s : List ℕ) (allow : ℕ) where
         → feed (seen_of seen) allow (one_state (untyped c) p k) s ≡ one_past next (f (drop next s))
     known_state f p k x = type_state _ p k (q.is (seen_of seen) allow ∙ ap (one_past next) x)
 
-    pub typed_refused : (code : Code) {n : ℕ} → KindOf (Err code) (type_rule (seen_of seen) t) → n ≡ code_number (code_of code) → Good (part c.acc c.due)
-        → OneFed (untyped c) seen s allow (record { event = 4; start = next; len = n; used = next; heads = 0; payload = 0; stream = untyped c })
+    pub typed_refused : (code : Code) → KindOf (Err code) (type_rule (seen_of seen) t) → Good (part c.acc c.due)
+        → OneFed (untyped c) seen s allow (record { event = one.Frames (event.Fault code); start = next; len = 0; used = next; heads = 0; stream = untyped c })
     unfolding OneSoundAt one_past halt one_answer_at
-    typed_refused code {n} is-code number g = record {
+    typed_refused code is-code g = record {
       is = λ p k st. known_state (λ x. halt (dies (code_of code))) p k (refused_feed allow _ code (drop next s) is-code) ∙ refused p k;
       within = q.within;
-      part = inr refl;
+      part = omega arith;
       sound = g;
       shaped = λ sh. sh;
-      plain = λ sh l. absurd (omega arith);
-      known = omega arith;
-      stays = λ x. refl;
-      behind = λ x. absurd (omega arith);
-      held = λ x. absurd (omega arith);
-      listed = λ x. ap code_number back ∙ sym number;
-      leaves = λ x y p k st. absurd (x refl);
+      plain = λ sh. tt;
+      stays = λ other x. refl;
+      behind = λ which x. cc;
+      held = λ x. cc;
+      leaves = λ g p k st. absurd g;
     }
       where
-        back : coded n ≡ code_of code
-        back = ap coded number ∙ coded_back (code_of code)
-
-        refused : (p : Control) (k : List ℕ) → one_past next (halt (dies (code_of code))) ≡ one_answer_at 4 next n next 0 0 (untyped c) p k s
-        refused p k = ap (λ y. one_past next (halt (dies y))) (sym back) ∙ (let y = add-zero next in rw y refl)
+        refused : (p : Control) (k : List ℕ) → one_past next (halt (dies (code_of code))) ≡ one_answer_at (one.Frames (event.Fault code)) next 0 next 0 (untyped c) p k s
+        refused p k = let y = add-zero next in rw y refl
 
     untyped_stands : (p : Control) (k : List ℕ) → OneStands 2 c p k → frames_stand (cells_of 0 0 3) p k
     unfolding OneStands
@@ -358,13 +340,11 @@ module _ (c : Cells) (seen : Seen) (s : List ℕ) (allow : ℕ) where
           part = b'.part;
           sound = b'.sound;
           shaped = λ sh. b'.shaped (fresh_shape, sh);
-          plain = λ sh h. b'.plain (fresh_shape, sh) h;
-          known = b'.known;
+          plain = λ sh. b'.plain (fresh_shape, sh);
           stays = b'.stays;
           behind = b'.behind;
           held = b'.held;
-          listed = b'.listed;
-          leaves = λ x y p k st. b'.leaves x y p k (untyped_stands p k st);
+          leaves = λ g p k st. b'.leaves g p k (untyped_stands p k st);
         }
 
     pub kind_bare : (kind : ℕ) → KindOf (Ok kind) (type_rule (seen_of seen) t) → (kind ≡ CONTROL → ⊥) → (ENCODER ≤ kind) × (kind ≤ SKIPPED)
@@ -391,11 +371,9 @@ module _ (c : Cells) (seen : Seen) (s : List ℕ) (allow : ℕ) where
       part = b.part;
       sound = b.sound;
       shaped = λ sh. b.shaped (bare_shape kind d low.0 (λ x. omega arith) f);
-      plain = λ sh l. b.plain (bare_shape kind d low.0 (λ x. omega arith) f) l;
-      known = b.known;
+      plain = λ sh. b.plain (bare_shape kind d low.0 (λ x. omega arith) f);
       stays = b.stays;
       behind = b.behind;
       held = b.held;
-      listed = b.listed;
-      leaves = λ x y p k st. b.leaves x y p k tt;
+      leaves = λ g p k st. b.leaves g p k tt;
     }

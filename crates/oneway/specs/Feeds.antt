@@ -1,16 +1,16 @@
 -- Laws of the calls on one one-way stream: a law for each way out. Assumes nothing.
-use Rattle.std.specs.Prelude.{◌≡◌, drop, replicate, eqb, Bool, true, false, Result, Ok, Err}
+use Rattle.std.specs.Prelude.{◌≡◌, ◌⊎◌, drop, replicate, eqb, Bool, true, false, Result, Ok, Err}
 use Rattle.std.proofs.Math.Path.{refl, sym, ap}
-use Rattle.std.proofs.Common.{◌∙◌, subst, ⊎_elim, take_all}
+use Rattle.std.proofs.Common.{◌∙◌, subst, take_all}
 use Prim.Native.Nat.{ℕ, zero, suc, ◌+◌, ◌-◌, ◌%◌, ◌≤◌, ◌<◌, ◌^◌, min}
 use Rattle.std.proofs.Math.Nat.{add-zero}
+use Rattle.std.proofs.Math.Logic.{inl, inr}
 use native.Mathlib.Omega.{arith}
 use mathlib.Core.List.{List, [], ◌++◌}
 use Rattle.std.proofs.Math.ListN.{length, take, length-append}
 use Rattle.std.proofs.Math.Seq.{take-nil, length-take-le}
-use borrow.Author.Tests.{le-ltb, eq-eqb, eqb-true, eqb-false}
-use Rattle.rules.specs.Events.{NOTHING, FAULT, KEPT, KEPT-PART, QPACK}
-use Rattle.rules.specs.Numbers.{ACCEPTED, Code, code_number, coded}
+use borrow.Author.Tests.{le-ltb, eqb-true, eqb-false}
+use Rattle.rules.specs.Numbers.{ACCEPTED, Code, code_number}
 use Rattle.rules.specs.declared.codes.Code as declared-code
 use Rattle.rules.specs.Named.{code_of}
 use Rattle.rules.specs.Reading.{Next, stop, go, kept}
@@ -29,10 +29,14 @@ use Rattle.record.specs.Kinds.{CONTROL}
 use Rattle.record.specs.declared.Record.{Record}
 use Rattle.record.specs.Row.{place_in, one_way_record, free_record}
 use Rattle.record.specs.Sound.{Fit, cells_in, stream, Written}
+use Rattle.frames.specs.declared.Event as frames-event
+use Rattle.frames.specs.declared.Event.TheVariants as event
+use Rattle.oneway.specs.declared.Event as declared-event
+use Rattle.oneway.specs.declared.Event.TheVariants as one
 use Rattle.oneway.specs.declared.OneWay.{OneWay}
 use Rattle.oneway.specs.declared.OneAnswer.{OneAnswer}
 use Rattle.oneway.specs.Types.{types_of}
-use Rattle.oneway.specs.Stands.{one_state_at, one_state, OneStands, qpack_of, one_answer_at, OneSoundAt, OneShapeAt, StandsAt, cells_of, OneFed}
+use Rattle.oneway.specs.Stands.{one_state_at, one_state, OneStands, qpack_of, one_answer_at, NoneHanded, Goes, OneSoundAt, OneShapeAt, StandsAt, cells_of, OneFed}
 use Rattle.oneway.specs.Frames.{frame_cells, frame_sane}
 use Rattle.oneway.specs.Row.{one_fit}
 use Rattle.oneway.specs.Closed.{closes, freed_or, Closes, freed_none, freed_code, behind_judged, behind_between}
@@ -43,8 +47,8 @@ use Rattle.control.specs.Rules.{control_of, Says, judged_says}
 use Rattle.meaning.specs.NumberLaws.{code_high}
 use Rattle.oneway.specs.declared.calls.Side.{Side}
 use Rattle.oneway.specs.declared.calls.Heard.{Heard}
-use Rattle.oneway.specs.Mirror.{kept_numbers, kept_in, sofar_in, bytes_of, held_in, side_of, side_after, side_by, begun_in}
-use Rattle.oneway.specs.Numbers.{begun_none, bytes_back}
+use Rattle.oneway.specs.Mirror.{kept_numbers, kept_in, sofar_in, bytes_of, held_in, side_of, side_after, side_by}
+use Rattle.oneway.specs.Numbers.{bytes_back}
 use Rattle.oneway.specs.Room.{OneFits, stays_fit}
 use Rattle.oneway.specs.Back.{here_fits, left_back}
 use Rattle.oneway.specs.Heard.{Heeds, place_here, sofar_here, state_here, heard, taken_number, value_in, frame_event, frame_value, type_number, said_by, said, judging, judged_here, feeding, fed_here, Stays, closed_by, closed_here, HeardAs, shut, opened}
@@ -156,55 +160,51 @@ module _ (which phase : ℕ) (payload : List ℕ) (used heads : ℕ) (r : Record
       let x = judged_says was payload which in
       good_as judgement x.0 v refl (subst (λ y. Says was x.0 y judgement) (sym e) x.1) z i m t f g w h ∙ wants_is
 
--- ---- what an answer in numbers says
+-- ---- what an answer says
 
-module _ (r : Record) (d : Side) (start len used heads payload : ℕ) (w : OneWay) (p : Control) (s : List ℕ) where
-  abbrev says : (event : ℕ) → Heard
-  says event = said r d (one_answer_at event start len used heads payload w p [] s)
+module _ (r : Record) (d : Side) (start len used heads : ℕ) (w : OneWay) (p : Control) (s : List ℕ) where
+  abbrev says : declared-event.Event → Heard
+  says e = said r d (one_answer_at e start len used heads w p [] s)
 
   abbrev leaves : (event value start' len' : ℕ) → List ℕ → Heard
   leaves event value start' len' k = heard 0 event start' len' used heads value (one_way_record r.id (one_state w p k)) (side_after d (one_state w p k))
 
-  said_fault : (event : ℕ) → event ≡ FAULT → code_number (coded len) ≡ len → heard len 0 0 0 used heads 0 r d ≡ says event
+  said_fault : (e : declared-event.Event) (code : declared-code.Code) → e ≡ one.Frames (event.Fault code) → heard (code_number (code_of code)) 0 0 0 used heads 0 r d ≡ says e
   unfolding one_answer_at said_by
-  said_fault event e n = rw e (ap (λ x. heard x 0 0 0 used heads 0 r d) (sym n))
+  said_fault e code q = rw q refl
 
-  said_part : (event : ℕ) → event ≡ KEPT-PART → leaves 0 0 0 0 (take len (drop start s)) ≡ says event
+  said_part : (e : declared-event.Event) → e ≡ one.Frames event.KeptPart → leaves 0 0 0 0 (take len (drop start s)) ≡ says e
   unfolding one_answer_at said_by frame_event frame_value
-  said_part event e = rw e refl
+  said_part e q = rw q refl
 
-  said_qpack : (event : ℕ) → event ≡ QPACK → leaves 7 (type_number (qpack_of w.kind)) (used - len) len [] ≡ says event
+  said_qpack : (e : declared-event.Event) → e ≡ one.Qpack → leaves 7 (type_number (qpack_of w.kind)) (used - len) len [] ≡ says e
   unfolding one_answer_at said_by
-  said_qpack event e = rw e refl
+  said_qpack e q = rw q refl
 
-  said_quiet : (event : ℕ) → event ≡ NOTHING → leaves 0 0 0 0 [] ≡ says event
+  said_quiet : (e : declared-event.Event) → e ≡ one.Frames event.Nothing → leaves 0 0 0 0 [] ≡ says e
   unfolding one_answer_at said_by frame_event frame_value
-  said_quiet event e = rw e refl
+  said_quiet e q = rw q refl
 
 -- ---- on with a type, with frames, or with what has none
 
-pub begun_low : (event len : ℕ) → begun_in event len ≤ len
-unfolding begun_in
-begun_low event len = by (eqb event 6)
-  where
-    by : (b : Bool) → (elim b as (λ x. ℕ) [ true ↦ min len 256 | false ↦ 0 ]) ≤ len
-    by true = omega arith
-    by false = omega arith
+-- of frames, what is neither a fault nor kept
+pub plain_part : {e : declared-event.Event} {f : frames-event.Event} → e ≡ one.Frames f → f ≡ event.Nothing ⊎ (f ≡ event.Content ⊎ (f ≡ event.Section ⊎ f ≡ event.SectionEnd))
+    → Goes e × (e ≡ one.Frames event.KeptPart → ⊥) × (e ≡ one.Qpack → ⊥)
+plain_part q (inl h) = rw (q, h) (tt, (λ x. cc), λ x. cc)
+plain_part q (inr (inl h)) = rw (q, h) (tt, (λ x. cc), λ x. cc)
+plain_part q (inr (inr (inl h))) = rw (q, h) (tt, (λ x. cc), λ x. cc)
+plain_part q (inr (inr (inr h))) = rw (q, h) (tt, (λ x. cc), λ x. cc)
 
-pub begun_few : (event len : ℕ) → begun_in event len ≤ 256
-unfolding begun_in
-begun_few event len = by (eqb event 6)
-  where
-    by : (b : Bool) → (elim b as (λ x. ℕ) [ true ↦ min len 256 | false ↦ 0 ]) ≤ 256
-    by true = omega arith
-    by false = omega arith
-
-below_four : (e : ℕ) → e ≤ 7 → (e ≡ 4 → ⊥) → (e ≡ 5 → ⊥) → (e ≡ 6 → ⊥) → (e ≡ 7 → ⊥) → e < 4
-below_four e h a b c d = omega arith
-
-pub begun_six : (event len : ℕ) → event ≡ KEPT-PART → begun_in event len ≡ min len 256
-unfolding begun_in
-begun_six event len e = let x = eq-eqb event 6 e in rw (x, begun_in) refl
+-- nothing else comes
+nothing_else : (e : declared-event.Event) → Goes e → NoneHanded e → (e ≡ one.Frames event.KeptPart → ⊥) → (e ≡ one.Qpack → ⊥) → e ≡ one.Frames event.Nothing
+nothing_else (one.Frames event.Nothing) g n x y = refl
+nothing_else (one.Frames event.Content) g n x y = absurd n
+nothing_else (one.Frames event.Section) g n x y = absurd n
+nothing_else (one.Frames event.SectionEnd) g n x y = absurd n
+nothing_else (one.Frames (event.Fault code)) g n x y = absurd g
+nothing_else (one.Frames (event.Kept which)) g n x y = absurd g
+nothing_else (one.Frames event.KeptPart) g n x y = absurd (x refl)
+nothing_else one.Qpack g n x y = absurd (y refl)
 
 module _ (r : Record) (o : Heeds r) (d : Side) {c : Cells} (ec : c ≡ cells_in r) (m : c.mode < IN-SETTINGS) (s : List ℕ) (allow : ℕ) (a : OneAnswer)
     (fed : OneFed (record { kind = r.kind; cells = c }) (record { control = d.control; encoder = d.encoder; decoder = d.decoder }) s allow a) where
@@ -220,7 +220,7 @@ module _ (r : Record) (o : Heeds r) (d : Side) {c : Cells} (ec : c ≡ cells_in 
   low : r.mode < IN-SETTINGS
   low = rw ec at m
 
-  wanted : said r d (one_answer_at a.event a.start a.len a.used a.heads a.payload a.stream p [] s) ≡ want
+  wanted : said r d (one_answer_at a.event a.start a.len a.used a.heads a.stream p [] s) ≡ want
   wanted =
       sym (ap (said r d) (own_fed.is p [] (stands_here r o d)))
       ∙ sym (ap (λ k. said r d (feed (types_of d.control d.encoder d.decoder) allow (one_state_at r.kind (cells_in r) p k) s)) (none_held r o d low))
@@ -234,117 +234,109 @@ module _ (r : Record) (o : Heeds r) (d : Side) {c : Cells} (ec : c ≡ cells_in 
   pub on_fit : Fit after.kind r.id after.cells
   on_fit = let h = o.sound.fit.shaped in one_fit r.id h.ids (h.one_way_id o.kind) after own_fed.sound shape_after
 
-  pub on_fault : a.event ≡ FAULT → {x : Heard} → x ≡ heard a.len 0 0 0 a.used a.heads 0 r d → x ≡ want
-  on_fault e q = q ∙ said_fault r d a.start a.len a.used a.heads a.payload after p s a.event e (own_fed.listed e) ∙ wanted
+  pub on_fault : (code : declared-code.Code) → a.event ≡ one.Frames (event.Fault code) → {n : ℕ} {x : Heard} → n ≡ code_number (code_of code) → x ≡ heard n 0 0 0 a.used a.heads 0 r d → x ≡ want
+  on_fault code e z q = q ∙ ap (λ y. heard y 0 0 0 a.used a.heads 0 r d) z ∙ said_fault r d a.start a.len a.used a.heads after p s a.event code e ∙ wanted
 
-  is_fed : feeding d allow s (state_here r d) ≡ one_answer_at a.event a.start a.len a.used a.heads a.payload after p [] s
+  is_fed : feeding d allow s (state_here r d) ≡ one_answer_at a.event a.start a.len a.used a.heads after p [] s
   is_fed = ap (λ k. feeding d allow s (one_state_at r.kind (cells_in r) p k)) (none_held r o d low) ∙ own_fed.is p [] (stands_here r o d)
 
-  fault_after : (event start len used heads payload : ℕ) (k : List ℕ) → event ≡ FAULT → (one_answer_at event start len used heads payload after p k s).after ≡ dies (coded len)
+  fault_after : (e : declared-event.Event) (start len used heads : ℕ) (k : List ℕ) (code : declared-code.Code) → e ≡ one.Frames (event.Fault code) → (one_answer_at e start len used heads after p k s).after ≡ dies (code_of code)
   unfolding one_answer_at
-  fault_after event start len used heads payload k e = rw e refl
+  fault_after e start len used heads k code q = rw q refl
 
-  pub fault_stays : a.event ≡ FAULT → (row : Record) (side : Side) → Stays row side (feeding d allow s (state_here r d))
-  fault_stays e row side t f = absurd (dies_not (sym (ap (λ y. y.after) is_fed ∙ fault_after a.event a.start a.len a.used a.heads a.payload [] e) ∙ f))
+  pub fault_stays : (code : declared-code.Code) → a.event ≡ one.Frames (event.Fault code) → (row : Record) (side : Side) → Stays row side (feeding d allow s (state_here r d))
+  fault_stays code e row side t f = absurd (dies_not (sym (ap (λ y. y.after) is_fed ∙ fault_after a.event a.start a.len a.used a.heads [] code e) ∙ f))
 
-  part_is : (a.event ≡ FAULT → ⊥) → a.start + a.len ≡ a.used
-  part_is n = ⊎_elim (λ e. e) (λ e. absurd (n e)) own_fed.part
+  part_is : a.start + a.len ≡ a.used
+  part_is = own_fed.part
 
-  pub part_in : (a.event ≡ FAULT → ⊥) → {n : ℕ} → n ≡ begun_in a.event a.len → a.start + n ≤ length s
-  part_in n q = let e = part_is n in let l = begun_low a.event a.len in omega (arith, own_fed.within)
+  pub part_in : a.start + a.len ≤ length s
+  part_in = let e = part_is in omega (arith, own_fed.within)
 
-  judged_answer : (event start len used heads payload : ℕ) → event ≡ KEPT → of_control (past used heads (judged_as control 0 p (kept_at payload) (take len (drop start s)))) ≡ one_answer_at event start len used heads payload after p [] s
+  judged_answer : (e : declared-event.Event) (start len used heads which : ℕ) → e ≡ one.Frames (event.Kept which)
+      → of_control (past used heads (judged_as control 0 p (kept_at which) (take len (drop start s)))) ≡ one_answer_at e start len used heads after p [] s
   unfolding one_answer_at
-  judged_answer event start len used heads payload e = rw e refl
+  judged_answer e start len used heads which q = rw q refl
 
-  pub on_judged : a.event ≡ KEPT → {phase : ℕ} → phase ≡ c.phase → {all : List ℕ} → all ≡ take (a.used - a.start) (drop a.start s)
-      → judging a.payload phase all a.used a.heads d ≡ feeding d allow s (state_here r d)
-  on_judged e f g =
-      let l : a.used - a.start ≡ a.len = (let z = part_is (λ y. omega arith) in omega arith) in
+  pub on_judged : (which : ℕ) → a.event ≡ one.Frames (event.Kept which) → {phase : ℕ} → phase ≡ c.phase → {all : List ℕ} → all ≡ take (a.used - a.start) (drop a.start s)
+      → judging which phase all a.used a.heads d ≡ feeding d allow s (state_here r d)
+  on_judged which e f g =
+      let l : a.used - a.start ≡ a.len = (let z = part_is in omega arith) in
       let ph : c.phase ≡ r.phase = ap (λ y. y.phase) ec in
-      rw (g, l, f, ph) (judged_answer a.event a.start a.len a.used a.heads a.payload e ∙ sym is_fed)
+      rw (g, l, f, ph) (judged_answer a.event a.start a.len a.used a.heads which e ∙ sym is_fed)
 
-  module _ (n4 : a.event ≡ FAULT → ⊥) (n5 : a.event ≡ KEPT → ⊥) {row : Record} (written : Written (stream after.kind r.id after.cells) row)
-      {side : Side} (beside : side ≡ side_by after.kind c.phase d (take (begun_in a.event a.len) (drop a.start s))) where
+  module _ (goes : Goes a.event) {row : Record} (written : Written (stream after.kind r.id after.cells) row)
+      {side : Side} (word : List ℕ) (beside : side ≡ side_by after.kind c.phase d word) where
     pub row_is : (k : List ℕ) → row ≡ one_way_record r.id (one_state after p k)
-    row_is k = row_of_state r.id after.cells p k after.kind (own_fed.leaves n4 n5 p [] (stands_here r o d)) shape_after on_fit written
+    row_is k = row_of_state r.id after.cells p k after.kind (own_fed.leaves goes p [] (stands_here r o d)) shape_after on_fit written
 
-    pub side_is : (k : List ℕ) → take (begun_in a.event a.len) (drop a.start s) ≡ take 256 k → sofar_in (state_of after.cells p k) ≡ k → side ≡ side_after d (one_state after p k)
+    pub side_is : (k : List ℕ) → word ≡ take 256 k → sofar_in (state_of after.cells p k) ≡ k → side ≡ side_after d (one_state after p k)
     side_is k e f =
         let ph : c.phase ≡ r.phase = ap (λ y. y.phase) ec in
         beside ∙ rw (e, ph) (side_of_state d r.phase after.cells k after.kind f)
 
-    pub none_begun : (a.event ≡ KEPT-PART → ⊥) → take (begun_in a.event a.len) (drop a.start s) ≡ take {A = ℕ} 256 []
-    none_begun n = let z = begun_none a.event a.len n in ap (λ y. take y (drop a.start s)) (sym z) ∙ sym (take-nil 256)
-
     pub none_kept : sofar_in (state_of after.cells p []) ≡ []
     none_kept = sofar_none after.cells.mode after.cells.acc after.cells.due after.cells.ftype p
 
-    pub on_qpack : a.event ≡ QPACK → {value : ℕ} → value ≡ type_number (qpack_of after.kind) → heard 0 7 a.start a.len a.used a.heads value row side ≡ want
-    on_qpack e v =
-        let l : a.start ≡ a.used - a.len = (let z = part_is n4 in omega arith) in
+    pub on_qpack : word ≡ [] → a.event ≡ one.Qpack → {value : ℕ} → value ≡ type_number (qpack_of after.kind) → heard 0 7 a.start a.len a.used a.heads value row side ≡ want
+    on_qpack z e v =
+        let l : a.start ≡ a.used - a.len = (let z = part_is in omega arith) in
         let x = row_is [] in
-        let y = side_is [] (none_begun (λ z. omega arith)) none_kept in
-        rw (l, v, x, y) (said_qpack r d a.start a.len a.used a.heads a.payload after p s a.event e ∙ wanted)
+        let y = side_is [] (z ∙ sym (take-nil 256)) none_kept in
+        rw (l, v, x, y) (said_qpack r d a.start a.len a.used a.heads after p s a.event e ∙ wanted)
 
-    stays_at : (k : List ℕ) → (one_answer_at a.event a.start a.len a.used a.heads a.payload after p [] s).after ≡ lives (one_state after p k)
+    stays_at : (k : List ℕ) → (one_answer_at a.event a.start a.len a.used a.heads after p [] s).after ≡ lives (one_state after p k)
         → side ≡ side_after d (one_state after p k) → (x : OneState) → (feeding d allow s (state_here r d)).after ≡ lives x → Heeds row × (state_here row side ≡ x)
     stays_at k f g x e =
         let fit = stays_fit (types_of d.control d.encoder d.decoder) allow (state_here r d) x (here_fits r o d) s e in
         let is : one_state after p k ≡ x = lives_one (sym f ∙ sym (ap (λ y. y.after) is_fed) ∙ e) in
-        let b = left_back r.id after.cells p k after.kind (own_fed.leaves n4 n5 p [] (stands_here r o d)) shape_after on_fit written (rw (sym is) at fit) d side g in
+        let b = left_back r.id after.cells p k after.kind (own_fed.leaves goes p [] (stands_here r o d)) shape_after on_fit written (rw (sym is) at fit) d side g in
         (b.0, b.1 ∙ is)
 
-    part_after : (event start len used heads payload : ℕ) → event ≡ KEPT-PART → (one_answer_at event start len used heads payload after p [] s).after ≡ lives (one_state after p (take len (drop start s)))
+    part_after : (e : declared-event.Event) (start len used heads : ℕ) → e ≡ one.Frames event.KeptPart → (one_answer_at e start len used heads after p [] s).after ≡ lives (one_state after p (take len (drop start s)))
     unfolding one_answer_at
-    part_after event start len used heads payload e = rw e refl
+    part_after e start len used heads q = rw q refl
 
-    plain_after : (event start len used heads payload : ℕ) → (event ≡ FAULT → ⊥) → (event ≡ KEPT → ⊥) → (event ≡ KEPT-PART → ⊥) → (one_answer_at event start len used heads payload after p [] s).after ≡ lives (one_state after p [])
+    plain_after : (e : declared-event.Event) (start len used heads : ℕ) → Goes e → (e ≡ one.Frames event.KeptPart → ⊥) → (one_answer_at e start len used heads after p [] s).after ≡ lives (one_state after p [])
     unfolding one_answer_at
-    plain_after zero start len used heads payload x y z = refl
-    plain_after (suc zero) start len used heads payload x y z = refl
-    plain_after (suc (suc zero)) start len used heads payload x y z = refl
-    plain_after (suc (suc (suc zero))) start len used heads payload x y z = refl
-    plain_after (suc (suc (suc (suc zero)))) start len used heads payload x y z = absurd (x refl)
-    plain_after (suc (suc (suc (suc (suc zero))))) start len used heads payload x y z = absurd (y refl)
-    plain_after (suc (suc (suc (suc (suc (suc zero)))))) start len used heads payload x y z = absurd (z refl)
-    plain_after (suc (suc (suc (suc (suc (suc (suc n))))))) start len used heads payload x y z = refl
+    plain_after (one.Frames event.Nothing) start len used heads g x = refl
+    plain_after (one.Frames event.Content) start len used heads g x = refl
+    plain_after (one.Frames event.Section) start len used heads g x = refl
+    plain_after (one.Frames event.SectionEnd) start len used heads g x = refl
+    plain_after (one.Frames (event.Fault code)) start len used heads g x = absurd g
+    plain_after (one.Frames (event.Kept which)) start len used heads g x = absurd g
+    plain_after (one.Frames event.KeptPart) start len used heads g x = absurd (x refl)
+    plain_after one.Qpack start len used heads g x = refl
 
-    part_beside : a.event ≡ KEPT-PART → side ≡ side_after d (one_state after p (take a.len (drop a.start s)))
-    part_beside e =
+    part_beside : a.event ≡ one.Frames event.KeptPart → word ≡ take (min a.len 256) (drop a.start s) → side ≡ side_after d (one_state after p (take a.len (drop a.start s)))
+    part_beside e z =
         let k = take a.len (drop a.start s) in
         let h = own_fed.held e in
-        let b = begun_six a.event a.len e in
-        side_is k (ap (λ z. take z (drop a.start s)) b ∙ take_least a.len (drop a.start s)) (sofar_kept after.cells.mode after.cells.acc after.cells.due after.cells.ftype p k h.1)
+        side_is k (z ∙ take_least a.len (drop a.start s)) (sofar_kept after.cells.mode after.cells.acc after.cells.due after.cells.ftype p k h.1)
 
-    pub on_part : a.event ≡ KEPT-PART → heard 0 0 0 0 a.used a.heads 0 row side ≡ want
-    on_part e =
+    pub on_part : a.event ≡ one.Frames event.KeptPart → word ≡ take (min a.len 256) (drop a.start s) → heard 0 0 0 0 a.used a.heads 0 row side ≡ want
+    on_part e z =
         let k = take a.len (drop a.start s) in
         let x = row_is k in
-        let y = part_beside e in
-        rw (x, y) (said_part r d a.start a.len a.used a.heads a.payload after p s a.event e ∙ wanted)
+        let y = part_beside e z in
+        rw (x, y) (said_part r d a.start a.len a.used a.heads after p s a.event e ∙ wanted)
 
-    on_quiet : a.event ≡ NOTHING → heard 0 0 0 0 a.used a.heads 0 row side ≡ want
-    on_quiet e =
+    pub on_quiet : word ≡ [] → a.event ≡ one.Frames event.Nothing → heard 0 0 0 0 a.used a.heads 0 row side ≡ want
+    on_quiet z e =
         let x = row_is [] in
-        let y = side_is [] (none_begun (λ z. omega arith)) none_kept in
-        rw (x, y) (said_quiet r d a.start a.len a.used a.heads a.payload after p s a.event e ∙ wanted)
+        let y = side_is [] (z ∙ sym (take-nil 256)) none_kept in
+        rw (x, y) (said_quiet r d a.start a.len a.used a.heads after p s a.event e ∙ wanted)
 
     -- what is left is an open stream, in the state after
-    pub on_stays : (x : OneState) → (feeding d allow s (state_here r d)).after ≡ lives x → Heeds row × (state_here row side ≡ x)
-    on_stays = by (eqb a.event KEPT-PART) refl
-      where
-        by : (b : Bool) → eqb a.event KEPT-PART ≡ b → (x : OneState) → (feeding d allow s (state_here r d)).after ≡ lives x → Heeds row × (state_here row side ≡ x)
-        by true e = let q = eqb-true a.event 6 e in stays_at (take a.len (drop a.start s)) (part_after a.event a.start a.len a.used a.heads a.payload q) (part_beside q)
-        by false e = let q = eqb-false a.event 6 e in stays_at [] (plain_after a.event a.start a.len a.used a.heads a.payload n4 n5 q) (side_is [] (none_begun q) none_kept)
+    pub on_part_stays : a.event ≡ one.Frames event.KeptPart → word ≡ take (min a.len 256) (drop a.start s) → Stays row side (feeding d allow s (state_here r d))
+    on_part_stays e z = stays_at (take a.len (drop a.start s)) (part_after a.event a.start a.len a.used a.heads e) (part_beside e z)
+
+    pub on_stays : word ≡ [] → (a.event ≡ one.Frames event.KeptPart → ⊥) → Stays row side (feeding d allow s (state_here r d))
+    on_stays z n = stays_at [] (plain_after a.event a.start a.len a.used a.heads goes n) (side_is [] (z ∙ sym (take-nil 256)) none_kept)
 
     -- nothing else comes
-    pub on_other : (a.event ≡ QPACK → ⊥) → heard 0 0 0 0 a.used a.heads 0 row side ≡ want
-    on_other n7 = by (eqb a.event KEPT-PART) refl
-      where
-        by : (b : Bool) → eqb a.event KEPT-PART ≡ b → heard 0 0 0 0 a.used a.heads 0 row side ≡ want
-        by true e = on_part (eqb-true a.event 6 e)
-        by false e = on_quiet (own_fed.plain (heeds_shape r o) (below_four a.event own_fed.known n4 n5 (eqb-false a.event 6 e) n7))
+    pub on_other : word ≡ [] → (a.event ≡ one.Frames event.KeptPart → ⊥) → (a.event ≡ one.Qpack → ⊥) → heard 0 0 0 0 a.used a.heads 0 row side ≡ want
+    on_other z x y = on_quiet z (nothing_else a.event goes (own_fed.plain (heeds_shape r o)) x y)
 
 -- what a judgement asks
 pub heeds_asks : (r : Record) → Heeds r → {c : Cells} → c ≡ cells_in r → (c.phase ≤ SET) × (r.id < 2 ^ 62) × (r.id % 4 ≡ 2)

@@ -1,14 +1,12 @@
 -- The frames of a control stream behind its type, from a place of the piece on. Assumes nothing.
-use Rattle.std.specs.Prelude.{◌≡◌, ◌⊎◌, length, drop}
+use Rattle.std.specs.Prelude.{◌≡◌, length, drop}
 use Rattle.std.proofs.Math.Path.{refl, ap, subst}
-use Rattle.std.proofs.Common.{sym, ◌∙◌, inr, length-drop, drop-drop, take_all}
-use Prim.Native.Nat.{ℕ, zero, suc, ◌+◌, ◌-◌, ◌≤◌, ◌<◌}
+use Rattle.std.proofs.Common.{sym, ◌∙◌, length-drop, drop-drop, take_all}
+use Prim.Native.Nat.{ℕ, zero, suc, ◌+◌, ◌-◌, ◌≤◌}
 use native.Mathlib.Omega.{arith}
 use mathlib.Core.List.{List, [], ◌++◌}
-use Rattle.std.proofs.Math.Logic.{inl}
 use Rattle.std.proofs.Math.ListN.{take}
 use Rattle.std.proofs.Math.Option.{none}
-use Rattle.rules.specs.Events.{NOTHING, FAULT, KEPT, KEPT-PART}
 use Rattle.rules.specs.Numbers.{Code}
 use Rattle.rules.specs.Reading.{Kept, Use, content, skipped, section, kept, Ruling, Next, stop, go}
 use Rattle.rules.specs.Control.{Control, unset, set, no_settings, control, judged}
@@ -32,9 +30,12 @@ use Rattle.frames.specs.Parts.{judged_as}
 use Rattle.frames.specs.Answers.{mode_state, kept_at, state_at, state_of, place_at, place_in, StandsIn, answer_at, Sane, Held}
 use Rattle.frames.specs.Fed.{Fed}
 use Rattle.frames.specs.Apart.{controls, state_carried, control_fed}
+use Rattle.frames.specs.declared.Event as frames-event
+use Rattle.frames.specs.declared.Event.TheVariants as event
+use Rattle.oneway.specs.declared.Event.TheVariants as one
 use Rattle.oneway.specs.declared.OneWay.{OneWay}
 use Rattle.oneway.specs.declared.OneAnswer.{OneAnswer}
-use Rattle.oneway.specs.Stands.{one_state_at, one_answer_at, OneSoundAt, OneSound, cells_of, OneShapeAt, OneShape, StandsAt, Says}
+use Rattle.oneway.specs.Stands.{one_state_at, one_answer_at, NoneHanded, Goes, stream_behind, OneSoundAt, OneSound, cells_of, OneShapeAt, OneShape, StandsAt, Says}
 use Rattle.oneway.specs.Typed.{one_past}
 use Rattle.record.specs.Kinds.{CONTROL}
 
@@ -117,8 +118,8 @@ past_from at u h f = let a : at + (u + f.used) ≡ (at + u) + f.used = omega ari
 
 module _ (at : ℕ) (s : List ℕ) (p : Control) (k : List ℕ) (start len used heads : ℕ) (c : Cells) where
   -- what `frames` says of the rest of the piece
-  abbrev rest_says : (event : ℕ) → OneFeeding
-  rest_says event = one_past at (of_control (map_feeding controls (answer_at event start len used heads c (place.of_control p) k (drop at s))))
+  abbrev rest_says : frames-event.Event → OneFeeding
+  rest_says e = one_past at (of_control (map_feeding controls (answer_at e start len used heads c (place.of_control p) k (drop at s))))
 
   the_part : take len (drop start (drop at s)) ≡ take len (drop (at + start) s)
   the_part = ap (take len) (drop-drop start at s)
@@ -127,33 +128,21 @@ module _ (at : ℕ) (s : List ℕ) (p : Control) (k : List ℕ) (start len used 
   unfolding controls
   carried j = state_carried controls c.mode c.acc c.due c.ftype (place.of_control p) j
 
-  event_low : (event f : ℕ) → event < FAULT → rest_says event ≡ one_answer_at event (at + start) len (at + used) heads f (control_at c) p k s
-  unfolding one_past of_control map_feeding map_outcome controlled answer_at one_answer_at one_state_at
-  event_low zero f h = let x = carried k in rw x refl
-  event_low (suc zero) f h = let x = carried k in rw x refl
-  event_low (suc (suc zero)) f h = let x = carried k in rw x refl
-  event_low (suc (suc (suc zero))) f h = let x = carried k in rw x refl
-  event_low (suc (suc (suc (suc n)))) f h = absurd (omega arith)
-
-  event_fault : (from f : ℕ) (w : OneWay) → rest_says FAULT ≡ one_answer_at FAULT from len (at + used) heads f w p k s
-  unfolding one_past of_control map_feeding map_outcome controlled answer_at one_answer_at
-  event_fault from f w = refl
-
-  event_complete : (w : OneWay) → rest_says KEPT ≡ one_answer_at KEPT (at + start) len (at + used) heads c.mode w p k s
+  event_complete : (which : ℕ) (w : OneWay) → rest_says (event.Kept which) ≡ one_answer_at (one.Frames (event.Kept which)) (at + start) len (at + used) heads w p k s
   unfolding answer_at one_answer_at
-  event_complete w =
-      ap (λ x. one_past at (of_control x)) (past_carried used heads _ ∙ ap (past used heads) (judged_control p (kept_at c.mode) _)) ∙ past_from at used heads _
-      ∙ ap (λ x. of_control (past (at + used) heads (judged_as control 0 p (kept_at c.mode) (k ++ x)))) the_part
+  event_complete which w =
+      ap (λ x. one_past at (of_control x)) (past_carried used heads _ ∙ ap (past used heads) (judged_control p (kept_at which) _)) ∙ past_from at used heads _
+      ∙ ap (λ x. of_control (past (at + used) heads (judged_as control 0 p (kept_at which) (k ++ x)))) the_part
 
-  event_part : (event f : ℕ) → KEPT-PART ≤ event → rest_says event ≡ one_answer_at KEPT-PART (at + start) len (at + used) heads f (control_at c) p k s
+  event_is : (e : frames-event.Event) (w : OneWay) → rest_says e ≡ one_answer_at (one.Frames e) (at + start) len (at + used) heads (stream_behind e w c) p k s
   unfolding one_past of_control map_feeding map_outcome controlled answer_at one_answer_at one_state_at
-  event_part zero f h = absurd (omega arith)
-  event_part (suc zero) f h = absurd (omega arith)
-  event_part (suc (suc zero)) f h = absurd (omega arith)
-  event_part (suc (suc (suc zero))) f h = absurd (omega arith)
-  event_part (suc (suc (suc (suc zero)))) f h = absurd (omega arith)
-  event_part (suc (suc (suc (suc (suc zero))))) f h = absurd (omega arith)
-  event_part (suc (suc (suc (suc (suc (suc n)))))) f h = let y = the_part in rw y (let x = carried (k ++ take len (drop (at + start) s)) in rw x refl)
+  event_is event.Nothing w = let x = carried k in rw x refl
+  event_is event.Content w = let x = carried k in rw x refl
+  event_is event.Section w = let x = carried k in rw x refl
+  event_is event.SectionEnd w = let x = carried k in rw x refl
+  event_is (event.Fault code) w = refl
+  event_is (event.Kept which) w = event_complete which (record { kind = CONTROL; cells = frame_cells 4 })
+  event_is event.KeptPart w = let y = the_part in rw y (let x = carried (k ++ take len (drop (at + start) s)) in rw x refl)
 
 -- ---- nothing is handed over on a control stream, and no section is ever due
 
@@ -204,28 +193,30 @@ within_mode (suc (suc (suc (suc (suc (suc (suc zero))))))) a d t p k w h = absur
 within_mode (suc (suc (suc (suc (suc (suc (suc (suc m)))))))) a d t p k w h = omega arith
 
 module _ (s : List ℕ) (p : Control) (k : List ℕ) (start len used heads : ℕ) (c : Cells) where
-  abbrev says_so : (event : ℕ) → Type 0
-  says_so event = FeedWithin Unseen Any (map_feeding controls (answer_at event start len used heads c (place.of_control p) k s))
+  abbrev says_so : frames-event.Event → Type 0
+  says_so e = FeedWithin Unseen Any (map_feeding controls (answer_at e start len used heads c (place.of_control p) k s))
 
   -- no event of a handed part
-  event_plain : (event : ℕ) → says_so event → event < FAULT → event ≡ NOTHING
+  event_plain : (e : frames-event.Event) → says_so e → NoneHanded (one.Frames e)
   unfolding map_feeding answer_at
-  event_plain zero w h = refl
-  event_plain (suc zero) w h = absurd w.event
-  event_plain (suc (suc zero)) w h = absurd w.event.1
-  event_plain (suc (suc (suc zero))) w h = absurd w.event.1
-  event_plain (suc (suc (suc (suc n)))) w h = absurd (omega arith)
+  event_plain event.Nothing w = tt
+  event_plain event.Content w = absurd w.event
+  event_plain event.Section w = absurd w.event.1
+  event_plain event.SectionEnd w = absurd w.event.1
+  event_plain (event.Fault code) w = tt
+  event_plain (event.Kept which) w = tt
+  event_plain event.KeptPart w = tt
 
   -- the mode that is left
-  left_mode : (event : ℕ) → says_so event → (event ≡ FAULT → ⊥) → (event ≡ KEPT → ⊥) → IN-CONTENT ≤ c.mode → IN-SETTINGS ≤ c.mode
+  left_mode : (e : frames-event.Event) → says_so e → Goes (one.Frames e) → IN-CONTENT ≤ c.mode → IN-SETTINGS ≤ c.mode
   unfolding map_feeding map_outcome answer_at
-  left_mode zero w m n = let x = carried 0 s p k start len used heads c k in within_mode c.mode c.acc c.due c.ftype p k (subst (StateWithin Unseen) x w.after)
-  left_mode (suc zero) w m n = absurd w.event
-  left_mode (suc (suc zero)) w m n = absurd w.event.1
-  left_mode (suc (suc (suc zero))) w m n = absurd w.event.1
-  left_mode (suc (suc (suc (suc zero)))) w m n = absurd (m refl)
-  left_mode (suc (suc (suc (suc (suc zero))))) w m n = absurd (n refl)
-  left_mode (suc (suc (suc (suc (suc (suc e)))))) w m n =
+  left_mode event.Nothing w g = let x = carried 0 s p k start len used heads c k in within_mode c.mode c.acc c.due c.ftype p k (subst (StateWithin Unseen) x w.after)
+  left_mode event.Content w g = absurd w.event
+  left_mode event.Section w g = absurd w.event.1
+  left_mode event.SectionEnd w g = absurd w.event.1
+  left_mode (event.Fault code) w g = absurd g
+  left_mode (event.Kept which) w g = absurd g
+  left_mode event.KeptPart w g =
       let j = k ++ take len (drop start s) in
       let x = carried 0 s p k start len used heads c j in
       within_mode c.mode c.acc c.due c.ftype p j (subst (StateWithin Unseen) x w.after)
@@ -278,113 +269,62 @@ module _ (s : List ℕ) (at : ℕ) (before : OneWay) (c : Cells) (allow : ℕ) (
       let st : frames_stand c q.0 [] = (q.1, none_held (IN-SETTINGS - c.mode)) in
       (q.0, subst (FeedWithin Unseen Any) (frames_are q.0 [] st) (control_within allow (state_of c q.0 []) (mode_within c.mode c.acc c.due c.ftype q.0 [] sh.1) (drop at s)))
 
-  pub feed_plain : OneShapeAt CONTROL c → a.event < FAULT → a.event ≡ NOTHING
-  feed_plain sh h = let u = unseen sh in event_plain (drop at s) u.0 [] a.start a.len a.used a.heads a.cells a.event u.1 h
-
-  left_shape : OneShapeAt CONTROL c → (a.event ≡ FAULT → ⊥) → (a.event ≡ KEPT → ⊥) → OneShapeAt 3 a.cells
+  left_shape : OneShapeAt CONTROL c → Goes (one.Frames a.event) → OneShapeAt CONTROL a.cells
   unfolding OneShapeAt
-  left_shape sh m n =
+  left_shape sh g =
       let u = unseen sh in
       let e = fed.phase in
       let f = sh.0 in
-      (omega arith, left_mode (drop at s) u.0 [] a.start a.len a.used a.heads a.cells a.event u.1 m n)
+      (omega arith, left_mode (drop at s) u.0 [] a.start a.len a.used a.heads a.cells a.event u.1 g)
 
-  by_event : (event : ℕ) → a.event ≡ event → (p : Control) (k : List ℕ) → frames_stand c p k → frames_from s at c allow p k ≡ rest_says at s p k a.start a.len a.used a.heads a.cells event
-  by_event event e p k st = is_control p k st ∙ ap (rest_says at s p k a.start a.len a.used a.heads a.cells) e
+  left_sane : ((which : ℕ) → a.event ≡ event.Kept which → ⊥) → OneSoundAt CONTROL a.cells
+  unfolding OneSoundAt
+  left_sane n = (fed.sane n, (let e = fed.phase in omega arith))
+
+  -- the stream behind, by the event
+  sound_is : (e : frames-event.Event) → a.event ≡ e → OneSound (stream_behind e before a.cells)
+  sound_is event.Nothing q = left_sane (λ which x. cc)
+  sound_is event.Content q = left_sane (λ which x. cc)
+  sound_is event.Section q = left_sane (λ which x. cc)
+  sound_is event.SectionEnd q = left_sane (λ which x. cc)
+  sound_is (event.Fault code) q = sound
+  sound_is (event.Kept which) q = unfold OneSoundAt in frame_sane 4 (omega arith)
+  sound_is event.KeptPart q = left_sane (λ which x. cc)
+
+  shape_is : (e : frames-event.Event) → a.event ≡ e → OneShapeAt CONTROL c × OneShape before → OneShape (stream_behind e before a.cells)
+  shape_is event.Nothing q sh = left_shape sh.0 (rw q tt)
+  shape_is event.Content q sh = left_shape sh.0 (rw q tt)
+  shape_is event.Section q sh = left_shape sh.0 (rw q tt)
+  shape_is event.SectionEnd q sh = left_shape sh.0 (rw q tt)
+  shape_is (event.Fault code) q sh = sh.1
+  shape_is (event.Kept which) q sh = unfold OneShapeAt in (omega arith, λ h. absurd (omega arith))
+  shape_is event.KeptPart q sh = left_shape sh.0 (rw q tt)
+
+  stands_is : (e : frames-event.Event) → Goes (one.Frames e) → (p : Control) (k : List ℕ) → frames_stand c p k → let w = stream_behind e before a.cells in StandsAt w.kind w.cells p
+  stands_is event.Nothing g p k st = left_stands p k st
+  stands_is event.Content g p k st = left_stands p k st
+  stands_is event.Section g p k st = left_stands p k st
+  stands_is event.SectionEnd g p k st = left_stands p k st
+  stands_is (event.Fault code) g p k st = absurd g
+  stands_is (event.Kept which) g p k st = absurd g
+  stands_is event.KeptPart g p k st = left_stands p k st
 
   pub used_fits : at + a.used ≤ length s
   used_fits = let l = length-drop at s in let u = fed.within in omega arith
 
-  -- the part ends where the feed does
-  ends_here : (x y z : ℕ) → x + y ≡ z ⊎ a.event ≡ FAULT → (a.event ≡ FAULT → ⊥) → (at + x) + y ≡ at + z
-  ends_here x y z (inl e) n = omega arith
-  ends_here x y z (inr e) n = absurd (n e)
+  pub start_fits : at + a.start ≤ length s
+  start_fits = let x = fed.part in let y = used_fits in omega arith
 
-  part_ends : (a.event ≡ FAULT → ⊥) → (at + a.start) + a.len ≡ at + a.used
-  part_ends n = ends_here a.start a.len a.used fed.part n
-
-  left_sane : (a.event ≡ KEPT → ⊥) → Sane a.cells × (3 ≤ a.cells.phase)
-  left_sane n = (fed.sane n, (let e = fed.phase in omega arith))
-
-  pub control_fault : a.event ≡ FAULT → Controls (record { event = 4; start = at + a.used; len = a.len; used = at + a.used; heads = a.heads; payload = 0; stream = before })
-  control_fault e = record {
-    is = λ p k st. by_event 4 e p k st ∙ event_fault at s p k a.start a.len a.used a.heads a.cells (at + a.used) 0 before;
+  pub control_is : Controls (record { event = one.Frames a.event; start = at + a.start; len = a.len; used = at + a.used; heads = a.heads; stream = stream_behind a.event before a.cells })
+  control_is = record {
+    is = λ p k st. is_control p k st ∙ event_is at s p k a.start a.len a.used a.heads a.cells a.event before;
     within = used_fits;
-    part = inr refl;
-    sound = sound;
-    shaped = λ sh. sh.1;
-    plain = λ sh h. absurd (omega arith);
-    known = omega arith;
-    stays = λ x. refl;
-    behind = λ x. absurd (omega arith);
-    held = λ x. absurd (omega arith);
-    listed = λ x. fed.listed e;
-    leaves = λ x y p k st. absurd (x refl);
+    part = let x = fed.part in omega arith;
+    sound = sound_is a.event refl;
+    shaped = shape_is a.event refl;
+    plain = λ sh. (let u = unseen sh.0 in event_plain (drop at s) u.0 [] a.start a.len a.used a.heads a.cells a.event u.1);
+    stays = λ code x. (let y : a.event ≡ event.Fault code = cc in rw y refl);
+    behind = λ which x. (let y : a.event ≡ event.Kept which = cc in rw y refl);
+    held = λ x. (let y : a.event ≡ event.KeptPart = cc in let h = fed.held y in rw y (refl, h));
+    leaves = stands_is a.event;
   }
-
-  pub control_complete : {d : Cells} → a.event ≡ KEPT → d ≡ frame_cells 4
-      → Controls (record { event = 5; start = at + a.start; len = a.len; used = at + a.used; heads = a.heads; payload = a.cells.mode; stream = control_at d })
-  unfolding OneSoundAt OneShapeAt
-  control_complete e g = rw g (record {
-    is = λ p k st. by_event 5 e p k st ∙ event_complete at s p k a.start a.len a.used a.heads a.cells (control_at (frame_cells 4));
-    within = used_fits;
-    part = inl (part_ends (λ x. omega arith));
-    sound = frame_sane 4 (omega arith);
-    shaped = λ sh. (omega arith, λ h. absurd (omega arith));
-    plain = λ sh h. absurd (omega arith);
-    known = omega arith;
-    stays = λ x. absurd (omega arith);
-    behind = λ x. refl;
-    held = λ x. absurd (omega arith);
-    listed = λ x. absurd (omega arith);
-    leaves = λ x y p k st. absurd (y refl);
-  })
-
-  pub control_part : 6 ≤ a.event → Controls (record { event = 6; start = at + a.start; len = a.len; used = at + a.used; heads = a.heads; payload = 0; stream = control_at a.cells })
-  unfolding OneSoundAt
-  control_part h = record {
-    is = λ p k st. is_control p k st ∙ event_part at s p k a.start a.len a.used a.heads a.cells a.event 0 h;
-    within = used_fits;
-    part = inl (part_ends (λ x. omega arith));
-    sound = left_sane (λ x. omega arith);
-    shaped = λ sh. left_shape sh.0 (λ x. omega arith) (λ x. omega arith);
-    plain = λ sh l. absurd (omega arith);
-    known = omega arith;
-    stays = λ x. absurd (omega arith);
-    behind = λ x. absurd (omega arith);
-    held = λ x. (refl, fed.held (let u = fed.known in omega arith));
-    listed = λ x. absurd (omega arith);
-    leaves = λ x y p k st. left_stands p k st;
-  }
-
-  pub control_low : a.event < FAULT → Controls (record { event = a.event; start = at + a.start; len = a.len; used = at + a.used; heads = a.heads; payload = 0; stream = control_at a.cells })
-  unfolding OneSoundAt
-  control_low h = record {
-    is = λ p k st. is_control p k st ∙ event_low at s p k a.start a.len a.used a.heads a.cells a.event 0 h;
-    within = used_fits;
-    part = inl (part_ends (λ x. omega arith));
-    sound = left_sane (λ x. omega arith);
-    shaped = λ sh. left_shape sh.0 (λ x. omega arith) (λ x. omega arith);
-    plain = λ sh l. feed_plain sh.0 l;
-    known = omega arith;
-    stays = λ x. absurd (omega arith);
-    behind = λ x. absurd (omega arith);
-    held = λ x. absurd (omega arith);
-    listed = λ x. absurd (omega arith);
-    leaves = λ x y p k st. left_stands p k st;
-  }
-
-  pub control_other : (a.event ≡ FAULT → ⊥) → (a.event ≡ KEPT → ⊥) → Controls (record { event = a.event; start = at + a.start; len = a.len; used = at + a.used; heads = a.heads; payload = 0; stream = control_at a.cells })
-  control_other n m = by a.event refl
-    where
-      by : (e : ℕ) → a.event ≡ e → Controls (record { event = a.event; start = at + a.start; len = a.len; used = at + a.used; heads = a.heads; payload = 0; stream = control_at a.cells })
-      by zero q = control_low (omega arith)
-      by (suc zero) q = control_low (omega arith)
-      by (suc (suc zero)) q = control_low (omega arith)
-      by (suc (suc (suc zero))) q = control_low (omega arith)
-      by (suc (suc (suc (suc zero)))) q = absurd (n q)
-      by (suc (suc (suc (suc (suc zero))))) q = absurd (m q)
-      by (suc (suc (suc (suc (suc (suc k)))))) q =
-          let h : 6 ≤ a.event = omega arith in
-          let six : 6 ≡ a.event = (let u = fed.known in omega arith) in
-          subst (λ x. Controls (record { event = x; start = at + a.start; len = a.len; used = at + a.used; heads = a.heads; payload = 0; stream = control_at a.cells })) six (control_part h)

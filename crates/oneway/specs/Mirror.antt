@@ -99,10 +99,6 @@ bare_side d (suc (suc (suc (suc (suc (suc n)))))) = d
 unfoldable pub side_by : (kind phase : ℕ) → Side → (sofar : List ℕ) → Side
 side_by kind phase d k = elim (eqb kind 3) [ true ↦ side_of 1 d.encoder d.decoder (kept_numbers (control_of (kept_in phase d.kept))) (length k) (bytes_of k) | false ↦ bare_side d kind ]
 
--- how many bytes of a piece are kept: of event 6, what came, and never more than 256
-unfoldable pub begun_in : (event len : ℕ) → ℕ
-begun_in event len = elim (eqb event 6) [ true ↦ min len 256 | false ↦ 0 ]
-
 -- ---- laws
 
 unfoldable pub flag_of : ℕ → ℕ

@@ -8,14 +8,13 @@ use borrow.Rule.Slice.PartMut.{put_mid}
 use Rattle.std.proofs.lemmas.List.Edits.{sets-eq}
 use Rattle.std.proofs.Math.Seq.{take-append_seam, drop-drop}
 use borrow.Author.Tests.{eq-eqb, ne_eqb}
-use Rattle.rules.specs.Events.{KEPT-PART}
 use Rattle.record.specs.Kinds.{CONTROL}
 use Rattle.record.specs.Row.{is_stated, length_of}
 use Rattle.control.specs.declared.Kept.{Kept}
 use Rattle.control.specs.Judged.{push_id}
 use Rattle.control.specs.Rules.{some_if, control_at, control_of}
 use Rattle.oneway.specs.declared.calls.Side.{Side}
-use Rattle.oneway.specs.Mirror.{nothing_said, kept_numbers, kept_in, bytes_of, side_of, bare_side, side_by, begun_in, flag_of, number_if}
+use Rattle.oneway.specs.Mirror.{nothing_said, kept_numbers, kept_in, bytes_of, side_of, bare_side, side_by, flag_of, number_if}
 
 -- ---- what a control stream has said
 
@@ -66,12 +65,6 @@ module _ (d : Side) where
   pub side_bare : (kind phase : ℕ) (k : List ℕ) {r : Side} → (kind ≡ CONTROL → ⊥) → r ≡ bare_side d kind → r ≡ side_by kind phase d k
   unfolding side_by
   side_bare kind phase k n q = let x = ne_eqb kind 3 n in q ∙ rw (x, side_by) refl
-
--- ---- bytes of a piece
-
-pub begun_none : (event len : ℕ) → (event ≡ KEPT-PART → ⊥) → 0 ≡ begun_in event len
-unfolding begun_in
-begun_none event len n = let x = ne_eqb event 6 n in rw (x, begun_in) refl
 
 -- ---- bytes, and then zeros
 

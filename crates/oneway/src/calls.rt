@@ -2,15 +2,16 @@
 // record and the side that it leaves.
 ghost use Rattle.std.specs.Prelude.{◌≡◌, ℕ, ◌+◌, ◌-◌, ◌%◌, ◌≤◌, ◌<◌, ◌^◌, min, ◌++◌, length};
 ghost use Rattle.rules.specs.Events.{NOTHING};
+ghost use Rattle.rules.specs.Numbers.{ACCEPTED};
 ghost use Rattle.frames.specs.Modes.{IN-SETTINGS, SET};
 ghost use Rattle.frames.specs.Answers.{kept_at};
 ghost use Rattle.record.specs.Sound.{CellsIf, Fit, cells_in, stream, Written};
 ghost use Rattle.control.specs.Rules.{control_of};
 ghost use Rattle.oneway.specs.Stands.{cells_of, qpack_of};
-ghost use Rattle.oneway.specs.Mirror.{seen_in, nothing_said, fresh_side, flag_of, number_if, kept_numbers, kept_in, bytes_of, side_of, bare_side, side_by, begun_in};
+ghost use Rattle.oneway.specs.Mirror.{seen_in, nothing_said, fresh_side, flag_of, number_if, kept_numbers, kept_in, bytes_of, side_of, bare_side, side_by};
 ghost use Rattle.oneway.specs.Heard.{heard, taken_number, value_in, type_number, Heeds, state_here, judging, judged_here, feeding, fed_here, Stays, given_here, closed_here, HeardAs, FedAs};
 
-use crate::{OneWay, Seen};
+use crate::{Event, OneAnswer, OneWay, Seen};
 use control::Kept;
 use frames::Cells;
 use record::{Reading, Record, Stream};
@@ -316,18 +317,6 @@ fn qpack_type(kind: u64) -> u64
     }
 }
 
-// How many bytes of the piece are kept of a payload that it begins: all that came, and never more than there is room for.
-#[tactic(auto, unfolding(crate::specs::Mirror::begun_in))]
-fn begun(event: u64, len: u64) -> usize
-    ensures { result ≡ begun_in event len }
-{
-    if event == rules::KEPT_PART {
-        len.min(ROOM) as usize
-    } else {
-        0
-    }
-}
-
 // Beside a stream of this kind, of whose kept payload the piece has this.
 fn side_of(kind: u64, phase: u64, d: Side, word: &[u8]) -> Side
     requires { (phase ≤ SET) × (length word.now ≤ 256) }
@@ -341,6 +330,21 @@ fn side_of(kind: u64, phase: u64, d: Side, word: &[u8]) -> Side
     }
 }
 
+// Left open, beside what is kept of a payload that is not complete.
+fn left_open(r: Record, phase: u64, d: Side, a: OneAnswer, word: &[u8]) -> Heard
+    requires { Fit a.stream.kind r.id a.stream.cells × (phase ≤ SET) × (length word.now ≤ 256) }
+    ensures { Written (stream a.stream.kind r.id a.stream.cells) result.row × (result ≡ heard ACCEPTED NOTHING 0 0 a.used a.heads 0 result.row (side_by a.stream.kind phase d word.now)) }
+{
+    let kind = a.stream.kind;
+    told(
+        rules::ACCEPTED,
+        a.used,
+        a.heads,
+        row_of(kind, r.id, a.stream.cells),
+        side_of(kind, phase, d, word),
+    )
+}
+
 // On with a type, with frames, or with what has none.
 fn on(r: Record, c: Cells, d: Side, piece: &[u8], allow: u64) -> Heard
     requires { Heeds r × (c ≡ cells_in r) × (c.mode < IN-SETTINGS) }
@@ -351,40 +355,36 @@ fn on(r: Record, c: Cells, d: Side, piece: &[u8], allow: u64) -> Heard
         cells: c,
     };
     let a = crate::feed(piece, w, d.seen(), allow);
-    if a.event == rules::FAULT {
-        return told(a.len, a.used, a.heads, r, d);
-    }
-    if a.event == rules::KEPT {
-        return judged(
-            a.payload,
-            c.phase,
-            &piece[a.start..a.used],
-            a.used,
-            a.heads,
-            r,
-            d,
-        );
-    }
-    let kind = a.stream.kind;
-    let word = &piece[a.start..a.start + begun(a.event, a.len)];
-    let row = row_of(kind, r.id, a.stream.cells);
-    let fed = told(
-        rules::ACCEPTED,
-        a.used,
-        a.heads,
-        row,
-        side_of(kind, c.phase, d, word),
-    );
-    if a.event == rules::QPACK {
-        return Heard {
+    match a.event {
+        Event::Frames(brought) => match brought {
+            frames::Event::Fault(code) => told(code.number(), a.used, a.heads, r, d),
+            frames::Event::Kept(which) => judged(
+                which,
+                c.phase,
+                &piece[a.start..a.used],
+                a.used,
+                a.heads,
+                r,
+                d,
+            ),
+            // All that came, and never more than there is room for.
+            frames::Event::KeptPart => {
+                let n = a.len.min(ROOM) as usize;
+                left_open(r, c.phase, d, a, &piece[a.start..a.start + n])
+            }
+            frames::Event::Nothing
+            | frames::Event::Content
+            | frames::Event::Section
+            | frames::Event::SectionEnd => left_open(r, c.phase, d, a, &[]),
+        },
+        Event::Qpack => Heard {
             event: rules::QPACK,
             start: a.start,
             len: a.len,
-            value: qpack_type(kind),
-            ..fed
-        };
+            value: qpack_type(a.stream.kind),
+            ..left_open(r, c.phase, d, a, &[])
+        },
     }
-    fed
 }
 
 // ---- the calls

@@ -7,7 +7,7 @@ ghost use Rattle.std.specs.Prelude.{◌≡◌, ◌≤◌, length};
 ghost use Rattle.rules.specs.OneWay.{type_rule};
 ghost use Rattle.varint.specs.ByByte.{part, Good};
 ghost use Rattle.oneway.specs.Types.{seen_of, once_of, KindOf};
-ghost use Rattle.oneway.specs.Stands.{OneSound, cells_of, OneFed};
+ghost use Rattle.oneway.specs.Stands.{number_in, stream_behind, OneSound, cells_of, OneFed};
 ghost use Rattle.oneway.specs.Typed.{TypeRead};
 ghost use Rattle.frames.specs.Modes.{UNSET};
 ghost use Rattle.frames.specs.Answers.{Sane};
@@ -39,17 +39,33 @@ pub struct OneWay {
     pub cells: Cells,
 }
 
-// Nothing, a fault with its code in len, a kept payload that is complete, a part of one, or QPACK stream bytes.
-// A part is len bytes of the piece from start on. payload: the mode of the one that is complete (`frames::IN_SETTINGS` to `frames::IN_CANCEL_PUSH`); then the
-// stream is where it is once the payload is judged good.
+// What a piece brought: what frames bring, with a fault at the type too; or QPACK stream bytes.
+#[derive(Clone, Copy, Debug, PartialEq, Eq)]
+pub enum Event {
+    Frames(frames::Event),
+    Qpack,
+}
+
+impl Event {
+    // As a host's report has it.
+    pub fn number(self) -> u64
+        ensures { result ≡ number_in self }
+    {
+        match self {
+            Event::Frames(event) => event.number(),
+            Event::Qpack => rules::QPACK,
+        }
+    }
+}
+
+// A part is len bytes of the piece from start on. Of a kept payload that is complete the stream is where it is once that is judged good.
 #[derive(Clone, Copy)]
 pub struct OneAnswer {
-    pub event: u64,
+    pub event: Event,
     pub start: usize,
     pub len: u64,
     pub used: usize,
     pub heads: u64,
-    pub payload: u64,
     pub stream: OneWay,
 }
 
@@ -122,13 +138,29 @@ fn quiet(to: usize, w: OneWay) -> OneAnswer
     ensures { result ≡ quiet_at to w }
 {
     OneAnswer {
-        event: rules::NOTHING,
+        event: Event::Frames(frames::Event::Nothing),
         start: to,
         len: 0,
         used: to,
         heads: 0,
-        payload: 0,
         stream: w,
+    }
+}
+
+// A control stream behind its frames; a fault leaves what was before, a complete payload a place between two frames.
+fn behind(event: frames::Event, w: OneWay, c: Cells) -> OneWay
+    ensures { result ≡ stream_behind event w c }
+{
+    match event {
+        frames::Event::Fault(_) => w,
+        frames::Event::Kept(_) => OneWay {
+            kind: record::CONTROL,
+            cells: cells(0, 0, frames::SET),
+        },
+        _ => OneWay {
+            kind: record::CONTROL,
+            cells: c,
+        },
     }
 }
 
@@ -138,36 +170,13 @@ fn control(s: &[u8], at: usize, w: OneWay, c: Cells, allow: u64) -> OneAnswer
     ensures { Controlled s.now at w c allow result }
 {
     let a = frames::feed(&s[at..], c, allow);
-    if a.event == rules::FAULT {
-        return OneAnswer {
-            event: a.event,
-            len: a.len,
-            heads: a.heads,
-            ..quiet(at + a.used, w)
-        };
-    }
-    let fed = OneAnswer {
-        event: a.event,
+    OneAnswer {
+        event: Event::Frames(a.event),
         start: at + a.start,
         len: a.len,
         used: at + a.used,
         heads: a.heads,
-        payload: 0,
-        stream: OneWay {
-            kind: record::CONTROL,
-            cells: a.cells,
-        },
-    };
-    if a.event != rules::KEPT {
-        return fed;
-    }
-    OneAnswer {
-        payload: a.cells.mode,
-        stream: OneWay {
-            kind: record::CONTROL,
-            cells: cells(0, 0, frames::SET),
-        },
-        ..fed
+        stream: behind(a.event, w, a.cells),
     }
 }
 
@@ -180,7 +189,7 @@ fn bare(s: &[u8], at: usize, w: OneWay) -> OneAnswer
         quiet(s.len(), w)
     } else if at < s.len() {
         OneAnswer {
-            event: rules::QPACK,
+            event: Event::Qpack,
             start: at,
             len: (s.len() - at) as u64,
             ..quiet(s.len(), w)
@@ -212,8 +221,7 @@ fn typed(s: &[u8], c: Cells, seen: Seen, allow: u64) -> OneAnswer
             };
             match kind_of(t, seen) {
                 Err(code) => OneAnswer {
-                    event: rules::FAULT,
-                    len: code.number(),
+                    event: Event::Frames(frames::Event::Fault(code)),
                     ..quiet(next, before)
                 },
                 Ok(record::CONTROL) => control(s, next, before, cells(0, 0, frames::UNSET), allow),

@@ -1,12 +1,15 @@
 -- Laws of a feed: a law for each way out. Assumes nothing.
-use Rattle.std.specs.Prelude.{◌≡◌, drop}
+use Rattle.std.specs.Prelude.{◌≡◌, ◌⊎◌, drop}
 use Rattle.std.proofs.Math.Path.{refl}
-use Rattle.std.proofs.Common.{sym, ap, ◌∙◌, subst, arith, ⊎_elim}
-use Prim.Native.Nat.{ℕ, zero, suc, ◌-◌, ◌≤◌, ◌<◌}
+use Rattle.std.proofs.Common.{sym, ap, ◌∙◌, subst, arith}
+use Prim.Native.Nat.{ℕ, zero, suc, ◌-◌, ◌≤◌}
 use mathlib.Core.List.{List, [], ◌++◌}
+use Rattle.std.proofs.Math.Logic.{inl, inr}
 use Rattle.std.proofs.Math.ListN.{take}
-use Rattle.rules.specs.Events.{NOTHING, CONTENT, FAULT, KEPT}
-use Rattle.rules.specs.Numbers.{ACCEPTED, SECTION-DUE, code_number, coded}
+use Rattle.rules.specs.Events.{NOTHING, CONTENT}
+use Rattle.rules.specs.Numbers.{ACCEPTED, SECTION-DUE, code_number}
+use Rattle.rules.specs.Named.{code_of}
+use Rattle.rules.specs.declared.codes.Code.{Code}
 use Rattle.rules.specs.Reading.{Part}
 use Rattle.rules.specs.Message.{Message}
 use Rattle.rules.specs.Request.{document, request}
@@ -18,11 +21,13 @@ use Rattle.meaning.specs.Hom.{map_state, map_outcome, map_feeding}
 use Rattle.frames.specs.Modes.{HEADER-SECTION-DUE, TRAILERS-DUE, IN-SETTINGS, TRAILED, waiting, mode_number, mode_of, of_mode, at_unkept, at_payload, not_kept}
 use Rattle.frames.specs.declared.Cells.{Cells}
 use Rattle.frames.specs.declared.Answer.{Answer}
+use Rattle.frames.specs.declared.Event as declared-event
+use Rattle.frames.specs.declared.Event.TheVariants as event
 use Rattle.frames.specs.Both.{Place, of_request, judged}
 use Rattle.frames.specs.Uses.{place_of}
 use Rattle.frames.specs.Heads.{head_state}
 use Rattle.frames.specs.Parts.{judged_as}
-use Rattle.frames.specs.Answers.{mode_state, kept_at, state_at, state_of, place_at, answer_at, Sane, Held, Content}
+use Rattle.frames.specs.Answers.{mode_state, kept_at, state_at, state_of, place_at, event_number, answer_at, Sane, Held, Content}
 use Rattle.frames.specs.Fed.{Fed}
 use Rattle.frames.specs.Apart.{message, state_carried, request_fed}
 use Rattle.record.specs.Kinds.{REQUEST}
@@ -61,55 +66,64 @@ mode_plain : (mode a d t : ℕ) (m : Message) (k : List ℕ) → Plain (state_at
 unfolding mode_state
 mode_plain mode a d t m k = not_kept (λ z. Plain (mode_state z a d t m k)) (λ f h. h) mode
 
--- ---- what an answer in numbers says of a request
+-- ---- what an answer says of a request
+
+-- a part that a request hands over; or none
+abbrev pub IsPart : declared-event.Event → Type 0
+IsPart e = e ≡ event.Content ⊎ (e ≡ event.Section ⊎ e ≡ event.SectionEnd)
+
+abbrev pub IsNoPart : declared-event.Event → Type 0
+IsNoPart e = e ≡ event.Nothing ⊎ (((which : ℕ) × (e ≡ event.Kept which)) ⊎ e ≡ event.KeptPart)
+
+abbrev pub NoFault : declared-event.Event → Type 0
+NoFault e = (code : Code) → e ≡ event.Fault code → ⊥
+
+pub part_goes : (e : declared-event.Event) → IsPart e → NoFault e
+part_goes e (inl q) code f = cc
+part_goes e (inr (inl q)) code f = cc
+part_goes e (inr (inr q)) code f = cc
+
+pub none_goes : (e : declared-event.Event) → IsNoPart e → NoFault e
+none_goes e (inl q) code f = cc
+none_goes e (inr (inl q)) code f = let z = q.1 in cc
+none_goes e (inr (inr q)) code f = cc
 
 module _ (r : Record) (start len used heads : ℕ) (d : Cells) (m : Message) (k s : List ℕ) where
   abbrev leaves : List ℕ → State Message
   leaves l = map_state message (state_of d (of_request m) l)
 
-  abbrev fed_at : (event : ℕ) → Feeding Message
-  fed_at event = map_feeding message (answer_at event start len used heads d (of_request m) k s)
+  abbrev fed_at : declared-event.Event → Feeding Message
+  fed_at e = map_feeding message (answer_at e start len used heads d (of_request m) k s)
 
-  quiet_said : (event : ℕ) → event ≡ NOTHING → reply ACCEPTED NOTHING 0 0 used heads (request_record r.id (leaves k)) ≡ said r (fed_at event)
+  quiet_said : (e : declared-event.Event) → IsNoPart e → ((which : ℕ) → e ≡ event.Kept which → ⊥) → (l : List ℕ) × (reply ACCEPTED NOTHING 0 0 used heads (request_record r.id (leaves l)) ≡ said r (fed_at e))
   unfolding answer_at map_feeding map_outcome said_by
-  quiet_said zero e = refl
-  quiet_said (suc n) e = absurd (omega arith)
+  quiet_said e (inl q) n = (k, rw q refl)
+  quiet_said e (inr (inl q)) n = absurd (n q.0 q.1)
+  quiet_said e (inr (inr q)) n = (k ++ take len (drop start s), rw q refl)
 
-  part_said : (event : ℕ) → (event ≡ NOTHING → ⊥) → event < FAULT → reply ACCEPTED event (used - len) len used heads (request_record r.id (leaves k)) ≡ said r (fed_at event)
+  part_said : (e : declared-event.Event) → IsPart e → reply ACCEPTED (event_number e) (used - len) len used heads (request_record r.id (leaves k)) ≡ said r (fed_at e)
   unfolding answer_at map_feeding map_outcome said_by
-  part_said zero z l = absurd (z refl)
-  part_said (suc zero) z l = refl
-  part_said (suc (suc zero)) z l = refl
-  part_said (suc (suc (suc zero))) z l = refl
-  part_said (suc (suc (suc (suc n)))) z l = absurd (omega arith)
+  part_said e (inl q) = rw q refl
+  part_said e (inr (inl q)) = rw q refl
+  part_said e (inr (inr q)) = rw q refl
 
-  fault_said : (event : ℕ) → event ≡ FAULT → code_number (coded len) ≡ len → reply len NOTHING 0 0 used heads (left_by len r) ≡ said r (fed_at event)
+  fault_said : (e : declared-event.Event) (code : Code) → e ≡ event.Fault code → let n = code_number (code_of code) in reply n NOTHING 0 0 used heads (left_by n r) ≡ said r (fed_at e)
   unfolding answer_at map_feeding map_outcome said_by
-  fault_said event e n = rw e (ap (λ x. reply x NOTHING 0 0 used heads (left_by x r)) (sym n))
+  fault_said e code q = rw q refl
 
-  late_said : (event : ℕ) → FAULT < event → (event ≡ KEPT → ⊥) → (l : List ℕ) × (reply ACCEPTED NOTHING 0 0 used heads (request_record r.id (leaves l)) ≡ said r (fed_at event))
-  unfolding answer_at map_feeding map_outcome said_by
-  late_said zero h f = absurd (omega arith)
-  late_said (suc zero) h f = absurd (omega arith)
-  late_said (suc (suc zero)) h f = absurd (omega arith)
-  late_said (suc (suc (suc zero))) h f = absurd (omega arith)
-  late_said (suc (suc (suc (suc zero)))) h f = absurd (omega arith)
-  late_said (suc (suc (suc (suc (suc zero))))) h f = absurd (f refl)
-  late_said (suc (suc (suc (suc (suc (suc n)))))) h f = (k ++ take len (drop start s), refl)
-
-  lives_after : (event : ℕ) → (event ≡ FAULT → ⊥) → (event ≡ KEPT → ⊥) → (l : List ℕ) × ((fed_at event).after ≡ lives (leaves l))
+  lives_after : (e : declared-event.Event) → NoFault e → ((which : ℕ) → e ≡ event.Kept which → ⊥) → (l : List ℕ) × ((fed_at e).after ≡ lives (leaves l))
   unfolding answer_at map_feeding map_outcome
-  lives_after zero h f = (k, refl)
-  lives_after (suc zero) h f = (k, refl)
-  lives_after (suc (suc zero)) h f = (k, refl)
-  lives_after (suc (suc (suc zero))) h f = (k, refl)
-  lives_after (suc (suc (suc (suc zero)))) h f = absurd (h refl)
-  lives_after (suc (suc (suc (suc (suc zero))))) h f = absurd (f refl)
-  lives_after (suc (suc (suc (suc (suc (suc n)))))) h f = (k ++ take len (drop start s), refl)
+  lives_after event.Nothing h f = (k, refl)
+  lives_after event.Content h f = (k, refl)
+  lives_after event.Section h f = (k, refl)
+  lives_after event.SectionEnd h f = (k, refl)
+  lives_after (event.Fault code) h f = absurd (h code refl)
+  lives_after (event.Kept which) h f = absurd (f which refl)
+  lives_after event.KeptPart h f = (k ++ take len (drop start s), refl)
 
-  taken_event : (event : ℕ) → event ≡ KEPT → (fed_at event).event ≡ taken (kept_at d.mode) (k ++ take len (drop start s))
+  taken_event : (e : declared-event.Event) (which : ℕ) → e ≡ event.Kept which → (fed_at e).event ≡ taken (kept_at which) (k ++ take len (drop start s))
   unfolding answer_at map_feeding past judged_as halt judged judged_event
-  taken_event event e = rw e refl
+  taken_event e which q = rw q refl
 
 -- ---- a feed
 
@@ -172,23 +186,21 @@ module _ (r : Record) (o : Open r) (piece : List ℕ) (allow : ℕ) where
     want_is : said r told ≡ fed_as r allow piece (state_in r)
     want_is = let c = cells_in r in ap (said r) (sym fed_is) ∙ due_not c.acc c.due c.ftype (message (own_place c)) [] _ _ c.mode header trailers
 
-    not_taken : ans.event ≡ KEPT → ⊥
-    not_taken e = plainly.untold _ _ (taken_event r ans.start ans.len ans.used ans.heads ans.cells next [] piece ans.event e)
+    not_taken : (which : ℕ) → ans.event ≡ event.Kept which → ⊥
+    not_taken which e = plainly.untold _ _ (taken_event r ans.start ans.len ans.used ans.heads ans.cells next [] piece ans.event which e)
 
-    pub feed_fault : {q : Record} → ans.event ≡ FAULT → q ≡ left_by ans.len r → Keeps r (fed_as r allow piece) (reply ans.len NOTHING 0 0 ans.used ans.heads q)
-    feed_fault e f = record {
-      answers = opened o
-          (ap (reply ans.len NOTHING 0 0 ans.used ans.heads) f
-          ∙ fault_said r ans.start ans.len ans.used ans.heads ans.cells next [] piece ans.event e (fed.listed e) ∙ want_is);
-      stays = λ z. (let h = code_high (coded ans.len) in let n = fed.listed e in absurd (omega arith));
-    }
+    pub feed_fault : (code : Code) {n : ℕ} {q : Record} → ans.event ≡ event.Fault code → n ≡ code_number (code_of code) → q ≡ left_by n r → Keeps r (fed_as r allow piece) (reply n NOTHING 0 0 ans.used ans.heads q)
+    feed_fault code e z f = rw (f, z) (record {
+      answers = opened o (fault_said r ans.start ans.len ans.used ans.heads ans.cells next [] piece ans.event code e ∙ want_is);
+      stays = λ z. (let h = code_high (code_of code) in absurd (omega arith));
+    })
 
-    module _ (four : ans.event ≡ FAULT → ⊥) where
+    module _ (goes : NoFault ans.event) where
       low-mode : ans.cells.mode ≤ TRAILERS-DUE
       unfolding message
       low-mode =
           let d = ans.cells in
-          let l = lives_after r ans.start ans.len ans.used ans.heads d next [] piece ans.event four not_taken in
+          let l = lives_after r ans.start ans.len ans.used ans.heads d next [] piece ans.event goes not_taken in
           let e = state_carried message d.mode d.acc d.due d.ftype (of_request next) l.0 in
           mode_plain d.mode d.acc d.due d.ftype next l.0 (subst Plain e (plainly.plain _ l.1))
 
@@ -202,33 +214,30 @@ module _ (r : Record) (o : Open r) (piece : List ℕ) (allow : ℕ) where
         open-w : Open w
         open-w = w_open r o ans.cells low low-mode (fed.sane not_taken) w written
 
-        pub feed-quiet : ans.event ≡ NOTHING → Keeps r (fed_as r allow piece) (reply ACCEPTED NOTHING 0 0 ans.used ans.heads w)
-        feed-quiet e = record {
-          answers = opened o
-              (ap (reply ACCEPTED NOTHING 0 0 ans.used ans.heads) (row [])
-              ∙ quiet_said r ans.start ans.len ans.used ans.heads ans.cells next [] piece ans.event e ∙ want_is);
-          stays = λ z. open-w;
-        }
-
-        pub feed-late : FAULT < ans.event → Keeps r (fed_as r allow piece) (reply ACCEPTED NOTHING 0 0 ans.used ans.heads w)
-        feed-late h = let l = late_said r ans.start ans.len ans.used ans.heads ans.cells next [] piece ans.event h not_taken in record {
+        pub feed-quiet : IsNoPart ans.event → Keeps r (fed_as r allow piece) (reply ACCEPTED NOTHING 0 0 ans.used ans.heads w)
+        feed-quiet h = let l = quiet_said r ans.start ans.len ans.used ans.heads ans.cells next [] piece ans.event h not_taken in record {
           answers = opened o (ap (reply ACCEPTED NOTHING 0 0 ans.used ans.heads) (row l.0) ∙ l.1 ∙ want_is);
           stays = λ z. open-w;
         }
 
         begins : ans.start ≡ ans.used - ans.len
-        begins = ⊎_elim (λ e. omega arith) (λ e. absurd (four e)) fed.part
+        begins = let e = fed.part in omega arith
 
-        pub feed-part : (ans.event ≡ NOTHING → ⊥) → ans.event ≤ FAULT → Keeps r (fed_as r allow piece) (reply ACCEPTED ans.event ans.start ans.len ans.used ans.heads w)
-        feed-part z h = record {
+        pub feed-part : IsPart ans.event → Keeps r (fed_as r allow piece) (reply ACCEPTED (event_number ans.event) ans.start ans.len ans.used ans.heads w)
+        feed-part h = record {
           answers = opened o
-              (ap (λ x. reply ACCEPTED ans.event x ans.len ans.used ans.heads w) begins
-              ∙ ap (reply ACCEPTED ans.event (ans.used - ans.len) ans.len ans.used ans.heads) (row [])
-              ∙ part_said r ans.start ans.len ans.used ans.heads ans.cells next [] piece ans.event z (omega (arith, h, four)) ∙ want_is);
+              (ap (λ x. reply ACCEPTED (event_number ans.event) x ans.len ans.used ans.heads w) begins
+              ∙ ap (reply ACCEPTED (event_number ans.event) (ans.used - ans.len) ans.len ans.used ans.heads) (row [])
+              ∙ part_said r ans.start ans.len ans.used ans.heads ans.cells next [] piece ans.event h ∙ want_is);
           stays = λ z. open-w;
         }
 
       -- content alters three numbers of the record
-      pub feed-content : Body r → Content (cells_in r) ans.cells → ans.event ≡ CONTENT → {q : Record} → q ≡ content_in r ans.cells
-          → Keeps r (fed_as r allow piece) (reply ACCEPTED ans.event ans.start ans.len ans.used ans.heads q) × (q ≡ content_in r (cells_in q))
-      feed-content b h e q = rw q (feed-part (content_in r ans.cells) (content_written r b (fed.sane not_taken) h) (λ z. omega arith) (omega arith), refl)
+      pub feed-content : Body r → Content (cells_in r) ans.cells → ans.event ≡ event.Content → {q : Record} → q ≡ content_in r ans.cells
+          → Keeps r (fed_as r allow piece) (reply ACCEPTED CONTENT ans.start ans.len ans.used ans.heads q) × (q ≡ content_in r (cells_in q))
+      feed-content b h e q =
+          rw q (
+            subst (λ x. Keeps r (fed_as r allow piece) (reply ACCEPTED (event_number x) ans.start ans.len ans.used ans.heads (content_in r ans.cells))) e
+                (feed-part (content_in r ans.cells) (content_written r b (fed.sane not_taken) h) (inl e)),
+            refl,
+          )

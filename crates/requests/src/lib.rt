@@ -10,7 +10,7 @@ ghost use Rattle.record.specs.Sound.{Fit, CellsIf, cells_in, stream, Written};
 ghost use Rattle.record.specs.Body.{content_in};
 ghost use Rattle.requests.specs.Reply.{Open, reply, refused, left_by, fed_as, given_as, ended_as, reset_as, Answered, Keeps};
 
-use frames::Cells;
+use frames::{Cells, Event};
 use record::{Reading, Record, Stream};
 
 // number 0: accepted; 1: not an open request; 4, 5, 6; else the code. event 0: none, 1: content, 2: section bytes, 3: the last of them,
@@ -117,27 +117,27 @@ pub fn feed(r: Record, piece: &[u8], allow: u64) -> Reply
         return told(rules::SECTION_DUE, rules::NOTHING, r);
     }
     let a = frames::feed(piece, c, allow);
-    if a.event == rules::FAULT {
-        return Reply {
+    match a.event {
+        Event::Fault(code) => Reply {
             used: a.used,
             heads: a.heads,
-            ..refused(a.len, r)
-        };
-    }
-    let fed = Reply {
-        used: a.used,
-        heads: a.heads,
-        ..told(rules::ACCEPTED, rules::NOTHING, kept(r.id, a.cells))
-    };
-    // No payload of a request is kept, so no event above 4 comes.
-    if a.event == rules::NOTHING || rules::FAULT < a.event {
-        return fed;
-    }
-    Reply {
-        event: a.event,
-        start: a.start,
-        len: a.len,
-        ..fed
+            ..refused(code.number(), r)
+        },
+        // No payload of a request is kept.
+        Event::Nothing | Event::Kept(_) | Event::KeptPart => Reply {
+            used: a.used,
+            heads: a.heads,
+            ..told(rules::ACCEPTED, rules::NOTHING, kept(r.id, a.cells))
+        },
+        Event::Content | Event::Section | Event::SectionEnd => Reply {
+            number: rules::ACCEPTED,
+            event: a.event.number(),
+            start: a.start,
+            len: a.len,
+            used: a.used,
+            heads: a.heads,
+            row: kept(r.id, a.cells),
+        },
     }
 }
 
@@ -147,10 +147,10 @@ pub fn brisk(r: Record, piece: &[u8], allow: u64) -> Reply
 {
     if record::in_body(r) {
         let b = frames::brisk(piece, record::cells_in(r), allow);
-        if b.event == rules::CONTENT {
+        if let Event::Content = b.event {
             return Reply {
                 number: rules::ACCEPTED,
-                event: b.event,
+                event: rules::CONTENT,
                 start: b.start,
                 len: b.len,
                 used: b.used,

@@ -1,8 +1,8 @@
 use native.Mathlib.Omega.{arith}
 use mathlib.Core.Path.{◌≡◌, ap}
 use Rattle.std.proofs.lemmas.Grind.{common_steps}
+use Rattle.rules.specs.Numbers.{code_number}
 use Rattle.rules.specs.Named.{code_of}
-use Rattle.meaning.specs.NumberLaws.{code_high}
 use Rattle.frames.specs.Modes.{USE-SKIPPED, USE-CONTENT}
 use Rattle.frames.specs.Wants.{use_in, wanted_in}
 use Rattle.frames.specs.Stopped.{stop_fault, stop_out, stop_skip, stop_content, stop_handed}
@@ -29,8 +29,8 @@ pub overflow_sub-h : goal.overflow_sub-h
 overflow_sub-h c = let e : wanted_in c.args.h.wanted ≡ USE-SKIPPED = grind (arith, common_steps) in omega (arith, c.requires.3.skips e)
 
 pub returns-in-Some-Err : goal.returns-in-Some-Err
-returns-in-Some-Err c = let a = c in let e : wanted_in a.args.h.wanted ≡ c.number.result = grind (arith, common_steps, c.number.ensures) in
-    rw (c.quiet-in-Some-Err.ensures, e) (stop_fault a.args.c a.args.s.now a.args.h.at a.args.heads a.args.h.left a.args.h.rest a.requires.0 (a.requires.2.sums, a.requires.2.stateds) a.requires.2 c.number.result (rw c.number.ensures (let h = code_high (code_of c.in-Some-Err.code) in omega arith)) (λ z. let h = code_high (code_of c.in-Some-Err.code) in omega (arith, c.number.ensures)) (rw e at a.requires.3.lawful))
+returns-in-Some-Err c = let a = c in let e : wanted_in a.args.h.wanted ≡ code_number (code_of c.in-Some-Err.code) = grind (arith, common_steps) in
+    rw (c.quiet-in-Some-Err.ensures, e) (stop_fault a.args.c a.args.s.now a.args.h.at a.args.heads a.args.h.left a.args.h.rest a.requires.0 (a.requires.2.sums, a.requires.2.stateds) a.requires.2 c.in-Some-Err.code)
 
 pub returns-in-Some-Ok-Content : goal.returns-in-Some-Ok-Content
 returns-in-Some-Ok-Content c = let a = c in let e : wanted_in a.args.h.wanted ≡ USE-CONTENT = grind (arith, common_steps) in

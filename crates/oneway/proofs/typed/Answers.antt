@@ -6,7 +6,7 @@ pub returns-in-Err : goal.returns-in-Err
 returns-in-Err c = let a = c.args in typed_cut a.c a.seen a.s.now a.allow c.in-Err.ensures c.cells.ensures c.quiet.ensures
 
 pub returns-in-Err-kind_of : goal.returns-in-Err-kind_of
-returns-in-Err-kind_of c = let a = c.args in let q = c.quiet-in-Err-kind_of.ensures in rw q (typed_refused a.c a.seen a.s.now a.allow c.in-Ok.ensures c.in-Err-kind_of.code c.in-Err-kind_of.ensures c.number.ensures c.requires)
+returns-in-Err-kind_of c = let a = c.args in let q = c.quiet-in-Err-kind_of.ensures in rw q (typed_refused a.c a.seen a.s.now a.allow c.in-Ok.ensures c.in-Err-kind_of.code c.in-Err-kind_of.ensures c.requires)
 
 pub control-requires : goal.control-requires
 control-requires c = let a = c.args in frames_ask a.c a.seen a.s.now a.allow c.in-Ok.ensures c.requires c.cells-in-Ok-eq3.ensures

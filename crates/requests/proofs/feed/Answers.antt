@@ -4,9 +4,9 @@ use Rattle.rules.specs.Reading.{header_section, trailers}
 use Rattle.frames.specs.Fed.{Fed}
 use Rattle.record.specs.Sound.{cells_in}
 use Rattle.record.specs.Tests.{some_cells}
-use Rattle.requests.specs.Feeds.{feed_due, feed_fault, feed-fit, feed-quiet, feed-late, feed-part}
+use Rattle.requests.specs.Feeds.{part_goes, none_goes, feed_due, feed_fault, feed-fit, feed-quiet, feed-part}
 use Rattle.requests.proofs.feed.Goals as goal
-use Rattle.requests.proofs.feed.Goals.{then-c-eq-HEADER_SECTION_DUE-via-then-c-eq-HEADER_SECTION_DUE, then-c-eq-HEADER_SECTION_DUE-via-else-c-eq-HEADER_SECTION_DUE+then-c-eq-TRAILERS_DUE, then-a-eq-NOTHING-via-then-a-eq-NOTHING, then-a-eq-NOTHING-via-else-a-eq-NOTHING+then-a-gt-FAULT}
+use Rattle.requests.proofs.feed.Goals.{then-c-eq-HEADER_SECTION_DUE-via-then-c-eq-HEADER_SECTION_DUE, then-c-eq-HEADER_SECTION_DUE-via-else-c-eq-HEADER_SECTION_DUE+then-c-eq-TRAILERS_DUE}
 
 pub returns-then-c-eq-HEADER_SECTION_DUE : goal.returns-then-c-eq-HEADER_SECTION_DUE
 returns-then-c-eq-HEADER_SECTION_DUE c =
@@ -19,24 +19,17 @@ returns-then-c-eq-HEADER_SECTION_DUE c =
       | then-c-eq-HEADER_SECTION_DUE-via-else-c-eq-HEADER_SECTION_DUE+then-c-eq-TRAILERS_DUE w ↦ feed_due g.r o.0 g.piece.now g.allow trailers (omega (arith, m, w.if-c-eq-TRAILERS_DUE.true)) q
     ]
 
-pub returns-then-a-eq-FAULT : goal.returns-then-a-eq-FAULT
-returns-then-a-eq-FAULT c = let g = c.args in let o = some_cells _ c.in-Some.ensures in let e = o.1 in let m = ap (λ x. x.mode) e in let f : Fed (cells_in g.r) g.piece.now g.allow _ = rw e at c.feed-a.ensures in let q = c.refused.ensures in rw q (feed_fault g.r o.0 g.piece.now g.allow (λ x. omega (arith, x, m, c.if-c-eq-HEADER_SECTION_DUE.false)) (λ x. omega (arith, x, m, c.if-c-eq-TRAILERS_DUE.false)) _ f c.if-a-eq-FAULT.true refl)
+pub returns-in-Fault : goal.returns-in-Fault
+returns-in-Fault c = let g = c.args in let o = some_cells _ c.in-Some.ensures in let e = o.1 in let m = ap (λ x. x.mode) e in let f : Fed (cells_in g.r) g.piece.now g.allow _ = rw e at c.feed-a.ensures in let q = c.refused.ensures in rw q (feed_fault g.r o.0 g.piece.now g.allow (λ x. omega (arith, x, m, c.if-c-eq-HEADER_SECTION_DUE.false)) (λ x. omega (arith, x, m, c.if-c-eq-TRAILERS_DUE.false)) _ f c.in-Fault.code c.in-Fault.is c.number.ensures refl)
 
 pub kept-requires : goal.kept-requires
-kept-requires c = let g = c.args in let o = some_cells _ c.in-Some.ensures in let e = o.1 in let m = ap (λ x. x.mode) e in let f : Fed (cells_in g.r) g.piece.now g.allow _ = rw e at c.feed-a.ensures in feed-fit g.r o.0 g.piece.now g.allow (λ x. omega (arith, x, m, c.if-c-eq-HEADER_SECTION_DUE.false)) (λ x. omega (arith, x, m, c.if-c-eq-TRAILERS_DUE.false)) _ f c.if-a-eq-FAULT.false
+kept-requires c = let g = c.args in let o = some_cells _ c.in-Some.ensures in let e = o.1 in let m = ap (λ x. x.mode) e in let f : Fed (cells_in g.r) g.piece.now g.allow _ = rw e at c.feed-a.ensures in feed-fit g.r o.0 g.piece.now g.allow (λ x. omega (arith, x, m, c.if-c-eq-HEADER_SECTION_DUE.false)) (λ x. omega (arith, x, m, c.if-c-eq-TRAILERS_DUE.false)) _ f (none_goes _ c.in-Nothing.is)
 
-pub returns-then-a-eq-NOTHING : goal.returns-then-a-eq-NOTHING
-returns-then-a-eq-NOTHING c =
-    let g = c.args in
-    let o = some_cells _ c.in-Some.ensures in
-    let e = o.1 in
-    let m = ap (λ x. x.mode) e in
-    let f : Fed (cells_in g.r) g.piece.now g.allow _ = rw e at c.feed-a.ensures in
-    let q = c.told-2.ensures in
-    rw q (elim c.then-a-eq-NOTHING.branch [
-      | then-a-eq-NOTHING-via-then-a-eq-NOTHING w ↦ feed-quiet g.r o.0 g.piece.now g.allow (λ x. omega (arith, x, m, c.if-c-eq-HEADER_SECTION_DUE.false)) (λ x. omega (arith, x, m, c.if-c-eq-TRAILERS_DUE.false)) _ f c.if-a-eq-FAULT.false _ c.kept.ensures w.if-a-eq-NOTHING.true
-      | then-a-eq-NOTHING-via-else-a-eq-NOTHING+then-a-gt-FAULT w ↦ feed-late g.r o.0 g.piece.now g.allow (λ x. omega (arith, x, m, c.if-c-eq-HEADER_SECTION_DUE.false)) (λ x. omega (arith, x, m, c.if-c-eq-TRAILERS_DUE.false)) _ f c.if-a-eq-FAULT.false _ c.kept.ensures w.if-a-gt-FAULT.true
-    ])
+pub kept-requires-in-Content : goal.kept-requires-in-Content
+kept-requires-in-Content c = let g = c.args in let o = some_cells _ c.in-Some.ensures in let e = o.1 in let m = ap (λ x. x.mode) e in let f : Fed (cells_in g.r) g.piece.now g.allow _ = rw e at c.feed-a.ensures in feed-fit g.r o.0 g.piece.now g.allow (λ x. omega (arith, x, m, c.if-c-eq-HEADER_SECTION_DUE.false)) (λ x. omega (arith, x, m, c.if-c-eq-TRAILERS_DUE.false)) _ f (part_goes _ c.in-Content.is)
 
-pub returns : goal.returns
-returns c = let g = c.args in let o = some_cells _ c.in-Some.ensures in let e = o.1 in let m = ap (λ x. x.mode) e in let f : Fed (cells_in g.r) g.piece.now g.allow _ = rw e at c.feed-a.ensures in let q = c.told-2.ensures in rw q (feed-part g.r o.0 g.piece.now g.allow (λ x. omega (arith, x, m, c.if-c-eq-HEADER_SECTION_DUE.false)) (λ x. omega (arith, x, m, c.if-c-eq-TRAILERS_DUE.false)) _ f c.if-a-eq-FAULT.false _ c.kept.ensures c.if-a-eq-NOTHING.false (omega (arith, c.if-a-gt-FAULT.false)))
+pub returns-in-Nothing : goal.returns-in-Nothing
+returns-in-Nothing c = let g = c.args in let o = some_cells _ c.in-Some.ensures in let e = o.1 in let m = ap (λ x. x.mode) e in let f : Fed (cells_in g.r) g.piece.now g.allow _ = rw e at c.feed-a.ensures in let q = c.told-in-Nothing.ensures in rw q (feed-quiet g.r o.0 g.piece.now g.allow (λ x. omega (arith, x, m, c.if-c-eq-HEADER_SECTION_DUE.false)) (λ x. omega (arith, x, m, c.if-c-eq-TRAILERS_DUE.false)) _ f (none_goes _ c.in-Nothing.is) _ c.kept.ensures c.in-Nothing.is)
+
+pub returns-in-Content : goal.returns-in-Content
+returns-in-Content c = let g = c.args in let o = some_cells _ c.in-Some.ensures in let e = o.1 in let m = ap (λ x. x.mode) e in let f : Fed (cells_in g.r) g.piece.now g.allow _ = rw e at c.feed-a.ensures in let q = c.number-in-Content.ensures in rw q (feed-part g.r o.0 g.piece.now g.allow (λ x. omega (arith, x, m, c.if-c-eq-HEADER_SECTION_DUE.false)) (λ x. omega (arith, x, m, c.if-c-eq-TRAILERS_DUE.false)) _ f (part_goes _ c.in-Content.is) _ c.kept-in-Content.ensures c.in-Content.is)
