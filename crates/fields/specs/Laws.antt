@@ -7,10 +7,9 @@ use mathlib.Core.List.{List, [], ◌∷◌}
 use Rattle.std.proofs.Math.Numerals.{sub-one}
 use Rattle.std.proofs.Math.Dec.{eqb-suc-zero}
 use Rattle.std.specs.Prelude as std
-use Rattle.std.specs.List.{list_any}
+use Rattle.std.specs.List.{list_all, list_any, zip}
 use Rattle.std.specs.Option.{option_eq, option_copied}
 use denote.Ref.{Bor}
-use lib.Pointwise.{pointwise}
 use Rattle.std.proofs.lemmas.Option.{none-some}
 use borrow.Author.Tests.{eqb-true, eqb-false, eq-eqb, ne_eqb}
 use Rattle.rules.specs.Text.{any, all, same}
@@ -60,12 +59,24 @@ unfolding any
 any_is b [] = refl
 any_is b (y ∷ v) = simp (swapped y b, any_is b v)
 
-pub same_is : (a b : List ℕ) → pointwise eqb a b ≡ same a b
+-- of lists of one length, pair by pair
+pub same_is : (a b : List ℕ) → length a ≡ length b → list_all (λ p. eqb p.0 p.1) (zip a b) ≡ same a b
 unfolding same
-same_is [] [] = refl
-same_is [] (y ∷ b) = refl
-same_is (x ∷ a) [] = refl
-same_is (x ∷ a) (y ∷ b) = ap (λ t. eqb x y && t) (same_is a b)
+same_is [] [] e = refl
+same_is [] (y ∷ b) e = absurd (omega arith)
+same_is (x ∷ a) [] e = absurd (omega arith)
+same_is (x ∷ a) (y ∷ b) e = ap (λ t. eqb x y && t) (same_is a b (omega arith))
+
+pub unlike : (a b : List ℕ) → (length a ≡ length b → ⊥) → same a b ≡ false
+unfolding same
+unlike [] [] h = absurd (h refl)
+unlike [] (y ∷ b) h = refl
+unlike (x ∷ a) [] h = refl
+unlike (x ∷ a) (y ∷ b) h = ap (λ t. eqb x y && t) (unlike a b (λ e. h (omega arith))) ∙ go (eqb x y)
+  where
+    go : (t : Bool) → (t && false) ≡ false
+    go true = refl
+    go false = refl
 
 pub begins_is : (b : ℕ) (k : Bor ℕ) (v : List ℕ) (o : std.Option (Bor ℕ)) → k.now ≡ b → option_copied o ≡ std.slice_get v 0
     → option_eq (λ x y. eqb x.now y.now) o (std.Some k) ≡ begins (eqb b) v

@@ -42,12 +42,10 @@ pub fn code(reason: Reason) -> Code
 fn lower(first: Option<Reason>, check: Reason, broken: bool) -> Option<Reason>
     ensures { result ≡ lower_of first check broken }
 {
-    if !broken {
-        return first;
-    }
-    match first {
-        Some(reason) if reason < check => first,
-        _ => Some(check),
+    if broken && first.is_none_or(|reason| check < reason) {
+        Some(check)
+    } else {
+        first
     }
 }
 
