@@ -12,7 +12,7 @@ ghost use Rattle.fields.specs.Walk.{held};
 ghost use Rattle.fields.specs.Decimal.{capped};
 ghost use Rattle.section.specs.Checks.{lower_of, lowest, found};
 ghost use Rattle.section.specs.Names.{other_name, one_name, of_seven, of_ten, long_name, name_of};
-ghost use Rattle.section.specs.Facts.{no_facts, pseudo_by, plain_by, length_by, note_by, line_step, facts_of, walked};
+ghost use Rattle.section.specs.Facts.{pseudo_by, plain_by, length_by, note_by, line_step, facts_of, walked};
 ghost use Rattle.section.specs.Judging.{header_row, by_places, is_http, is_path, sends_content, by_request, by_authority, by_trailers};
 ghost use Rattle.section.specs.declared.Fault.TheVariants as faults;
 ghost use Rattle.section.specs.declared.Name.TheVariants as names;
@@ -158,7 +158,7 @@ struct Span {
 
 // Of the lines so far: their size, the lowest check that they break by themselves, whether there was a pseudo-field or another; of five names
 // where the first line's value is; and the first Content-Length's number.
-#[derive(Clone, Copy)]
+#[derive(Clone, Copy, Default)]
 struct Facts {
     size: usize,
     first: Option<Reason>,
@@ -187,23 +187,6 @@ fn held_below(size: usize) -> usize
 }
 
 impl Facts {
-    fn none() -> Facts
-        ensures { result ≡ no_facts }
-    {
-        Facts {
-            size: 0,
-            first: None,
-            pseudo: false,
-            plain: false,
-            method: None,
-            scheme: None,
-            authority: None,
-            path: None,
-            host: None,
-            stated: None,
-        }
-    }
-
     // The line of a pseudo-field, with the check that it may break.
     fn pseudo_line(self, check: Reason, broken: bool) -> Facts
         ensures { result ≡ pseudo_by self check broken }
@@ -352,7 +335,7 @@ fn walk_lines(block: &[u8]) -> Result<Facts, Fault>
 {
     let table = fields::classes();
     let mut at = 0;
-    let mut facts = Facts::none();
+    let mut facts = Facts::default();
     while let Some(line) = fields::line_at(block, at)? {
         let name = &block[line.name..line.value];
         let value = &block[line.value..line.next];
