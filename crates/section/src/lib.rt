@@ -151,9 +151,9 @@ const ABOVE: usize = 4_611_686_018_427_387_904;
 
 // Where in the block a value begins and ends.
 #[derive(Clone, Copy, Debug, PartialEq, Eq)]
-struct Span {
-    from: usize,
-    to: usize,
+pub struct Span {
+    pub from: usize,
+    pub to: usize,
 }
 
 // Of the lines so far: their size, the lowest check that they break by themselves, whether there was a pseudo-field or another; of five names
@@ -443,11 +443,10 @@ fn header_fault(block: &[u8], facts: Facts) -> Option<Reason>
     )
 }
 
-// Where in the block the method begins and ends, and the Content-Length that is stated.
+// Where in the block the method is, and the Content-Length that is stated.
 #[derive(Clone, Copy, Debug, PartialEq, Eq)]
 pub struct Sound {
-    pub method: usize,
-    pub end: usize,
+    pub method: Span,
     pub stated: Option<u64>,
 }
 
@@ -457,14 +456,10 @@ pub fn header_section(block: &[u8]) -> Result<Sound, Fault>
     let facts = walk_lines(block)?;
     match header_fault(block, facts) {
         Some(reason) => Err(Fault::Refused(reason)),
-        None => {
-            let method = facts.method.unwrap();
-            Ok(Sound {
-                method: method.from,
-                end: method.to,
-                stated: facts.stated,
-            })
-        }
+        None => Ok(Sound {
+            method: facts.method.unwrap(),
+            stated: facts.stated,
+        }),
     }
 }
 
