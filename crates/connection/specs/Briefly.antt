@@ -5,7 +5,7 @@ use Rattle.record.specs.Kinds.{REQUEST}
 use Rattle.record.specs.Sound.{cells_in}
 use Rattle.record.specs.Body.{content_in}
 use Rattle.requests.specs.declared.Reply.{Reply}
-use Rattle.requests.specs.Reply.{fed_as, Keeps}
+use Rattle.requests.specs.Reply.{Content as OfRequest}
 use Rattle.connection.specs.declared.Call.{Call}
 use Rattle.connection.specs.declared.Own.{Own}
 use Rattle.connection.specs.declared.Connection.{Connection}
@@ -30,14 +30,14 @@ pub record Briefly (code : ℕ) (f : Found) (allow : ℕ) (piece : List ℕ) (o 
   pub content : IfSome o (Content code f allow piece)
 
 module _ {code : ℕ} {f : Found} {allow : ℕ} {piece : List ℕ} where
-  pub briefly_so : f.len ≡ 24 → code ≡ 0 → f.at < 24 → f.row.kind ≡ REQUEST → {a : Reply} → (a.number ≡ 0 → Keeps f.row (fed_as f.row allow piece) a × (a.row ≡ content_in f.row (cells_in a.row)))
-      → a.number ≡ 0 → {r : Report} → r ≡ request_report a → Briefly code f allow piece (Some (record { row = a.row; report = r }))
-  briefly_so l z w k {a} keeps y {r} q = record {
+  pub briefly_so : f.len ≡ 24 → code ≡ 0 → f.at < 24 → f.row.kind ≡ REQUEST → {a : Reply} → OfRequest f.row allow piece a → {r : Report} → r ≡ request_report a
+      → Briefly code f allow piece (Some (record { row = a.row; report = r }))
+  briefly_so l z w k {a} took {r} q = record {
     content = record {
-      accepted = ap (λ (x : Report). x.number) q ∙ y;
+      accepted = ap (λ (x : Report). x.number) q ∙ took.accepted;
       turns = λ c id e.
-          on_request id allow (record { long = l; alive = e ∙ z }) refl w {a = a} k (asks_feed f.row allow piece refl (keeps y).0)
-          (ap (turn c a.row) q ∙ ap (λ x. turn x a.row (request_report a)) (kept_small c a.number (omega arith)));
-      alters = (keeps y).1;
+          on_request id allow (record { long = l; alive = e ∙ z }) refl w {a = a} k (asks_feed f.row allow piece refl took.keeps)
+          (ap (turn c a.row) q ∙ ap (λ x. turn x a.row (request_report a)) (kept_small c a.number (let y = took.accepted in omega arith)));
+      alters = took.alters;
     };
   }

@@ -395,13 +395,11 @@ pub fn brisk(code: u64, f: Found, allow: u64, piece: &[u8]) -> Option<Brief>
     ensures { Briefly code f allow piece.now result }
 {
     if f.len == ROW && code == 0 && f.at < ROW && f.row.kind == record::REQUEST_KIND {
-        let a = requests::brisk(f.row, piece, allow);
-        if a.number == rules::ACCEPTED {
-            return Some(Brief {
-                row: a.row,
-                report: Report::from(a),
-            });
-        }
+        let a = requests::brisk(f.row, piece, allow)?;
+        return Some(Brief {
+            row: a.row,
+            report: Report::from(a),
+        });
     }
     None
 }

@@ -2,7 +2,7 @@
 -- promise are equal. The exceptions are named too: below a record two feeds leave open numbers that say nothing (docs/DECISIONS, N9), and what may
 -- decline leaves open what it then answers. What is no part of the engine is in docs/PROOFS. Assumes nothing.
 use Rattle.std.specs.Prelude as std
-use Rattle.std.specs.Prelude.{◌≡◌, refl, ℕ, List, [], ◌∷◌, ◌++◌, map, Bool, true, false, Option as Maybe, Some, None, IsSome}
+use Rattle.std.specs.Prelude.{◌≡◌, refl, ℕ, List, [], ◌∷◌, ◌++◌, map, Bool, true, false, Option as Maybe, Some, None, IsSome, IfSome}
 use Rattle.std.proofs.Common.{sym, ap, ap₂, ◌∙◌}
 use Rattle.std.proofs.Math.Option.{Option, none, some}
 use base.Logic.{ent, sep, fst∗, snd∗}
@@ -36,6 +36,8 @@ use Rattle.record.specs.Sound.{Decides, own_place, Read, Written}
 use Rattle.record.specs.Same.{one_read, one_written}
 use Rattle.oneway.specs.declared.OneWay.{OneWay}
 use Rattle.oneway.specs.Closed.{Closes}
+use Rattle.requests.specs.declared.Reply.{Reply}
+use Rattle.requests.specs.Reply.{Content}
 use Rattle.requests.specs.Answered.{one_answer}
 use Rattle.oneway.specs.Feeds.{one_heard}
 use Rattle.connection.specs.Goaway.{sends_as_one}
@@ -299,6 +301,11 @@ pub one_record : (s : Stream) (r q : Record) → Written s r → Written s q →
 one_record s r q e f = one_written s r q e f
 
 -- a short way that was taken
+pub one_content : {r : Record} {allow : ℕ} {piece : List ℕ} {x y : Maybe Reply} → IfSome x (Content r allow piece) → IfSome y (Content r allow piece) → IsSome x → IsSome y → x ≡ y
+one_content {x = None} b d s t = said_no s
+one_content {x = Some v} {y = None} b d s t = said_no t
+one_content {r} {x = Some v} {y = Some w} b d s t = ap Some (one_answer r _ v w b.keeps.answers d.keeps.answers)
+
 pub one_brief : {code : ℕ} {f : Found} {allow : ℕ} {piece : List ℕ} {x y : Maybe Brief} → Briefly code f allow piece x → Briefly code f allow piece y → IsSome x → IsSome y → x ≡ y
 one_brief {x = None} b d s t = said_no s
 one_brief {x = Some v} {y = None} b d s t = said_no t
@@ -503,8 +510,8 @@ module _ (w : World) where
   LeavesOneIf T c Taken = (κs : Lfts T.signature.lifetimes) (a : Args T.signature κs) (g : (c κs a).ghost) (r q : Res T.signature κs) (ws vs : Lasts T κs a)
       → ent w.𝓤 (sep w.𝓤 ((c κs a).ensures g r (at_exit T κs a ws)) ((c κs a).ensures g q (at_exit T κs a vs))) (fact w.𝓤 (Taken κs r → Taken κs q → (r ≡ q) × (ws ≡ vs)))
 
-  pub request_taken : LeavesOneIf requests-brisk.ended (requests-brisk.clauses w.𝓛 w.𝓜.mem w.𝓡.returns) (λ κs r. r.number ≡ 0)
-  request_taken κs a g r q ws vs = facts (λ x y s t. (one_answer a.0 _ r q (x s).0.answers (y t).0.answers, refl))
+  pub request_taken : LeavesOneIf requests-brisk.ended (requests-brisk.clauses w.𝓛 w.𝓜.mem w.𝓡.returns) (λ κs r. IsSome r)
+  request_taken κs a g r q ws vs = facts (λ x y s t. (one_content x y s t, refl))
 
   pub connection_taken : LeavesOneIf connection-brisk.ended (connection-brisk.clauses w.𝓛 w.𝓜.mem w.𝓡.returns) (λ κs r. IsSome r)
   connection_taken κs a g r q ws vs = facts (λ x y s t. (one_brief x y s t, refl))

@@ -1,5 +1,6 @@
 -- One feed, from its parts: a law for each way it goes. Assumes nothing.
-use Rattle.std.specs.Prelude.{◌≡◌, refl, ℕ, zero, suc, ◌+◌, ◌-◌, ◌≤◌, ◌<◌, ◌^◌, List, length, false, Some, Ok}
+use Rattle.std.specs.Prelude.{◌≡◌, refl, ℕ, zero, suc, ◌+◌, ◌-◌, ◌≤◌, ◌<◌, ◌^◌, List, length, false, Option, Some, IfSome, Ok}
+use Rattle.std.proofs.lemmas.Option.{IfSome_then}
 use Rattle.std.proofs.Common.{sym, ap, ◌∙◌, subst, zero-le, arith, ne_eqb, le-leb}
 use Rattle.std.proofs.Math.Nat.{sub-zero}
 use Rattle.meaning.specs.Machine.{lives}
@@ -28,6 +29,10 @@ fed_by c s allow n p k = feed both allow (state_of c p k) s
 -- WHAT A FEED ANSWERS: nothing may be kept so far but of a kept payload
 abbrev pub Fed : (c : Cells) (s : List ℕ) (allow : ℕ) → Answer → Type 0
 Fed c s allow r = Answers c s (IN-SETTINGS - c.mode) (fed_by c s allow) r
+
+-- and a feed whose event is content
+abbrev pub FedContent : (c : Cells) (s : List ℕ) (allow : ℕ) → Answer → Type 0
+FedContent c s allow r = (r.event ≡ event.Content) × (Fed c s allow r × Content c r.cells)
 
 -- the rest of the cells says nothing of a payload's state
 state_free : (mode a d t : ℕ) (p : Place) (k : List ℕ) → IN-SKIPPED ≤ mode → (mode ≡ HEADER-SECTION-DUE → ⊥) → (mode ≡ TRAILERS-DUE → ⊥) → state_at mode a d t p k ≡ state_at mode a 0 0 p k
@@ -110,9 +115,9 @@ module _ (c : Cells) (s : List ℕ) (allow : ℕ) where
   pub fed_content : {r : Answer} → Sane c → c.mode ≡ IN-CONTENT → Hands c s 0 0 IN-CONTENT c.acc r → Fed c s allow r × Content c r.cells
   fed_content {r} sane e a = (fed_payload sane (omega arith) (λ x. omega arith) (λ x. omega arith) (subst (λ x. Answers c s 0 (from_payload c s 0 0 x c.acc) r) (sym e) a.0), a.1 refl)
 
-  -- what is not reported as content says nothing
-  pub unsaid : {says : Type 0} {r : Answer} {at heads : ℕ} {d : Cells} → r ≡ answer event.Nothing at 0 at heads d → r.event ≡ event.Content → says
-  unsaid q e = let z = ap (λ (x : Answer). x.event) q in cc
+  -- an answer that is content
+  pub known_content : {r : Answer} → Fed c s allow r × Content c r.cells → (o : Option Answer) → IfSome o (λ b. (b.event ≡ event.Content) × (b ≡ r)) → IfSome o (FedContent c s allow)
+  known_content {r} f o h = IfSome_then o h (λ b x. (x.0, subst (λ y. Fed c s allow y × Content c y.cells) (sym x.1) f))
 
   -- a DATA frame that begins the piece, and has content: its header is whole
   module _ (sane : Sane c) (m0 : c.mode ≡ IN-TYPE) (d0 : c.due ≡ 0) (some : allow ≡ 0 → ⊥) {h : FrameHeader} (whole : WholeAt s 0 h)

@@ -1,7 +1,7 @@
 // The frames of a request or control stream (document 01, "Frames"), read in pieces.
 #![tactic(auto)]
 
-ghost use Rattle.std.specs.Prelude.{◌≡◌, ◌+◌, ◌≤◌, ◌<◌, ◌^◌, length, Some, None, Ok};
+ghost use Rattle.std.specs.Prelude.{◌≡◌, ◌+◌, ◌≤◌, ◌<◌, ◌^◌, length, Some, None, IfSome, Ok};
 ghost use Rattle.frames.specs.Both.{rule};
 ghost use Rattle.frames.specs.Modes.{BODY, UNSET, IN-SKIPPED, IN-CONTENT};
 ghost use Rattle.frames.specs.Uses.{place_of, number_of, passes_of};
@@ -13,7 +13,7 @@ ghost use Rattle.frames.specs.Heads.{head_in, GoodHead, HeadStepped, HeadRead};
 ghost use Rattle.frames.specs.Answers.{event_number, Sane, Numbers, HandedMode, Tells, Answers, in_mode, Content, Hands, answer};
 ghost use Rattle.frames.specs.Stopped.{more_sum, from_stop};
 ghost use Rattle.frames.specs.Begun.{head_cells, from_cut, start, Started};
-ghost use Rattle.frames.specs.Fed.{Fed};
+ghost use Rattle.frames.specs.Fed.{Fed, FedContent};
 ghost use Rattle.frames.specs.End.{tally_of, cut_of, Ends};
 ghost use Rattle.frames.specs.Stops.{Lawful, Unready, Stuck, Stop, header_of, stop_of, HeaderAt};
 
@@ -744,14 +744,24 @@ pub fn feed(s: &[u8], c: Cells, allow: u64) -> Answer
     }
 }
 
+// An answer that is content.
+fn content(a: Answer) -> Option<Answer>
+    ensures { IfSome result (λ b. (b.event ≡ event.Content) × (b ≡ a)) }
+{
+    match a.event {
+        Event::Content => Some(a),
+        _ => None,
+    }
+}
+
 // A feed that begins in content, or with a DATA frame's header that is whole in the piece: its event is content, and the answer is that of `feed`.
-// Any other event says nothing.
-pub fn brisk(s: &[u8], c: Cells, allow: u64) -> Answer
+// None says nothing.
+pub fn brisk(s: &[u8], c: Cells, allow: u64) -> Option<Answer>
     requires { Sane c }
-    ensures { result.event ≡ event.Content → Fed c s.now allow result × Content c result.cells }
+    ensures { IfSome result (FedContent c s.now allow) }
 {
     if c.mode == IN_CONTENT {
-        return handed(s, 0, c.acc, IN_CONTENT, c, 0);
+        return content(handed(s, 0, c.acc, IN_CONTENT, c, 0));
     }
     if c.mode == IN_TYPE
         && c.due == 0
@@ -761,9 +771,9 @@ pub fn brisk(s: &[u8], c: Cells, allow: u64) -> Answer
         && h.len != 0
         && let Ok(Use::Content) = c.place().rule(h.ftype, h.len)
     {
-        return handed(s, h.next, h.len, IN_CONTENT, more_sum(c, h.len), 1);
+        return content(handed(s, h.next, h.len, IN_CONTENT, more_sum(c, h.len), 1));
     }
-    quiet(0, 0, c)
+    None
 }
 
 // ---- the end

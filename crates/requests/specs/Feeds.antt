@@ -27,7 +27,7 @@ use Rattle.frames.specs.Both.{Place, of_request, judged}
 use Rattle.frames.specs.Uses.{place_of}
 use Rattle.frames.specs.Heads.{head_state}
 use Rattle.frames.specs.Parts.{judged_as}
-use Rattle.frames.specs.Answers.{mode_state, kept_at, state_at, state_of, place_at, event_number, answer_at, Sane, Held, Content}
+use Rattle.frames.specs.Answers.{mode_state, kept_at, state_at, state_of, place_at, event_number, answer_at, Sane, Held, Content as FrameContent}
 use Rattle.frames.specs.Fed.{Fed}
 use Rattle.frames.specs.Apart.{message, state_carried, request_fed}
 use Rattle.record.specs.Kinds.{REQUEST}
@@ -38,7 +38,7 @@ use Rattle.record.specs.Tests.{request_shape}
 use Rattle.record.specs.Same.{written_as, written_sound}
 use Rattle.record.specs.Body.{Body, content_in, content_written}
 use Rattle.requests.specs.declared.Reply.{Reply}
-use Rattle.requests.specs.Reply.{Open, state_in, reply, refused, left_by, said_by, said, unless_due, fed_as, Keeps, opened}
+use Rattle.requests.specs.Reply.{Open, state_in, reply, refused, left_by, said_by, said, unless_due, fed_as, Keeps, Content, opened}
 use Rattle.requests.specs.Plain.{Plain, Plainly, plain_feed}
 use Rattle.requests.specs.Answered.{own_message, own_stands}
 use Rattle.requests.specs.Told.{phase_low}
@@ -233,11 +233,12 @@ module _ (r : Record) (o : Open r) (piece : List ℕ) (allow : ℕ) where
         }
 
       -- content alters three numbers of the record
-      pub feed-content : Body r → Content (cells_in r) ans.cells → ans.event ≡ event.Content → {q : Record} → q ≡ content_in r ans.cells
-          → Keeps r (fed_as r allow piece) (reply ACCEPTED CONTENT ans.start ans.len ans.used ans.heads q) × (q ≡ content_in r (cells_in q))
+      pub feed-content : Body r → FrameContent (cells_in r) ans.cells → ans.event ≡ event.Content → {q : Record} → q ≡ content_in r ans.cells
+          → Content r allow piece (reply ACCEPTED CONTENT ans.start ans.len ans.used ans.heads q)
       feed-content b h e q =
-          rw q (
-            subst (λ x. Keeps r (fed_as r allow piece) (reply ACCEPTED (event_number x) ans.start ans.len ans.used ans.heads (content_in r ans.cells))) e
-                (feed-part (content_in r ans.cells) (content_written r b (fed.sane not_taken) h) (inl e)),
-            refl,
-          )
+          rw q (record {
+            accepted = refl;
+            keeps = subst (λ x. Keeps r (fed_as r allow piece) (reply ACCEPTED (event_number x) ans.start ans.len ans.used ans.heads (content_in r ans.cells))) e
+                (feed-part (content_in r ans.cells) (content_written r b (fed.sane not_taken) h) (inl e));
+            alters = refl;
+          })

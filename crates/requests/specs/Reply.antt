@@ -15,6 +15,7 @@ use Rattle.record.specs.Kinds.{REQUEST}
 use Rattle.record.specs.declared.Record.{Record}
 use Rattle.record.specs.Row.{request_record, free_record}
 use Rattle.record.specs.Sound.{cells_in, own_place, Sound}
+use Rattle.record.specs.Body.{content_in}
 use Rattle.requests.specs.declared.Reply.{Reply}
 
 -- ---- an open request
@@ -111,3 +112,9 @@ pub data Answered (r : Record) (want : State Message → Reply) (a : Reply) : Ty
 pub record Keeps (r : Record) (want : State Message → Reply) (a : Reply) : Type 0 where
   pub answers : Answered r want a
   pub stays : a.number ≡ ACCEPTED → Open a.row
+
+-- A FEED OF CONTENT is accepted, and of the record it alters three numbers
+pub record Content (r : Record) (allow : ℕ) (piece : List ℕ) (a : Reply) : Type 0 where
+  pub accepted : a.number ≡ ACCEPTED
+  pub keeps : Keeps r (fed_as r allow piece) a
+  pub alters : a.row ≡ content_in r (cells_in a.row)

@@ -3,12 +3,10 @@
 
 pub mod given;
 
-ghost use Rattle.std.specs.Prelude.{◌≡◌};
-ghost use Rattle.rules.specs.Numbers.{ACCEPTED};
+ghost use Rattle.std.specs.Prelude.{◌≡◌, IfSome};
 ghost use Rattle.record.specs.Kinds.{REQUEST};
 ghost use Rattle.record.specs.Sound.{Fit, CellsIf, cells_in, stream, Written};
-ghost use Rattle.record.specs.Body.{content_in};
-ghost use Rattle.requests.specs.Reply.{Open, reply, refused, left_by, fed_as, given_as, ended_as, reset_as, Answered, Keeps};
+ghost use Rattle.requests.specs.Reply.{Open, reply, refused, left_by, fed_as, given_as, ended_as, reset_as, Answered, Keeps, Content};
 
 use frames::{Cells, Event};
 use record::{Reading, Record, Stream};
@@ -141,25 +139,23 @@ pub fn feed(r: Record, piece: &[u8], allow: u64) -> Reply
     }
 }
 
-// The same, if it is content: accepted. Any other number says nothing.
-pub fn brisk(r: Record, piece: &[u8], allow: u64) -> Reply
-    ensures { result.number ≡ ACCEPTED → Keeps r (fed_as r allow piece.now) result × (result.row ≡ content_in r (cells_in result.row)) }
+// The same, if it is content: accepted. None says nothing.
+pub fn brisk(r: Record, piece: &[u8], allow: u64) -> Option<Reply>
+    ensures { IfSome result (Content r allow piece.now) }
 {
-    if record::in_body(r) {
-        let b = frames::brisk(piece, record::cells_in(r), allow);
-        if let Event::Content = b.event {
-            return Reply {
-                number: rules::ACCEPTED,
-                event: rules::CONTENT,
-                start: b.start,
-                len: b.len,
-                used: b.used,
-                heads: b.heads,
-                row: record::in_content(r, b.cells),
-            };
-        }
+    if !record::in_body(r) {
+        return None;
     }
-    told(rules::NOT_OPEN, rules::NOTHING, r)
+    let b = frames::brisk(piece, record::cells_in(r), allow)?;
+    Some(Reply {
+        number: rules::ACCEPTED,
+        event: rules::CONTENT,
+        start: b.start,
+        len: b.len,
+        used: b.used,
+        heads: b.heads,
+        row: record::in_content(r, b.cells),
+    })
 }
 
 // The section that is due.
