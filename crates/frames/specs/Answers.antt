@@ -121,6 +121,7 @@ pub record Answers (c : Cells) (s : List ℕ) (fresh : ℕ) (want : (rest : ℕ)
   pub sane : ((which : ℕ) → r.event ≡ event.Kept which → ⊥) → Sane r.cells
   pub phase : r.cells.phase ≡ c.phase
   pub held : r.event ≡ event.KeptPart → IN-SETTINGS ≤ r.cells.mode  -- a part is kept of a kept payload alone
+  pub named : (which : ℕ) → r.event ≡ event.Kept which → r.cells.mode ≡ which
 
 -- ---- a payload that is handed on or kept, by its mode
 

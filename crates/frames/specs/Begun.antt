@@ -116,6 +116,7 @@ cut_answer c s to heads r d w g h q =
       sane = λ x. head_sane r (untyped c) h.good (omega arith) g;
       phase = cells_phase r (untyped c);
       held = λ e. cc;
+      named = λ which e. cc;
     })
 
 pub stop_cut : (c : Cells) (s : List ℕ) (to heads number len rest : ℕ) {r : Answer} → number ≡ NO-USE → (rest ≡ 0 → ⊥) → Answers c s 1 (from_cut s to heads) r → Answers c s 1 (from_stop s to heads number len rest) r
@@ -129,6 +130,7 @@ stop_cut c s to heads number len rest e n0 a =
       sane = a.sane;
       phase = a.phase;
       held = a.held;
+      named = a.named;
     }
 
 pub numbers_more : (c d : Cells) (len : ℕ) → d ≡ more_sum c len → c.sum + len ≤ 2 ^ 62 → c.stated ≤ 2 ^ 62 → Numbers d

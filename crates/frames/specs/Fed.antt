@@ -57,6 +57,7 @@ module _ (c : Cells) (s : List ℕ) (allow : ℕ) where
     sane = a.sane;
     phase = a.phase;
     held = a.held;
+    named = a.named;
   }
 
   due_state : (mode a d t : ℕ) (p : Place) (k : List ℕ) → HEADER-SECTION-DUE ≤ mode → mode < IN-SETTINGS → feed both allow (state_at mode a d t p k) s ≡ halt quiet (lives (state_at mode a d t p k))
@@ -73,6 +74,7 @@ module _ (c : Cells) (s : List ℕ) (allow : ℕ) where
     sane = λ x. sane;
     phase = refl;
     held = λ e. cc;
+    named = λ which e. cc;
   }
 
   -- nowhere
@@ -85,6 +87,7 @@ module _ (c : Cells) (s : List ℕ) (allow : ℕ) where
     sane = λ x. q.sane;
     phase = q.phase;
     held = λ e. cc;
+    named = λ which e. cc;
   }
 
   fresh_held : (mode : ℕ) (k : List ℕ) → mode < IN-CONTENT → Held (IN-SETTINGS - mode) k → Held 1 k
@@ -109,6 +112,7 @@ module _ (c : Cells) (s : List ℕ) (allow : ℕ) where
     sane = a.sane;
     phase = a.phase;
     held = a.held;
+    named = a.named;
   }
 
   -- content that goes on

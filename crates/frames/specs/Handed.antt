@@ -53,6 +53,18 @@ part_held tells_header e = cc
 part_held tells_trailers e = cc
 part_held (tells_kept mode h) e = omega arith
 
+last_named : {mode which : ℕ} {t : Telling} → Tells mode t → t.last ≡ event.Kept which → t.behind ≡ which
+last_named tells_content e = cc
+last_named tells_header e = cc
+last_named tells_trailers e = cc
+last_named (tells_kept mode h) e = cc
+
+part_open : {mode which : ℕ} {t : Telling} → Tells mode t → t.part ≡ event.Kept which → ⊥
+part_open tells_content e = cc
+part_open tells_header e = cc
+part_open tells_trailers e = cc
+part_open (tells_kept mode h) e = cc
+
 -- the cells of content that goes on, and of content that is all there
 pub content_on : (c : Cells) {mode acc : ℕ} {d : Cells} → d ≡ in_mode c mode acc → mode ≡ IN-CONTENT → Content c d
 content_on c {mode} {acc} q e = rw (q, e) (goes_on acc c.sum)
@@ -78,6 +90,7 @@ module _ (c : Cells) (s : List ℕ) (at heads : ℕ) (w : at ≤ length s) (g : 
         sane = λ x. sane_in c mode left g m.1 hi (λ l. absurd (omega arith)) (λ a b f. lo);
         phase = refl;
         held = λ e. cc;
+        named = λ which e. cc;
       })
 
   -- ---- all of it is there
@@ -135,6 +148,7 @@ module _ (c : Cells) (s : List ℕ) (at heads : ℕ) (w : at ≤ length s) (g : 
     sane = over_sane h;
     phase = refl;
     held = λ e. absurd (last_whole h e);
+    named = λ which e. last_named h e;
   })
 
   -- ---- some of it is there
@@ -180,6 +194,7 @@ module _ (c : Cells) (s : List ℕ) (at heads : ℕ) (w : at ≤ length s) (g : 
       sane = λ x. sane_in c mode (left - (length s - at)) g m.1 (omega arith) (λ l. absurd (omega arith)) (λ a b f. omega arith);
       phase = refl;
       held = part_held h;
+      named = λ which e. absurd (part_open h e);
     })
 
 -- ---- how parts are reported

@@ -79,6 +79,7 @@ module _ (c : Cells) (s : List ℕ) (to heads len rest : ℕ) (w : to ≤ length
         sane = λ x. sane;
         phase = refl;
         held = λ e. cc;
+        named = λ which e. cc;
       }
 
   -- ---- no more headers
@@ -95,6 +96,7 @@ module _ (c : Cells) (s : List ℕ) (to heads len rest : ℕ) (w : to ≤ length
         sane = λ x. sane_in c IN-TYPE 0 g (omega arith) (omega arith) (λ l. refl) (λ a b f. absurd (omega arith));
         phase = refl;
         held = λ e. cc;
+        named = λ which e. cc;
       })
 
   -- ---- a payload of some bytes
@@ -123,6 +125,7 @@ module _ (c : Cells) (s : List ℕ) (to heads len rest : ℕ) (w : to ≤ length
         sane = λ x. sane_in c IN-SKIPPED (len - (length s - to)) g (omega arith) (omega arith) (λ l. absurd (omega arith)) (λ a b f. omega arith);
         phase = refl;
         held = λ e. cc;
+        named = λ which e. cc;
       })
 
   -- ---- content: DATA moves the sum
@@ -145,6 +148,7 @@ module _ (c : Cells) (s : List ℕ) (to heads len rest : ℕ) (w : to ≤ length
         sane = a.sane;
         phase = a.phase;
         held = a.held;
+        named = a.named;
       }
 
   -- ---- a section or a kept payload
@@ -162,6 +166,7 @@ module _ (c : Cells) (s : List ℕ) (to heads len rest : ℕ) (w : to ≤ length
     sane = a.sane;
     phase = a.phase;
     held = a.held;
+    named = a.named;
   }
 
   pub stop_handed : (u : Use) {r : Answer} → (u ≡ Skipped → ⊥) → (u ≡ Content → ⊥) → Answers c s 0 (from_payload c s to heads (mode_in u) len) r → Answers c s 1 (from_stop s to heads (use_in u) len rest) r
