@@ -92,11 +92,7 @@ fn bytes_at(s: &[u8], at: usize, room: &mut [u8]) -> Option<Word<usize>>
 fn behind_blank(s: &[u8], at: usize) -> Option<usize>
     ensures { Behind s.now at result }
 {
-    if *s.get(at)? == b' ' {
-        Some(at + 1)
-    } else {
-        None
-    }
+    (*s.get(at)? == b' ').then_some(at + 1)
 }
 
 // Up to three numbers, each behind a blank.
@@ -262,11 +258,7 @@ fn lent(s: &[u8], at: usize, n: u64, scratch: &mut [u8]) -> Option<Line>
         return None;
     }
     let line = call(s, behind_blank(s, at)?, Some(n), scratch)?;
-    if line.verb.has_row() {
-        Some(line)
-    } else {
-        None
-    }
+    line.verb.has_row().then_some(line)
 }
 
 // The line at a place.
