@@ -1,7 +1,7 @@
 #!/usr/bin/env python3
 """What a caller or a reader of the definitions sees changed between a commit and this tree, as Markdown, old and new side by side: of crates/*/src each public
 function's signature and clauses and each public type; of crates/*/specs (and of proofs, for what moved there) each `pub` definition with its text and each `pub`
-theorem with its statement. `tools/design_changes.py COMMIT`."""
+theorem with its statement; and the edits that the check must refuse whose lines changed. `tools/design_changes.py COMMIT`."""
 import collections
 import pathlib
 import re
@@ -44,7 +44,7 @@ def source(path, text):
             indent = len(line) - len(line.lstrip())
             while not re.match(" " * indent + r"\{", lines[end]) and not lines[end].endswith(" {"):
                 end += 1
-            found[f"{place}::{owner}{m[1]}"] = flat("\n".join(lines[i:end + (lines[end].endswith(" {") and lines[end].strip() != "{")]))
+            found[f"{place}::{owner}{m[1]}"] = flat("\n".join(lines[i:end + (lines[end].endswith(" {") and lines[end].strip() != "{")])).removesuffix(" {")
             i = end
         elif m := re.match(r"pub (struct|enum|const) (\w+)", line):
             end = i
@@ -95,16 +95,27 @@ def words(path, text):
 
 
 def read(commit):
-    code, specs = {}, {}
-    for path, text in tree(commit).items():
+    code, specs, lower = {}, {}, set()
+    for path, text in sorted(tree(commit).items(), key=lambda f: "/proofs/" in f[0]):
         if path.endswith(".rt"):
             code.update(source(path, text))
         elif "/specs/" in path:
             specs.update(words(path, text))
         else:
-            lower = words(path, text)
-            specs.update({k: v for k, v in lower.items() if k not in specs and re.match(r"\w+/[A-Z]\w*\.", k)})
-    return code, specs
+            more = {k: v for k, v in words(path, text).items() if k not in specs and re.match(r"\w+/[A-Z]\w*\.", k)}
+            specs.update(more)
+            lower |= set(more)
+    return code, specs, lower
+
+
+def edits(commit):
+    """The lines of each edit, without its comment."""
+    if commit is None:
+        found = {str(f.relative_to(root)): f.read_text(encoding="utf-8") for g in ("crates/*/must-fail/*.edit", "tests/edits/*/*.edit") for f in sorted(root.glob(g))}
+    else:
+        names = subprocess.run(["git", "-C", root, "ls-tree", "-r", "--name-only", commit], capture_output=True, text=True, check=True).stdout.split("\n")
+        found = {n: subprocess.run(["git", "-C", root, "show", f"{commit}:{n}"], capture_output=True, text=True, check=True).stdout for n in names if re.match(r"(crates/\w+/must-fail|tests/edits/\w+)/\w+\.edit$", n)}
+    return {n: " ⏎ ".join(re.sub(r"^(old|new): +", r"\1: ", r) for r in t.strip().split("\n") if not r.startswith(("#", "file:"))) for n, t in found.items()}
 
 
 def cell(text):
@@ -112,8 +123,8 @@ def cell(text):
 
 
 def main():
-    old_code, old_specs = read(sys.argv[1])
-    new_code, new_specs = read(None)
+    old_code, old_specs, old_lower = read(sys.argv[1])
+    new_code, new_specs, new_lower = read(None)
     for title, old, new in (("Public functions, types and constants", old_code, new_code), ("Definitions and theorems", old_specs, new_specs)):
         print(f"\n### {title}\n\n| name | at the start | now |\n|---|---|---|")
         by_name = collections.defaultdict(list)
@@ -122,9 +133,14 @@ def main():
                 by_name[(k.split("/")[0].split("::")[0], re.split(r"\.|::", k)[-1])].append(k)
         seen = set()
         for k in sorted(old):
+            if k in old_lower and k in new_lower or k in old_lower and k not in new:
+                continue
             if k in new:
+                moved = "in proofs/: " if k in new_lower and k not in old_lower else ""
                 if old[k] != new[k]:
-                    print(f"| {k} | {cell(old[k])} | {cell(new[k])} |")
+                    print(f"| {k} | {cell(old[k])} | {moved}{cell(new[k])} |")
+                elif moved:
+                    print(f"| {k} | {cell(old[k])} | {moved}the same |")
                 continue
             moved = by_name.get((k.split("/")[0].split("::")[0], re.split(r"\.|::", k)[-1]), [])
             if moved:
@@ -136,8 +152,13 @@ def main():
             else:
                 print(f"| {k} | {cell(old[k])} | – |")
         for k in sorted(new):
-            if k not in old and k not in seen:
+            if k not in old and k not in seen and k not in new_lower:
                 print(f"| {k} | – | {cell(new[k])} |")
+    old, new = edits(sys.argv[1]), edits(None)
+    print("\n### Edits\n\n| edit | at the start | now |\n|---|---|---|")
+    for k in sorted(set(old) | set(new)):
+        if old.get(k) != new.get(k):
+            print(f"| {k} | {cell(old.get(k))} | {cell(new.get(k))} |")
 
 
 main()

@@ -22,7 +22,7 @@ pub struct Doors {
 }
 
 impl Doors {
-    // The ID of the last GOAWAY that we sent. The flag and the value beside it are the C interface's; they are read here alone.
+    // The ID of the last GOAWAY that we sent. The flag and the value beside it are the C interface's; what decides reads them here alone.
     fn sent(&self) -> Option<StreamId>
         ensures { sent_of result ≡ sent_in self.now }
     {

@@ -117,6 +117,8 @@ use Rattle.frames.specs.declared.Use.{Use}
 use Rattle.frames.specs.Wants.{ruled_in, ruled_one}
 use Rattle.frames.specs.contracts.Place.rule as streams-rule
 use Rattle.frames.proofs.Place.rule.Symbol as streams-rule-is
+use Rattle.frames.specs.contracts.Event.number as streams-event-number
+use Rattle.frames.proofs.Event.number.Symbol as streams-event-number-is
 use Rattle.frames.specs.contracts.end as streams-end
 use Rattle.frames.proofs.end.Symbol as streams-end-is
 use Rattle.frames.proofs.feed.Symbol as streams-feed-is
@@ -142,6 +144,8 @@ use Rattle.record.specs.contracts.in_content as record-in-content
 use Rattle.record.proofs.in_content.Symbol as record-in-content-is
 use Rattle.requests.specs.contracts.given.give as given-give
 use Rattle.requests.proofs.given.give.Symbol as given-give-is
+use Rattle.oneway.specs.contracts.Event.number as oneway-event-number
+use Rattle.oneway.proofs.Event.number.Symbol as oneway-event-number-is
 use Rattle.oneway.specs.contracts.close as oneway-close
 use Rattle.oneway.proofs.close.Symbol as oneway-close-is
 use Rattle.oneway.proofs.feed.Symbol as oneway-feed-is
@@ -393,6 +397,7 @@ module _ (w : World) where
   abbrev of_streams : List Function
   of_streams =
       function streams-rule-is.symbol streams-rule.ended (streams-rule.clauses w.𝓛 w.𝓜.mem w.𝓡.returns) (λ κs a g r q ws vs. facts (λ x y. (one_ruling x y, refl)))
+      ∷ function streams-event-number-is.symbol streams-event-number.ended (streams-event-number.clauses w.𝓛 w.𝓜.mem w.𝓡.returns) (λ κs a g r q ws vs. equal)
       ∷ function streams-end-is.symbol streams-end.ended (streams-end.clauses w.𝓛 w.𝓜.mem w.𝓡.returns) (λ κs a g r q ws vs. facts (λ x y. (one_ended a.0 x y, refl)))
       ∷ []
 
@@ -416,7 +421,8 @@ module _ (w : World) where
 
   abbrev of_oneway : List Function
   of_oneway =
-      function oneway-close-is.symbol oneway-close.ended (oneway-close.clauses w.𝓛 w.𝓜.mem w.𝓡.returns) (λ κs a g r q ws vs. facts (λ x y. (one_closed a.0 x y, refl)))
+      function oneway-event-number-is.symbol oneway-event-number.ended (oneway-event-number.clauses w.𝓛 w.𝓜.mem w.𝓡.returns) (λ κs a g r q ws vs. equal)
+      ∷ function oneway-close-is.symbol oneway-close.ended (oneway-close.clauses w.𝓛 w.𝓜.mem w.𝓡.returns) (λ κs a g r q ws vs. facts (λ x y. (one_closed a.0 x y, refl)))
       ∷ []
 
   abbrev of_control : List Function
@@ -488,10 +494,10 @@ module _ (w : World) where
       "control::settings::judge" ∷ "control::settings::only" ∷
       "fields::has_byte" ∷ "fields::begins_with" ∷ "fields::same_bytes" ∷ "fields::Table::any_outside" ∷ "fields::Table::bad_line" ∷ "fields::decimal_of" ∷ "fields::Table::line_spot" ∷ "fields::line_at" ∷
       "section::code" ∷ "section::Fault::number" ∷ "section::header_section" ∷ "section::trailers" ∷
-      "frames::Place::rule" ∷ "frames::end" ∷
+      "frames::Place::rule" ∷ "frames::Event::number" ∷ "frames::end" ∷
       "record::cells_in" ∷ "record::free" ∷ "record::is_free" ∷ "record::is_part" ∷ "record::is_sane" ∷ "record::read" ∷ "record::row" ∷ "record::write" ∷ "record::in_content" ∷
       "requests::given::give" ∷
-      "oneway::close" ∷
+      "oneway::Event::number" ∷ "oneway::close" ∷
       "control::judge" ∷
       "requests::reset" ∷ "requests::end" ∷ "requests::feed" ∷ "requests::give" ∷
       "connection::doors::fresh" ∷ "connection::doors::open" ∷ "connection::doors::send_goaway" ∷

@@ -30,7 +30,7 @@ pub struct Side {
     pub bytes: [u8; 256],
 }
 
-// So many bytes of a payload that is not complete are kept at most.
+// How many bytes are kept, at most, of a payload that is not complete.
 const ROOM: u64 = 256;
 
 impl Side {

@@ -1,4 +1,4 @@
--- WHAT A LINE LEAVES AND PRINTS: the lent call that its letter means, and the line of what the call answered. Assumes nothing.
+-- WHAT A LINE LEAVES AND PRINTS: the lent call that its verb asks for, and the line of what the call answered. Assumes nothing.
 use Rattle.std.specs.Prelude.{Option, Some, None, Bool, eqb, ℕ, ◌+◌, zero, suc, ◌≤◌, ◌<◌, ◌≡◌, refl, List, [], ◌∷◌, true, false, length, take, replicate, unwrap_or}
 use Rattle.std.proofs.Common.{ap, subst, ◌∙◌, arith}
 use Rattle.std.proofs.lemmas.List.{length-replicate}

@@ -1,5 +1,4 @@
-// Why a section is refused: the names that the code has for the reasons (specs/Section, in the same order).
-// In the order of their checks.
+// Why a section is refused: the names that the code has for the reasons (specs/Section, in the order of their checks).
 #[derive(Clone, Copy, Debug, PartialEq, Eq, PartialOrd, Ord, Drop)]
 pub enum Reason {
     TooLarge,

@@ -196,14 +196,8 @@ fn header_section(rt: &impl Print, block: &[u8]) -> io::Result<()> {
     hex(rt, block)?;
     match section::header_section(block) {
         Err(fault) => refused(rt, fault),
-        Ok(
-            Sound {
-                method,
-                end,
-                stated,
-            },
-        ) => {
-            print!(rt; ": sound, method {method} to {end}, ")?;
+        Ok(Sound { method, stated }) => {
+            print!(rt; ": sound, method {} to {}, ", method.from, method.to)?;
             match stated {
                 None => println!(rt; "no length"),
                 Some(length) => println!(rt; "length {length}"),

@@ -1,8 +1,11 @@
 -- The words of a script's line, and what is known of a line that was read. Assumes nothing.
-use Rattle.std.specs.Prelude.{ℕ, ◌+◌, ◌-◌, ◌≤◌, ◌<◌, ◌/◌, ◌%◌, ◌≡◌, List, [], ◌∷◌, true, false, ltb, length, take, drop, Option, IfSome}
+use Rattle.std.specs.Prelude.{ℕ, ◌+◌, ◌-◌, ◌≤◌, ◌<◌, ◌/◌, ◌%◌, ◌≡◌, List, [], ◌∷◌, true, false, ltb, length, take, drop, Option, Some, None, IfSome, cond, eqb}
 use Rattle.listing.specs.Text.{decimal}
 use Rattle.script.specs.declared.Word.{Word}
 use Rattle.script.specs.declared.Line.{Line}
+use Rattle.script.specs.declared.Verb.{Verb}
+use Rattle.script.specs.declared.Verb.TheVariants.{Start, Open, Feed, Give, End, Reset, State, Value, Goaway, Write}
+use Rattle.script.specs.declared.Writing.{Writing}
 
 -- a byte as a decimal digit
 abbrev pub DigitIs : (b : ℕ) → Option ℕ → Type 0
@@ -46,6 +49,23 @@ pub record Decoded (s : List ℕ) (at count next : ℕ) (after : List ℕ) : Typ
 pub record BytesAt (s : List ℕ) (at : ℕ) (before : List ℕ) (r : Option (Word ℕ)) (after : List ℕ) : Type 0 where
   pub same : length after ≡ length before
   pub is : IfSome r (λ w. Decoded s at w.value w.next after)
+
+-- the verb that a letter means
+unfoldable pub verb_of : ℕ → Option Verb
+verb_of letter =
+    cond (eqb letter 83) (Some Start)
+    (cond (eqb letter 79) (Some Open)
+    (cond (eqb letter 70) (Some Feed)
+    (cond (eqb letter 72) (Some Give)
+    (cond (eqb letter 69) (Some End)
+    (cond (eqb letter 82) (Some Reset)
+    (cond (eqb letter 68) (Some State)
+    (cond (eqb letter 86) (Some Value)
+    (cond (eqb letter 71) (Some Goaway)
+    (cond (eqb letter 87) (Some (Write Writing.Header))
+    (cond (eqb letter 73) (Some (Write Writing.IntegerFrame))
+    (cond (eqb letter 78) (Some (Write Writing.Integer))
+    (cond (eqb letter 67) (Some (Write Writing.Opening)) None))))))))))))
 
 -- a place of the list behind another
 abbrev pub Leads : List ℕ → (at next : ℕ) → Type 0

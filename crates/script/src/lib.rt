@@ -2,7 +2,7 @@
 #![tactic(auto)]
 
 ghost use Rattle.std.specs.Prelude.{◌≡◌, ◌+◌, ◌≤◌, length, IfSome};
-ghost use Rattle.script.specs.Words.{DigitIs, HalfIs, NumberAt, BytesAt, ValuesAt, Behind, LineAt};
+ghost use Rattle.script.specs.Words.{DigitIs, HalfIs, NumberAt, BytesAt, ValuesAt, verb_of, Behind, LineAt};
 
 // ---- words
 
@@ -139,7 +139,10 @@ pub enum Verb {
 }
 
 impl Verb {
-    fn of(letter: u8) -> Option<Verb> {
+    // The verb that a letter means.
+    fn of(letter: u8) -> Option<Verb>
+        ensures { result ≡ verb_of letter }
+    {
         match letter {
             b'S' => Some(Verb::Start),
             b'O' => Some(Verb::Open),

@@ -12,6 +12,7 @@ use Rattle.section.specs.declared.Sound.{Sound}
 use Rattle.section.specs.declared.Fault.{Fault}
 use Rattle.section.specs.declared.Fault.TheVariants as fault
 use Rattle.section.specs.Finding.{first, from_of, to_of}
+use Rattle.section.specs.Facts.{span}
 
 -- the two names whose values a sound header section reports
 abbrev pub method_name : List ℕ
@@ -24,7 +25,7 @@ length_name = ascii "content-length"
 unfoldable pub method_line : Section → Option Line
 method_line s = first (named method_name) s
 
--- ---- the answer: the reason's name; or where in the block the method begins and ends, and the length that is stated
+-- ---- the answer: the reason's name; or where in the block the method is, and the length that is stated
 
 abbrev pub HeaderAnswer : Type 0
 HeaderAnswer = Result Sound Fault
@@ -38,7 +39,7 @@ stated_of (some n) = Some n
 
 unfoldable pub header_answer_by : Section → Judgement Head → HeaderAnswer
 header_answer_by s (refused r) = Err (fault.Refused (reason_named r))
-header_answer_by s (sound h) = Ok (record { method = from_of (method_line s); end = to_of (method_line s); stated = stated_of h.stated })
+header_answer_by s (sound h) = Ok (record { method = span (from_of (method_line s)) (to_of (method_line s)); stated = stated_of h.stated })
 
 unfoldable pub header_answer : Lines → HeaderAnswer
 header_answer (unreadable f) = Err fault.Unreadable

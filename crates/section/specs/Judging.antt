@@ -32,7 +32,7 @@ use Rattle.section.specs.declared.Sound.{Sound}
 use Rattle.section.specs.Checks.{checks, lowest, found, lower_of, fill, and_then, told, first_in, first_told, found_some, found_none}
 use Rattle.section.specs.Names.{method, scheme, authority, path, host, content_length, name_at}
 use Rattle.section.specs.Finding.{first, from_of, to_of}
-use Rattle.section.specs.Facts.{row_of, facts_of, walked, place_by, span_of, number_in, place_in, length_in, from_in, to_in, value_at, value_in, value_first, there_is}
+use Rattle.section.specs.Facts.{row_of, facts_of, walked, place_by, span, span_of, number_in, place_in, length_in, from_in, to_in, value_at, value_in, value_first, there_is}
 use Rattle.section.specs.Places.{within, in_block, bytes_are, holds_by}
 use Rattle.section.specs.Answer.{HeaderAnswer, TrailerAnswer, method_name, length_name, method_line, stated_of, header_answer_by, header_answer, trailer_answer_by, trailer_answer, judged_number, header_number, trailer_number}
 
@@ -365,12 +365,12 @@ module _ (s : Section) where
       go (Some p) h = refl
 
   pub header_sound : None ≡ found (lowest (header_row s)) → (f : Facts) → f ≡ facts_of s → (p : Span) → f.method ≡ Some p
-      → Ok (record { method = p.from; end = p.to; stated = f.stated }) ≡ header_answer (readable s)
+      → Ok (record { method = p; stated = f.stated }) ≡ header_answer (readable s)
   unfolding header_answer_by unless method_line facts_of
   header_sound e f is p there =
       let none-broken = header_first s ∙ found_none _ e in
       let ends = ends_are (first (named method_name) s) p (sym (ap (λ (g : Facts). g.method) is) ∙ there) in
-      let sounds : ℕ → ℕ → Maybe ℕ → HeaderAnswer = λ (a b : ℕ) (t : Maybe ℕ). Ok (record { method = a; end = b; stated = t }) in
+      let sounds : ℕ → ℕ → Maybe ℕ → HeaderAnswer = λ (a b : ℕ) (t : Maybe ℕ). Ok (record { method = span a b; stated = t }) in
       ap (sounds p.from p.to) (ap (λ (g : Facts). g.stated) is ∙ stated_is s (length_passed s none-broken))
       ∙ ap (λ a. sounds a p.to (stated_of (stated_in (value_of length_name s)))) (sym ends.0)
       ∙ ap (λ b. sounds (from_in s method_name) b (stated_of (stated_in (value_of length_name s)))) (sym ends.1)
@@ -438,12 +438,13 @@ lies block f is get k e = subst (within block) (sym (ap get is ∙ e)) (in_block
 
 -- the bytes that a sound answer names are the method
 pub method_named : (block : List ℕ) (s : Section) (h : Head) {a : Sound} → lines block ≡ readable s → header_section s ≡ sound h
-    → header_answer (lines block) ≡ Ok a → part a.method a.end block ≡ h.method
+    → header_answer (lines block) ≡ Ok a → part a.method.from a.method.to block ≡ h.method
 unfolding header_answer header_answer_by method_line header_section unless
 method_named block s h {a = r} e f g =
-    let there-sound : ◌≡◌ {A = HeaderAnswer} (Ok (record { method = from_in s method_name; end = to_in s method_name; stated = stated_of h.stated })) (Ok r) = sym (ap header_answer e ∙ ap (header_answer_by s) f) ∙ g in
-    let b : from_in s method_name ≡ r.method = cc in
-    let c : to_in s method_name ≡ r.end = cc in
+    let there-sound : ◌≡◌ {A = HeaderAnswer} (Ok (record { method = span (from_in s method_name) (to_in s method_name); stated = stated_of h.stated })) (Ok r) = sym (ap header_answer e ∙ ap (header_answer_by s) f) ∙ g in
+    let place : span (from_in s method_name) (to_in s method_name) ≡ r.method = cc in
+    let b : from_in s method_name ≡ r.method.from = ap (λ (p : Span). p.from) place in
+    let c : to_in s method_name ≡ r.method.to = ap (λ (p : Span). p.to) place in
     let there : readable s ≡ readable (held block) = sym e ∙ held_is block (ap is_readable e) in
     let d : s ≡ held block = cc in
     rw (← b, ← c, d) (bytes_are method_name block ∙ ap (λ x. method_of (value_of method_name x)) (sym d) ∙ go (first_broken header_checks s) f)

@@ -12,7 +12,7 @@ ghost use Rattle.fields.specs.Walk.{held};
 ghost use Rattle.fields.specs.Decimal.{capped};
 ghost use Rattle.section.specs.Checks.{lower_of, lowest, found};
 ghost use Rattle.section.specs.Names.{other_name, one_name, of_seven, of_ten, long_name, name_of};
-ghost use Rattle.section.specs.Facts.{no_facts, pseudo_by, plain_by, length_by, note_by, line_step, facts_of, walked};
+ghost use Rattle.section.specs.Facts.{pseudo_by, plain_by, length_by, note_by, line_step, facts_of, walked};
 ghost use Rattle.section.specs.Judging.{header_row, by_places, is_http, is_path, sends_content, by_request, by_authority, by_trailers};
 ghost use Rattle.section.specs.declared.Fault.TheVariants as faults;
 ghost use Rattle.section.specs.declared.Name.TheVariants as names;
@@ -151,14 +151,14 @@ const ABOVE: usize = 4_611_686_018_427_387_904;
 
 // Where in the block a value begins and ends.
 #[derive(Clone, Copy, Debug, PartialEq, Eq)]
-struct Span {
-    from: usize,
-    to: usize,
+pub struct Span {
+    pub from: usize,
+    pub to: usize,
 }
 
 // Of the lines so far: their size, the lowest check that they break by themselves, whether there was a pseudo-field or another; of five names
 // where the first line's value is; and the first Content-Length's number.
-#[derive(Clone, Copy)]
+#[derive(Clone, Copy, Default)]
 struct Facts {
     size: usize,
     first: Option<Reason>,
@@ -187,23 +187,6 @@ fn held_below(size: usize) -> usize
 }
 
 impl Facts {
-    fn none() -> Facts
-        ensures { result ≡ no_facts }
-    {
-        Facts {
-            size: 0,
-            first: None,
-            pseudo: false,
-            plain: false,
-            method: None,
-            scheme: None,
-            authority: None,
-            path: None,
-            host: None,
-            stated: None,
-        }
-    }
-
     // The line of a pseudo-field, with the check that it may break.
     fn pseudo_line(self, check: Reason, broken: bool) -> Facts
         ensures { result ≡ pseudo_by self check broken }
@@ -364,7 +347,7 @@ fn walk_lines(block: &[u8]) -> Result<Facts, Fault>
 {
     let table = fields::classes();
     let mut at = 0;
-    let mut facts = Facts::none();
+    let mut facts = Facts::default();
     while let Some(line) = fields::line_at(block, at)? {
         let name = &block[line.name..line.value];
         let value = &block[line.value..line.next];
@@ -472,11 +455,10 @@ fn header_fault(block: &[u8], facts: Facts) -> Option<Reason>
     )
 }
 
-// Where in the block the method begins and ends, and the Content-Length that is stated.
+// Where in the block the method is, and the Content-Length that is stated.
 #[derive(Clone, Copy, Debug, PartialEq, Eq)]
 pub struct Sound {
-    pub method: usize,
-    pub end: usize,
+    pub method: Span,
     pub stated: Option<u64>,
 }
 
@@ -486,14 +468,10 @@ pub fn header_section(block: &[u8]) -> Result<Sound, Fault>
     let facts = walk_lines(block)?;
     match header_fault(block, facts) {
         Some(reason) => Err(Fault::Refused(reason)),
-        None => {
-            let method = facts.method.unwrap();
-            Ok(Sound {
-                method: method.from,
-                end: method.to,
-                stated: facts.stated,
-            })
-        }
+        None => Ok(Sound {
+            method: facts.method.unwrap(),
+            stated: facts.stated,
+        }),
     }
 }
 

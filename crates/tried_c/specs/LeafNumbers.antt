@@ -76,7 +76,7 @@ same_fault (fault.Refused r) = refl
 unfoldable pub header_out : HeaderAnswer → List ℕ → List ℕ
 header_out (Err e) out = out
 header_out (Ok s) out =
-    set (set (set (set out 0 (stated (read_stated s.stated))) 1 (value_or0 (read_stated s.stated))) 2 s.method) 3 s.end
+    set (set (set (set out 0 (stated (read_stated s.stated))) 1 (value_or0 (read_stated s.stated))) 2 s.method.from) 3 s.method.to
 
 -- ---- a write
 

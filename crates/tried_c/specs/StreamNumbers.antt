@@ -1,10 +1,14 @@
 -- A stream's calls in the numbers that cross to another language. Assumes nothing.
-use Rattle.std.specs.Prelude.{ℕ, ◌≤◌, ◌<◌, ◌≡◌, List, Bool, true, false, eqb, Result, Ok, Err}
+use Rattle.std.specs.Prelude.{ℕ, ◌≤◌, ◌<◌, ◌≡◌, List, Result, Ok, Err}
 use Rattle.rules.specs.Numbers.{ACCEPTED}
-use Rattle.rules.specs.Events.{FAULT}
+use Rattle.rules.specs.Numbers.{code_number}
+use Rattle.rules.specs.Named.{code_of}
+use Rattle.rules.specs.Events.{NOTHING, CONTENT, SECTION, SECTION-END, KEPT, KEPT-PART}
 use Rattle.frames.specs.Modes.{HEADER-SECTION-DUE, IN-SETTINGS}
 use Rattle.frames.specs.declared.Cells.{Cells}
 use Rattle.frames.specs.declared.Answer.{Answer}
+use Rattle.frames.specs.declared.Event as declared-event
+use Rattle.frames.specs.declared.Event.TheVariants as event
 use Rattle.frames.specs.Answers.{Sane}
 use Rattle.frames.specs.Fed.{Fed}
 use Rattle.tried_c.specs.declared.feeds.Report.{Report}
@@ -19,12 +23,17 @@ abbrev pub refused : (number : ℕ) → Cells → Report
 refused n a = report n 0 0 0 0 0 a
 
 -- a fault is a number, and leaves the stream where it stood
-unfoldable pub fault_or : (fault : Bool) → Cells → Answer → Report
-fault_or true a r = report r.len 0 0 0 r.used r.heads a
-fault_or false a r = report 0 r.event r.start r.len r.used r.heads r.cells
+unfoldable pub said : declared-event.Event → Cells → Answer → Report
+said event.Nothing a r = report 0 NOTHING r.start r.len r.used r.heads r.cells
+said event.Content a r = report 0 CONTENT r.start r.len r.used r.heads r.cells
+said event.Section a r = report 0 SECTION r.start r.len r.used r.heads r.cells
+said event.SectionEnd a r = report 0 SECTION-END r.start r.len r.used r.heads r.cells
+said (event.Fault code) a r = report (code_number (code_of code)) 0 0 0 r.used r.heads a
+said (event.Kept which) a r = report 0 KEPT r.start r.len r.used r.heads r.cells
+said event.KeptPart a r = report 0 KEPT-PART r.start r.len r.used r.heads r.cells
 
 abbrev pub report_of : Cells → Answer → Report
-report_of a r = fault_or (eqb r.event FAULT) a r
+report_of a r = said r.event a r
 
 -- a section is due
 abbrev pub IsDue : Cells → Type 0

@@ -3,10 +3,10 @@ ghost use Rattle.std.specs.Prelude.{◌≡◌};
 ghost use Rattle.frames.specs.End.{Ends};
 ghost use Rattle.record.specs.Sound.{Decides};
 ghost use Rattle.requests.specs.Taken.{given_of};
-ghost use Rattle.oneway.specs.Stands.{OneSound};
+ghost use Rattle.oneway.specs.Stands.{number_in, OneSound};
 ghost use Rattle.control.specs.Judged.{judged_of};
 ghost use Rattle.tried_c.specs.StreamNumbers.{refused, report_of, Reported, given_from};
-ghost use Rattle.tried_c.specs.OneWayNumbers.{way_refused, way_report_of, WayReported};
+ghost use Rattle.tried_c.specs.OneWayNumbers.{way_report, payload_in, way_refused, way_report_of, WayReported};
 
 use control::{Kept, Verdict};
 use frames::{Answer, Cells};
@@ -45,25 +45,25 @@ fn refusal(number: u64, at: Cells) -> Report
 }
 
 // A fault leaves the stream where it stood.
-#[tactic(auto, unfolding(crate::specs::StreamNumbers::fault_or))]
+#[tactic(auto, unfolding(crate::specs::StreamNumbers::said))]
 fn reported(a: Answer, at: Cells) -> Report
     ensures { result ≡ report_of at a }
 {
-    if a.event == rules::FAULT {
-        return Report {
+    match a.event {
+        frames::Event::Fault(code) => Report {
             used: a.used,
             heads: a.heads,
-            ..refusal(a.len, at)
-        };
-    }
-    Report {
-        number: rules::ACCEPTED,
-        event: a.event,
-        start: a.start,
-        len: a.len,
-        used: a.used,
-        heads: a.heads,
-        cells: a.cells,
+            ..refusal(code.number(), at)
+        },
+        event => Report {
+            number: rules::ACCEPTED,
+            event: event.number(),
+            start: a.start,
+            len: a.len,
+            used: a.used,
+            heads: a.heads,
+            cells: a.cells,
+        },
     }
 }
 
@@ -153,26 +153,46 @@ fn way_refusal(number: u64, at: OneWay) -> WayReport
     }
 }
 
-#[tactic(auto, unfolding(crate::specs::OneWayNumbers::way_fault_or))]
-fn way_reported(a: OneAnswer, at: OneWay) -> WayReport
-    ensures { result ≡ way_report_of at a }
+// The mode of a payload that is complete, or 0.
+#[tactic(auto, unfolding(crate::specs::OneWayNumbers::payload_in))]
+fn payload(event: oneway::Event) -> u64
+    ensures { result ≡ payload_in event }
 {
-    if a.event == rules::FAULT {
-        return WayReport {
-            used: a.used,
-            heads: a.heads,
-            ..way_refusal(a.len, at)
-        };
+    match event {
+        oneway::Event::Frames(frames::Event::Kept(which)) => which,
+        _ => 0,
     }
+}
+
+fn way_taken(a: OneAnswer) -> WayReport
+    ensures { result ≡ way_report 0 (number_in a.event) a.start a.len a.used a.heads (payload_in a.event) a.stream }
+{
     WayReport {
         number: rules::ACCEPTED,
-        event: a.event,
+        event: a.event.number(),
         start: a.start,
         len: a.len,
         used: a.used,
         heads: a.heads,
-        payload: a.payload,
+        payload: payload(a.event),
         stream: a.stream,
+    }
+}
+
+#[tactic(auto, unfolding(crate::specs::OneWayNumbers::way_said, crate::specs::OneWayNumbers::payload_in))]
+fn way_reported(a: OneAnswer, at: OneWay) -> WayReport
+    ensures { result ≡ way_report_of at a }
+{
+    match a.event {
+        oneway::Event::Frames(brought) => match brought {
+            frames::Event::Fault(code) => WayReport {
+                used: a.used,
+                heads: a.heads,
+                ..way_refusal(code.number(), at)
+            },
+            _ => way_taken(a),
+        },
+        oneway::Event::Qpack => way_taken(a),
     }
 }
 

@@ -64,8 +64,8 @@ pub extern "C" fn eist_header_section(block: &[u8], out: &mut [u64; 4]) -> u64
         Ok(sound) => {
             out[0] = u64::from(sound.stated.is_some());
             out[1] = sound.stated.unwrap_or(0);
-            out[2] = sound.method as u64;
-            out[3] = sound.end as u64;
+            out[2] = sound.method.from as u64;
+            out[3] = sound.method.to as u64;
             0
         }
     }

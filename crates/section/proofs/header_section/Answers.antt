@@ -17,12 +17,12 @@ header_fault-requires c = (walked_all _ (sym c.in_ok-facts.was ∙ c.walk_lines.
 pub returns-in-Some : goal.returns-in-Some
 returns-in-Some c = header_refused _ _ (sym c.in-Some.is ∙ c.header_fault.ensures) ∙ sym (ap header_answer (walked_all _ (sym c.in_ok-facts.was ∙ c.walk_lines.ensures)).0)
 
-pub unwrap-method-requires : goal.unwrap-method-requires
-unwrap-method-requires c =
+pub unwrap-requires : goal.unwrap-requires
+unwrap-requires c =
     let w = walked_all _ (sym c.in_ok-facts.was ∙ c.walk_lines.ensures) in
     method_is _ (sym c.in-None.is ∙ c.header_fault.ensures) _ w.1
 
 pub returns-in-None : goal.returns-in-None
 returns-in-None c =
     let w = walked_all _ (sym c.in_ok-facts.was ∙ c.walk_lines.ensures) in
-    header_sound _ (sym c.in-None.is ∙ c.header_fault.ensures) _ w.1 _ c.unwrap-method.ensures ∙ sym (ap header_answer w.0)
+    header_sound _ (sym c.in-None.is ∙ c.header_fault.ensures) _ w.1 _ c.unwrap.ensures ∙ sym (ap header_answer w.0)

@@ -4,11 +4,14 @@ use native.Mathlib.Omega.{arith}
 use mathlib.Core.Path.{◌≡◌, sym, ap, ◌∙◌}
 use Rattle.std.specs.Prelude.{Ok, Err, None}
 use Rattle.section.specs.declared.Fault.TheVariants as fault
+use Rattle.section.specs.Facts.{no_facts}
 use Rattle.section.specs.Walking.{starts, ended, flawed, fits, goes}
 use Rattle.section.proofs.walk_lines.Goals as goal
 
 pub loop-line-init : goal.loop-line-init
-loop-line-init c = starts _ _ c.none-facts.ensures
+loop-line-init c =
+    let none : c.default-facts.result ≡ no_facts = grind arith in
+    starts _ _ none
 
 pub returns-in_err-line : goal.returns-in_err-line
 returns-in_err-line c =
