@@ -107,6 +107,8 @@ use Rattle.fields.proofs.line_at.Symbol as fields-line-at-is
 use Rattle.fields.proofs.classes.Symbol as fields-classes-is
 use Rattle.section.specs.contracts.code as section-code
 use Rattle.section.proofs.code.Symbol as section-code-is
+use Rattle.section.specs.contracts.Fault.number as section-fault-number
+use Rattle.section.proofs.Fault.number.Symbol as section-fault-number-is
 use Rattle.section.specs.contracts.header_section as section-header-section
 use Rattle.section.proofs.header_section.Symbol as section-header-section-is
 use Rattle.section.specs.contracts.trailers as section-trailers
@@ -387,6 +389,7 @@ module _ (w : World) where
   abbrev of_section : List Function
   of_section =
       function section-code-is.symbol section-code.ended (section-code.clauses w.𝓛 w.𝓜.mem w.𝓡.returns) (λ κs a g r q ws vs. equal)
+      ∷ function section-fault-number-is.symbol section-fault-number.ended (section-fault-number.clauses w.𝓛 w.𝓜.mem w.𝓡.returns) (λ κs a g r q ws vs. equal)
       ∷ function section-header-section-is.symbol section-header-section.ended (section-header-section.clauses w.𝓛 w.𝓜.mem w.𝓡.returns) (λ κs a g r q ws vs. equal)
       ∷ function section-trailers-is.symbol section-trailers.ended (section-trailers.clauses w.𝓛 w.𝓜.mem w.𝓡.returns) (λ κs a g r q ws vs. equal)
       ∷ []
@@ -490,7 +493,7 @@ module _ (w : World) where
       "wire::ids::is_request" ∷ "wire::write_header" ∷ "wire::write_integer_frame" ∷ "wire::write_opening" ∷ "wire::write_goaway" ∷
       "control::settings::judge" ∷ "control::settings::only" ∷
       "fields::has_byte" ∷ "fields::begins_with" ∷ "fields::same_bytes" ∷ "fields::Table::any_outside" ∷ "fields::Table::bad_line" ∷ "fields::decimal_of" ∷ "fields::Table::line_spot" ∷ "fields::line_at" ∷
-      "section::code" ∷ "section::header_section" ∷ "section::trailers" ∷
+      "section::code" ∷ "section::Fault::number" ∷ "section::header_section" ∷ "section::trailers" ∷
       "frames::Place::rule" ∷ "frames::Event::number" ∷ "frames::end" ∷
       "record::cells_in" ∷ "record::free" ∷ "record::is_free" ∷ "record::is_part" ∷ "record::is_sane" ∷ "record::read" ∷ "record::row" ∷ "record::write" ∷ "record::in_content" ∷
       "requests::given::give" ∷

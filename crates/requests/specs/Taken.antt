@@ -12,13 +12,10 @@ use Rattle.rules.specs.Request.{Header, Trailer, document, code_of, next_of, hea
 use Rattle.rules.specs.Request as request
 use Rattle.meaning.specs.Machine.{between}
 use Rattle.varint.specs.ByByte.{prog, fresh_good}
-use Rattle.rules.specs.Section.{code_of as section-code}
-use Rattle.rules.specs.declared.reasons.Reason.{Reason}
-use Rattle.rules.specs.declared.codes.Code.{Code}
-use Rattle.rules.specs.Named.{reason_of, code_named, number_named, code_of as named_code}
+use Rattle.section.specs.declared.Fault.{Fault}
 use Rattle.section.specs.declared.Fault.TheVariants as fault
 use Rattle.section.specs.declared.Sound.{Sound}
-use Rattle.section.specs.Answer.{HeaderAnswer, TrailerAnswer, header_answer, trailer_answer, read_stated}
+use Rattle.section.specs.Answer.{HeaderAnswer, TrailerAnswer, header_answer, trailer_answer, header_number, read_stated}
 use Rattle.section.specs.Request.{as_header, as_trailer, header_of, trailer_of, header_is, trailer_is, stated_within}
 use Rattle.frames.specs.Modes.{IN-TYPE, HEADER-SECTION-DUE, TRAILERS-DUE, OPENING, BODY, TRAILED, mode_of}
 use Rattle.frames.specs.declared.Cells.{Cells}
@@ -94,13 +91,10 @@ module _ (c : Cells) (block : List ℕ) (a : HeaderAnswer) (met : a ≡ header_a
   header_as : {b : HeaderAnswer} → a ≡ b → headed_as c (as_header b) ≡ headed_as c (header_of (lines block))
   header_as e = ap (λ x. headed_as c (as_header x)) (sym e ∙ met) ∙ ap (headed_as c) (header_is (lines block))
 
-  pub header_unread : a ≡ Err fault.Unreadable → Headed (Err UNREADABLE)
-  unfolding headed_as as_header
-  header_unread e = header_as e
-
-  pub header_refused : {r : Reason} {code : Code} {n : ℕ} → a ≡ Err (fault.Refused r) → code ≡ code_named (section-code (reason_of r)) → n ≡ code_number (named_code code) → Headed (Err n)
-  unfolding headed_as as_header
-  header_refused {r} e f g = ap Err (number_named (section-code (reason_of r)) f g) ∙ header_as e
+  pub header_fault : {f : Fault} {n : ℕ} → a ≡ Err f → n ≡ header_number (Err f) → Headed (Err n)
+  unfolding headed_as as_header header_number
+  header_fault {f = fault.Unreadable} e g = ap Err g ∙ header_as e
+  header_fault {f = fault.Refused r} e g = ap Err g ∙ header_as e
 
   module _ {s : Sound} (e : a ≡ Ok s) where
     pub header_taken : {next : Cells} → c.phase ≡ OPENING → next ≡ body_cells (read_stated s.stated) → Headed (Ok next)
@@ -118,13 +112,10 @@ module _ (c : Cells) (block : List ℕ) (a : TrailerAnswer) (met : a ≡ trailer
   trailer_as : {b : TrailerAnswer} → a ≡ b → trailed_as c (as_trailer b) ≡ trailed_as c (trailer_of (lines block))
   trailer_as e = ap (λ x. trailed_as c (as_trailer x)) (sym e ∙ met) ∙ ap (trailed_as c) (trailer_is (lines block))
 
-  pub trailer_unread : a ≡ Err fault.Unreadable → Trailed (Err UNREADABLE)
-  unfolding trailed_as as_trailer
-  trailer_unread e = trailer_as e
-
-  pub trailer_refused : {r : Reason} {code : Code} {n : ℕ} → a ≡ Err (fault.Refused r) → code ≡ code_named (section-code (reason_of r)) → n ≡ code_number (named_code code) → Trailed (Err n)
-  unfolding trailed_as as_trailer
-  trailer_refused {r} e f g = ap Err (number_named (section-code (reason_of r)) f g) ∙ trailer_as e
+  pub trailer_fault : {f : Fault} {n : ℕ} → a ≡ Err f → n ≡ header_number (Err f) → Trailed (Err n)
+  unfolding trailed_as as_trailer header_number
+  trailer_fault {f = fault.Unreadable} e g = ap Err g ∙ trailer_as e
+  trailer_fault {f = fault.Refused r} e g = ap Err g ∙ trailer_as e
 
   module _ (e : a ≡ Ok tt) where
     pub trailer_taken : {next : Cells} → c.phase ≡ BODY → next ≡ trailed_cells c → Trailed (Ok next)

@@ -6,7 +6,6 @@ ghost use Rattle.section.specs.Request.{header_of, trailer_of};
 ghost use Rattle.requests.specs.Taken.{cells_at, body_cells, headed_as, trailed_as, given_of};
 
 use frames::Cells;
-use section::Fault;
 
 // Between two frames.
 fn cells_at(phase: u64, has: u64, stated: u64, sum: u64) -> Cells
@@ -35,8 +34,7 @@ fn give_header(c: Cells, block: &[u8]) -> Result<Cells, u64>
     ensures { result ≡ headed_as c (header_of (lines block.now)) }
 {
     match section::header_section(block) {
-        Err(Fault::Unreadable) => Err(rules::UNREADABLE),
-        Err(Fault::Refused(reason)) => Err(section::code(reason).number()),
+        Err(fault) => Err(fault.number()),
         Ok(sound) => {
             if c.phase == frames::OPENING {
                 Ok(body_cells(sound.stated))
@@ -51,8 +49,7 @@ fn give_trailers(c: Cells, block: &[u8]) -> Result<Cells, u64>
     ensures { result ≡ trailed_as c (trailer_of (lines block.now)) }
 {
     match section::trailers(block) {
-        Err(Fault::Unreadable) => Err(rules::UNREADABLE),
-        Err(Fault::Refused(reason)) => Err(section::code(reason).number()),
+        Err(fault) => Err(fault.number()),
         Ok(()) => {
             if c.phase == frames::BODY {
                 Ok(cells_at(frames::TRAILED, c.has, c.stated, c.sum))

@@ -2,7 +2,7 @@
 // checks that are broken the lowest in document 01's order is the reason.
 #![tactic(auto)]
 
-ghost use Rattle.std.specs.Prelude.{◌≡◌, not, ◌||◌, ◌&&◌, [], ◌+◌, ◌<◌, ◌^◌, length};
+ghost use Rattle.std.specs.Prelude.{◌≡◌, not, ◌||◌, ◌&&◌, [], ◌+◌, ◌<◌, ◌^◌, length, Err};
 ghost use Rattle.rules.specs.Text.{all};
 ghost use Rattle.rules.specs.Block.{lines};
 ghost use Rattle.rules.specs.Named.{code_named, reason_of};
@@ -17,10 +17,10 @@ ghost use Rattle.section.specs.Judging.{header_row, by_places, is_http, is_path,
 ghost use Rattle.section.specs.declared.Fault.TheVariants as faults;
 ghost use Rattle.section.specs.declared.Name.TheVariants as names;
 ghost use Rattle.section.specs.Places.{within, bytes_in};
-ghost use Rattle.section.specs.Answer.{header_answer, trailer_answer};
+ghost use Rattle.section.specs.Answer.{header_answer, header_number, trailer_answer};
 
 use fields::{Class, Table, Unreadable};
-use rules::codes::Code;
+use rules::codes::{Code, House};
 use rules::reasons::Reason;
 
 // ---- reasons
@@ -319,6 +319,18 @@ impl Facts {
 pub enum Fault {
     Unreadable,
     Refused(Reason),
+}
+
+impl Fault {
+    // As an answer has it: unreadable, or the code.
+    pub fn number(self) -> u64
+        ensures { result ≡ header_number (Err self) }
+    {
+        match self {
+            Fault::Unreadable => House::Unreadable.number(),
+            Fault::Refused(reason) => code(reason).number(),
+        }
+    }
 }
 
 impl From<Unreadable> for Fault {

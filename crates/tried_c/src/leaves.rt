@@ -1,5 +1,5 @@
 // The leaves for a tester in another language (tests/leaves): each answer as numbers, and no logic of its own.
-ghost use Rattle.std.specs.Prelude.{◌≡◌, length, drop, Err};
+ghost use Rattle.std.specs.Prelude.{◌≡◌, length, drop};
 ghost use Rattle.rules.specs.Integers.{integer};
 ghost use Rattle.rules.specs.Control.{settings_of};
 ghost use Rattle.rules.specs.Writer.{write_integer, write_header, write_integer_frame, write_opening, write_goaway};
@@ -10,7 +10,6 @@ ghost use Rattle.meaning.specs.NumberLaws.{numbered};
 ghost use Rattle.tried_c.specs.LeafNumbers.{settings_number, settings_out, read_number, read_out, header_out, wrote_number, wrote_out, given, Written};
 
 use rules::codes::House;
-use section::Fault;
 use varint::Whole;
 use wire::ids::StreamId;
 
@@ -54,16 +53,6 @@ pub extern "C" fn eist_read(bytes: &[u8], at: usize, out: &mut [u64; 2]) -> u64
 
 // ---- sections
 
-// 6, or the code of a section that is refused.
-fn refused(fault: Fault) -> u64
-    ensures { result ≡ header_number (Err fault) }
-{
-    match fault {
-        Fault::Unreadable => House::Unreadable.number(),
-        Fault::Refused(reason) => section::code(reason).number(),
-    }
-}
-
 // 0, 6, or the code of a header section. out, where it is 0: whether a Content-Length is stated, which, and where the method begins and ends.
 #[unsafe(no_mangle)]
 pub extern "C" fn eist_header_section(block: &[u8], out: &mut [u64; 4]) -> u64
@@ -71,7 +60,7 @@ pub extern "C" fn eist_header_section(block: &[u8], out: &mut [u64; 4]) -> u64
     ensures out_after { out.new ≡ header_out (header_answer (lines block.now)) out.old }
 {
     match section::header_section(block) {
-        Err(fault) => refused(fault),
+        Err(fault) => fault.number(),
         Ok(sound) => {
             out[0] = u64::from(sound.stated.is_some());
             out[1] = sound.stated.unwrap_or(0);
@@ -88,7 +77,7 @@ pub extern "C" fn eist_trailers(block: &[u8]) -> u64
     ensures { result ≡ trailer_number (trailer_answer (lines block.now)) }
 {
     match section::trailers(block) {
-        Err(fault) => refused(fault),
+        Err(fault) => fault.number(),
         Ok(()) => 0,
     }
 }

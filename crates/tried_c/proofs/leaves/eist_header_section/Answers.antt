@@ -11,7 +11,7 @@ pub returns-in-Err : goal.returns-in-Err
 unfolding header_out
 returns-in-Err c =
     let e = rw c.in-Err.is at c.header_section.ensures in
-    record { value = rw (← e) c.refused.ensures; out_after = rw (← e) }
+    record { value = rw (← e) c.number.ensures; out_after = rw (← e) }
 
 pub returns-in-Ok : goal.returns-in-Ok
 unfolding header_number header_out

@@ -7,7 +7,7 @@ use Rattle.tried_c.proofs.leaves.eist_trailers.Goals as goal
 pub returns-in-Err : goal.returns-in-Err
 returns-in-Err c =
     let e = rw c.in-Err.is at c.trailers.ensures in
-    rw (← e) (c.refused.ensures ∙ same_fault c.in-Err.fault)
+    rw (← e) (c.number.ensures ∙ same_fault c.in-Err.fault)
 
 pub returns-in-Ok : goal.returns-in-Ok
 unfolding trailer_number

@@ -1,8 +1,8 @@
--- `tried_c::leaves::refused` meets its contract: the number of the fault. Assumes nothing.
+-- `section::Fault::number` meets its contract: the number of the fault. Assumes nothing.
 use Rattle.rules.specs.Section.{code_of}
 use Rattle.rules.specs.Named.{reason_of, number_named}
 use Rattle.section.specs.Answer.{header_number}
-use Rattle.tried_c.proofs.leaves.refused.Goals as goal
+use Rattle.section.proofs.Fault.number.Goals as goal
 
 pub returns-in-Unreadable : goal.returns-in-Unreadable
 unfolding header_number
