@@ -1,6 +1,7 @@
 -- Words read digit by digit. Assumes nothing.
 use Rattle.std.specs.Prelude.{ℕ, suc, ◌+◌, ◌*◌, ◌-◌, ◌≤◌, ◌<◌, ◌/◌, ◌%◌, ◌≡◌, refl, List, [], ◌∷◌, ◌++◌, length, take, drop, get_or, set}
 use Rattle.std.proofs.Common.{ap, sym, ◌∙◌, add-one, arith, length-drop, take-suc, take-suc-set, get_or-drop, lt-ltb, le-ltb}
+use Rattle.std.proofs.Math.Seq.{take-length}
 use Rattle.listing.specs.Text.{decimal}
 use Rattle.listing.specs.Put.{one_digit, last_digit}
 use Rattle.script.specs.Words.{hex_digit, hexes, hex_word, between}
@@ -23,6 +24,16 @@ one_more s at i h g =
     let e : i + 1 - at ≡ suc (i - at) = omega arith in
     let f : at + (i - at) ≡ i = omega arith in
     rw e (take-suc (drop at s) (i - at) 0 (omega arith) ∙ ap (λ x. take (i - at) (drop at s) ++ (x ∷ [])) (get_or-drop at s (i - at) 0 ∙ ap (λ j. get_or s j 0) f))
+
+-- the bytes from a place on, as a slice of them has them
+pub rest : (s : List ℕ) (n : ℕ) → take (length s - n) (drop n s) ≡ drop n s
+rest s n = ap (λ k. take k (drop n s)) (sym (length-drop n s)) ∙ take-length (drop n s)
+
+pub rest_length : (s : List ℕ) (n : ℕ) → length (take (length s - n) (drop n s)) ≡ length s - n
+rest_length s n = ap length (rest s n) ∙ length-drop n s
+
+pub rest_byte : (s : List ℕ) (n i : ℕ) → get_or (take (length s - n) (drop n s)) i 0 ≡ get_or s (n + i) 0
+rest_byte s n i = ap (λ (l : List ℕ). get_or l i 0) (rest s n) ∙ get_or-drop n s i 0
 
 -- ---- numbers
 

@@ -40,19 +40,25 @@ fn number_at(s: &[u8], at: usize) -> Option<Word<u64>>
 {
     let first = digit(*s.get(at)?)?;
     let mut value = u64::from(first);
-    let mut next = at + 1;
     if first == 0 {
-        return Some(Word { value, next });
+        return Some(Word {
+            value,
+            next: at + 1,
+        });
     }
-    // No chain: where the digits end is told too, and an overflow ends it without a number.
-    while next < s.len() {
-        let Some(more) = digit(s[next]) else {
-            break;
+    for (i, b) in s[at + 1..].iter().enumerate() {
+        let Some(more) = digit(*b) else {
+            return Some(Word {
+                value,
+                next: at + 1 + i,
+            });
         };
         value = value.checked_mul(10)?.checked_add(u64::from(more))?;
-        next += 1;
     }
-    Some(Word { value, next })
+    Some(Word {
+        value,
+        next: s.len(),
+    })
 }
 
 // How many bytes are at a place, two digits each, stored from the start of the room on; `-` for none.
