@@ -2,7 +2,7 @@
 // checks that are broken the lowest in document 01's order is the reason.
 #![tactic(auto)]
 
-ghost use Rattle.std.specs.Prelude.{◌≡◌, not, ◌||◌, ◌&&◌, [], ◌+◌, ◌<◌, ◌^◌, length, Err};
+ghost use Rattle.std.specs.Prelude.{◌≡◌, not, ◌||◌, ◌&&◌, [], ◌+◌, ◌<◌, ◌^◌, length, is_some, Err};
 ghost use Rattle.rules.specs.Text.{all};
 ghost use Rattle.rules.specs.Block.{lines};
 ghost use Rattle.rules.specs.Named.{code_named, reason_of};
@@ -416,21 +416,24 @@ fn request_fault(
     lower(n, Reason::NoLength, sends_content(method) && !stated)
 }
 
-// What the authority and the host say, each with whether it is there.
+// What the authority and the host say.
 #[tactic(auto, unfolding(crate::specs::Judging::by_authority))]
 fn authority_fault(
-    authority: &[u8],
-    given: bool,
-    host: &[u8],
-    hosted: bool,
+    block: &[u8],
+    given: Option<Span>,
+    hosted: Option<Span>,
     n: Option<Reason>,
 ) -> Option<Reason>
-    ensures { result ≡ by_authority authority.now given host.now hosted n }
+    requires { within block.now given × within block.now hosted }
+    ensures { result ≡ by_authority (bytes_in block.now given) (is_some given) (bytes_in block.now hosted) (is_some hosted) n }
 {
-    let n = lower(n, Reason::NoAuthority, !(given || hosted));
-    let empty = (given && authority.is_empty()) || (hosted && host.is_empty());
+    let authority = value_of(block, given);
+    let host = value_of(block, hosted);
+    let n = lower(n, Reason::NoAuthority, given.is_none() && hosted.is_none());
+    let empty = (given.is_some() && authority.is_empty()) || (hosted.is_some() && host.is_empty());
     let n = lower(n, Reason::EmptyAuthority, empty);
-    let differ = given && hosted && !fields::same_bytes(authority, host);
+    let both = given.is_some() && hosted.is_some();
+    let differ = both && !fields::same_bytes(authority, host);
     let n = lower(n, Reason::AuthoritiesDiffer, differ);
     lower(n, Reason::AtInAuthority, fields::has_byte(authority, b'@'))
 }
@@ -446,13 +449,7 @@ fn header_fault(block: &[u8], facts: Facts) -> Option<Reason>
         facts.stated.is_some(),
         facts.places_fault(),
     );
-    authority_fault(
-        value_of(block, facts.authority),
-        facts.authority.is_some(),
-        value_of(block, facts.host),
-        facts.host.is_some(),
-        n,
-    )
+    authority_fault(block, facts.authority, facts.host, n)
 }
 
 // Where in the block the method is, and the Content-Length that is stated.

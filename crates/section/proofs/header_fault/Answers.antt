@@ -19,17 +19,13 @@ pub value_of-requires-3 : goal.value_of-requires-3
 unfolding facts_of
 value_of-requires-3 c = lies _ _ c.requires (λ f. f.path) path refl
 
-pub value_of-requires-4 : goal.value_of-requires-4
+pub authority_fault-requires : goal.authority_fault-requires
 unfolding facts_of
-value_of-requires-4 c = lies _ _ c.requires (λ f. f.authority) authority refl
-
-pub value_of-requires-5 : goal.value_of-requires-5
-unfolding facts_of
-value_of-requires-5 c = lies _ _ c.requires (λ f. f.host) host refl
+authority_fault-requires c = (lies _ _ c.requires (λ f. f.authority) authority refl, lies _ _ c.requires (λ f. f.host) host refl)
 
 pub returns : goal.returns
 unfolding facts_of
 returns c =
     let b = c.args.block.now in
-    rw (c.authority_fault.ensures, c.value_of-5.ensures, c.value_of-4.ensures, c.request_fault-n.ensures, c.places_fault.ensures, c.value_of-3.ensures, c.value_of-2.ensures, c.value_of.ensures, c.is_some.ensures, c.is_some-2.ensures, c.is_some-3.ensures, c.requires, bytes_at (name_at method) b, bytes_at (name_at scheme) b, bytes_at (name_at path) b, bytes_at (name_at authority) b, bytes_at (name_at host) b)
+    rw (c.authority_fault.ensures, c.request_fault-n.ensures, c.places_fault.ensures, c.value_of-3.ensures, c.value_of-2.ensures, c.value_of.ensures, c.is_some.ensures, c.requires, bytes_at (name_at method) b, bytes_at (name_at scheme) b, bytes_at (name_at path) b, bytes_at (name_at authority) b, bytes_at (name_at host) b)
     (header_lowest (held b))
