@@ -47,7 +47,7 @@ pub const UNSET: u64 = 3;
 pub const SET: u64 = 4;
 
 // A place inside a frame: in its header, in its payload by what that is for, or at its end while a section is due.
-// What comes before a payload, what is shown, what is due and what is kept are next to one another in this order.
+// What comes before a payload, what is shown, what is due and what is kept are next to one another in this order. Numbers, as the cells have them.
 pub const IN_TYPE: u64 = 0;
 
 pub const IN_LENGTH: u64 = 1;
@@ -806,7 +806,7 @@ fn cut_off(phase: u64) -> u64
     }
 }
 
-// The end of a stream: accepted if it is whole, a section is due, or the code.
+// The end of a stream: accepted if it is whole, a section is due, or the code. A number, as `eist_end` gives it in C and a host's report has it.
 pub fn end(c: Cells) -> u64
     ensures { Ends c result }
 {
