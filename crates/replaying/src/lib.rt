@@ -250,8 +250,8 @@ fn records(text: &mut Text, rows: [Record; MOST])
     requires { text.old.length + 1224 ≤ 2048 }
     ensures { Adds text.old (rows_text 0 (take 24 rows)) 1224 text.new }
 {
-    for i in 0..KEPT {
-        shown(text, i as u64, rows[i]);
+    for (i, &r) in rows[..KEPT].iter().enumerate() {
+        shown(text, i as u64, r);
     }
 }
 
