@@ -5,7 +5,7 @@ ghost use Rattle.std.specs.Prelude.{◌≤◌, take};
 ghost use Rattle.calls.specs.Lent.{Stepped, Started, SaidGoaway};
 ghost use Rattle.faces.specs.Behind.{Behind};
 
-use connection::{Ask, Call, Connection, Report, Written};
+use connection::{Ask, Connection, Report, Written};
 use record::Record;
 
 // What a call leaves of the connection's record and of the records, and what it answers.
@@ -16,24 +16,10 @@ pub struct Driven {
     pub report: Report,
 }
 
-pub fn drive(
-    mut conn: Connection,
-    mut rows: [Record; 32],
-    n: usize,
-    call: Call,
-    id: u64,
-    allow: u64,
-    piece: &[u8],
-) -> Driven
+pub fn drive(mut conn: Connection, mut rows: [Record; 32], n: usize, ask: Ask) -> Driven
     requires { n ≤ 32 }
-    ensures { Stepped conn (take n rows) call id allow piece.now result.conn (take n result.rows) result.report × Behind n rows result.rows }
+    ensures { Stepped conn (take n rows) ask.entry.call ask.entry.id ask.entry.allow ask.entry.piece.now result.conn (take n result.rows) result.report × Behind n rows result.rows }
 {
-    let ask = Ask {
-        call,
-        id,
-        allow,
-        piece,
-    };
     let report = calls::step(&mut conn, &mut rows[..n], ask);
     Driven { conn, rows, report }
 }

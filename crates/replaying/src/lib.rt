@@ -12,7 +12,7 @@ ghost use Rattle.replaying.specs.Plays.{Prints, HasLine, Lends, Leaves, Starts, 
 ghost use Rattle.replaying.specs.Runs.{StepAt};
 
 use connection::doors::Doors;
-use connection::{Call, Connection, Own, Report};
+use connection::{Ask, Call, Connection, Own, Report};
 use control::Kept;
 use listing::Text;
 use record::Record;
@@ -250,8 +250,8 @@ fn records(text: &mut Text, rows: [Record; MOST])
     requires { text.old.length + 1224 ≤ 2048 }
     ensures { Adds text.old (rows_text 0 (take 24 rows)) 1224 text.new }
 {
-    for i in 0..KEPT {
-        shown(text, i as u64, rows[i]);
+    for (i, &r) in rows[..KEPT].iter().enumerate() {
+        shown(text, i as u64, r);
     }
 }
 
@@ -322,19 +322,11 @@ fn started(text: &mut Text, pair: Pair, n: u64) -> Pair
 }
 
 // A call on one stream.
-fn streamed(
-    text: &mut Text,
-    pair: Pair,
-    n: u64,
-    call: Call,
-    id: u64,
-    allow: u64,
-    piece: &[u8],
-) -> Pair
+fn streamed(text: &mut Text, pair: Pair, n: u64, ask: Ask) -> Pair
     requires { HasLine text.old × (n ≤ 32) }
-    ensures { Prints (Steps pair n call id allow piece.now result) text.old text.new }
+    ensures { Prints (Steps pair n ask.entry.call ask.entry.id ask.entry.allow ask.entry.piece.now result) text.old text.new }
 {
-    let d = faces::drive(pair.conn, pair.lent(n), n as usize, call, id, allow, piece);
+    let d = faces::drive(pair.conn, pair.lent(n), n as usize, ask);
     report_line(text, d.conn, d.report);
     pair.left(n, d.conn, d.rows)
 }
@@ -415,13 +407,51 @@ fn play(text: &mut Text, pair: Pair, l: Line, piece: &[u8]) -> Pair
 {
     // the number of the kept row, as `Plays` (specs) has it: a script lends no other of 24
     let row = l.row.unwrap_or(KEPT as u64);
+    let ask = Ask {
+        call: Call::Open,
+        id: l.a,
+        allow: l.b,
+        piece,
+    };
     match l.verb {
         Verb::Start => started(text, pair, row),
-        Verb::Open => streamed(text, pair, row, Call::Open, l.a, l.b, piece),
-        Verb::Feed => streamed(text, pair, row, Call::On(Own::Feed), l.a, l.b, piece),
-        Verb::Give => streamed(text, pair, row, Call::On(Own::Give), l.a, l.b, piece),
-        Verb::End => streamed(text, pair, row, Call::On(Own::End), l.a, l.b, piece),
-        Verb::Reset => streamed(text, pair, row, Call::On(Own::Reset), l.a, l.b, piece),
+        Verb::Open => streamed(text, pair, row, ask),
+        Verb::Feed => streamed(
+            text,
+            pair,
+            row,
+            Ask {
+                call: Call::On(Own::Feed),
+                ..ask
+            },
+        ),
+        Verb::Give => streamed(
+            text,
+            pair,
+            row,
+            Ask {
+                call: Call::On(Own::Give),
+                ..ask
+            },
+        ),
+        Verb::End => streamed(
+            text,
+            pair,
+            row,
+            Ask {
+                call: Call::On(Own::End),
+                ..ask
+            },
+        ),
+        Verb::Reset => streamed(
+            text,
+            pair,
+            row,
+            Ask {
+                call: Call::On(Own::Reset),
+                ..ask
+            },
+        ),
         Verb::Value => {
             value(text, piece);
             pair
