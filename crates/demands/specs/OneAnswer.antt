@@ -3,7 +3,7 @@
 -- decline leaves open what it then answers. What is no part of the engine is in docs/PROOFS. Assumes nothing.
 use Rattle.std.specs.Prelude as std
 use Rattle.std.specs.Prelude.{◌≡◌, refl, ℕ, List, [], ◌∷◌, ◌++◌, map, Bool, true, false, Option as Maybe, Some, None, IsSome, IfSome}
-use Rattle.std.proofs.Common.{sym, ap, ap₂, ◌∙◌}
+use Rattle.std.proofs.Common.{sym, ap, ap₂, ◌∙◌, arith}
 use Rattle.std.proofs.Math.Option.{Option, none, some}
 use base.Logic.{ent, sep, fst∗, snd∗}
 use mir.Syntax.{Symbol}
@@ -16,7 +16,7 @@ use Rattle.rules.specs.declared.codes.Code.{Code}
 use Rattle.rules.specs.Control.{unset}
 use Rattle.varint.specs.declared.Part.{Part}
 use Rattle.varint.specs.declared.Whole.{Whole}
-use Rattle.std.specs.Prelude.{Option as Maybe, Result}
+use Rattle.std.specs.Prelude.{Option as Maybe, Result, Ok, Err}
 use Rattle.rules.specs.declared.codes.House.{House}
 use Rattle.rules.specs.declared.codes.Code as declared-code
 use Rattle.varint.specs.ByByte.{Step, Stepped}
@@ -35,7 +35,9 @@ use Rattle.record.specs.declared.Reading.{Reading}
 use Rattle.record.specs.Sound.{Decides, own_place, Read, Written}
 use Rattle.record.specs.Same.{one_read, one_written}
 use Rattle.oneway.specs.declared.OneWay.{OneWay}
-use Rattle.oneway.specs.Closed.{Closes}
+use Rattle.rules.specs.Named.{code_of}
+use Rattle.meaning.specs.NumberLaws.{code_high}
+use Rattle.oneway.specs.Closed.{number_in, Closes}
 use Rattle.requests.specs.declared.Reply.{Reply}
 use Rattle.requests.specs.Reply.{Content}
 use Rattle.requests.specs.Answered.{one_answer}
@@ -293,8 +295,15 @@ one_ended c e f = one (e (own_place c) [] a_place) (f (own_place c) [] a_place)
 pub one_ruling : {number : ℕ} {x y : std.Result Use Code} → ruled_in x ≡ number → ruled_in y ≡ number → x ≡ y
 one_ruling {number} {x} {y} e f = ruled_one x y (one e f)
 
+one_number : (x y : Result Unit Code) → number_in x ≡ number_in y → x ≡ y
+unfolding number_in
+one_number (Ok u) (Ok v) e = refl
+one_number (Ok u) (Err c) e = let h = code_high (code_of c) in absurd (omega arith)
+one_number (Err c) (Ok u) e = let h = code_high (code_of c) in absurd (omega arith)
+one_number (Err c) (Err d) e = let f = ruled_one (Err c) (Err d) e in let g : c ≡ d = cc in ap Err g
+
 pub one_closed : (w : OneWay) {x y : Result Unit Code} → Closes w x → Closes w y → x ≡ y
-one_closed w e f = one (e unset []) (f unset [])
+one_closed w {x} {y} e f = one_number x y (one (e unset []) (f unset []))
 
 pub one_stream : (r : Record) (s t : Reading) → Read r s → Read r t → s ≡ t
 one_stream r s t e f = one_read r s t e f
@@ -303,10 +312,10 @@ pub one_record : (s : Stream) (r q : Record) → Written s r → Written s q →
 one_record s r q e f = one_written s r q e f
 
 -- a short way that was taken
-pub one_content : {r : Record} {allow : ℕ} {piece : List ℕ} {x y : Maybe Reply} → IfSome x (Content r allow piece) → IfSome y (Content r allow piece) → IsSome x → IsSome y → x ≡ y
-one_content {x = None} b d s t = said_no s
-one_content {x = Some v} {y = None} b d s t = said_no t
-one_content {r} {x = Some v} {y = Some w} b d s t = ap Some (one_answer r _ v w b.keeps.answers d.keeps.answers)
+pub one_content : (r : Record) (allow : ℕ) (piece : List ℕ) {x y : Maybe Reply} → IfSome x (Content r allow piece) → IfSome y (Content r allow piece) → IsSome x → IsSome y → x ≡ y
+one_content r allow piece {x = None} b d s t = said_no s
+one_content r allow piece {x = Some v} {y = None} b d s t = said_no t
+one_content r allow piece {x = Some v} {y = Some w} b d s t = ap Some (one_answer r _ v w b.keeps.answers d.keeps.answers)
 
 pub one_brief : {code : ℕ} {f : Found} {allow : ℕ} {piece : List ℕ} {x y : Maybe Brief} → Briefly code f allow piece x → Briefly code f allow piece y → IsSome x → IsSome y → x ≡ y
 one_brief {x = None} b d s t = said_no s
@@ -514,7 +523,7 @@ module _ (w : World) where
       → ent w.𝓤 (sep w.𝓤 ((c κs a).ensures g r (at_exit T κs a ws)) ((c κs a).ensures g q (at_exit T κs a vs))) (fact w.𝓤 (Taken κs r → Taken κs q → (r ≡ q) × (ws ≡ vs)))
 
   pub request_taken : LeavesOneIf requests-brisk.ended (requests-brisk.clauses w.𝓛 w.𝓜.mem w.𝓡.returns) (λ κs r. IsSome r)
-  request_taken κs a g r q ws vs = facts (λ x y s t. (one_content x y s t, refl))
+  request_taken κs a g r q ws vs = facts (λ x y s t. (one_content a.0 _ _ x y s t, refl))
 
   pub connection_taken : LeavesOneIf connection-brisk.ended (connection-brisk.clauses w.𝓛 w.𝓜.mem w.𝓡.returns) (λ κs r. IsSome r)
   connection_taken κs a g r q ws vs = facts (λ x y s t. (one_brief x y s t, refl))

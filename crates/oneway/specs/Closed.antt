@@ -2,11 +2,10 @@
 use Rattle.std.specs.Prelude.{◌≡◌, List, [], Bool, true, false, length, Result, Ok, Err}
 use Rattle.std.proofs.Math.Path.{refl, sym, ap}
 use Rattle.std.proofs.Common.{◌∙◌, arith}
-use Prim.Native.Nat.{ℕ}
+use Prim.Native.Nat.{ℕ, zero, suc, ◌≤◌}
 use Rattle.std.proofs.Math.Option.{Option, none, some}
 use Rattle.rules.specs.Numbers.{CLOSED-CRITICAL-STREAM, Code, of_connection, closed_critical_stream, id_error, code_number}
 use Rattle.rules.specs.declared.codes.Code as declared-code
-use Rattle.rules.specs.declared.codes.Code.TheVariants as code
 use Rattle.rules.specs.Named.{code_of}
 use Rattle.rules.specs.Reading.{Kept, settings, goaway, max_push_id, cancel_push, Next, stop, go, fault, ended}
 use Rattle.rules.specs.Control.{Settings, settings_of, Control, unset, set, control, only, above, below, after_settings, after_integer, after_goaway, after_max_push, judged}
@@ -22,10 +21,11 @@ use Rattle.frames.specs.Modes.{mode_of}
 use Rattle.frames.specs.Uses.{any_set}
 use Rattle.frames.specs.Heads.{head_state}
 use Rattle.frames.specs.Answers.{mode_state}
+use Rattle.frames.specs.declared.Cells.{Cells}
 use Rattle.oneway.specs.declared.OneWay as numbers
 use Rattle.oneway.specs.Stands.{one_state_at, one_state, OneStands}
 use Rattle.oneway.specs.Frames.{frame_cells}
-use Rattle.record.specs.Kinds.{CONTROL}
+use Rattle.record.specs.Kinds.{CONTROL, DECODER}
 
 -- ---- ended or reset
 
@@ -36,29 +36,24 @@ closes (in_control s) = CLOSED-CRITICAL-STREAM
 closes (in_qpack q) = CLOSED-CRITICAL-STREAM
 closes in_skipped = 0
 
--- the same in the code's names
-unfoldable pub freed_or : OneState → Result Unit declared-code.Code
-freed_or (in_stream_type g) = Ok tt
-freed_or (in_control s) = Err code.ClosedCriticalStream
-freed_or (in_qpack q) = Err code.ClosedCriticalStream
-freed_or in_skipped = Ok tt
+-- the number of a result
+unfoldable pub number_in : Result Unit declared-code.Code → ℕ
+number_in (Ok u) = 0
+number_in (Err c) = code_number (code_of c)
 
 abbrev pub Closes : numbers.OneWay → Result Unit declared-code.Code → Type 0
-Closes w r = (p : Control) (k : List ℕ) → r ≡ freed_or (one_state w p k)
+Closes w r = (p : Control) (k : List ℕ) → number_in r ≡ closes (one_state w p k)
 
-pub freed_none : (s : OneState) → freed_or s ≡ Ok tt → closes s ≡ 0
-unfolding closes freed_or
-freed_none (in_stream_type g) e = refl
-freed_none (in_control s) e = cc
-freed_none (in_qpack q) e = cc
-freed_none in_skipped e = refl
-
-pub freed_code : (s : OneState) (c : declared-code.Code) → freed_or s ≡ Err c → closes s ≡ code_number (code_of c)
-unfolding closes freed_or
-freed_code (in_stream_type g) c e = cc
-freed_code (in_control s) c e = let f : code.ClosedCriticalStream ≡ c = cc in rw (sym f) refl
-freed_code (in_qpack q) c e = let f : code.ClosedCriticalStream ≡ c = cc in rw (sym f) refl
-freed_code in_skipped c e = cc
+-- a kind of no one-way stream, or one that is not known yet, is freed
+pub closes_none : (kind : ℕ) (c : Cells) (p : Control) (k : List ℕ) → (CONTROL ≤ kind → kind ≤ DECODER → ⊥) → 0 ≡ closes (one_state_at kind c p k)
+unfolding closes one_state_at
+closes_none zero c p k h = refl
+closes_none (suc zero) c p k h = refl
+closes_none (suc (suc zero)) c p k h = refl
+closes_none (suc (suc (suc zero))) c p k h = absurd (h (omega arith) (omega arith))
+closes_none (suc (suc (suc (suc zero)))) c p k h = absurd (h (omega arith) (omega arith))
+closes_none (suc (suc (suc (suc (suc zero))))) c p k h = absurd (h (omega arith) (omega arith))
+closes_none (suc (suc (suc (suc (suc (suc n)))))) c p k h = refl
 
 -- ---- it is the rules' own
 

@@ -39,7 +39,7 @@ use Rattle.oneway.specs.Types.{types_of}
 use Rattle.oneway.specs.Stands.{one_state_at, one_state, OneStands, qpack_of, one_answer_at, NoneHanded, Goes, OneSoundAt, OneShapeAt, StandsAt, cells_of, OneFed}
 use Rattle.oneway.specs.Frames.{frame_cells, frame_sane}
 use Rattle.oneway.specs.Row.{one_fit}
-use Rattle.oneway.specs.Closed.{closes, freed_or, Closes, freed_none, freed_code, behind_judged, behind_between}
+use Rattle.oneway.specs.Closed.{closes, number_in, Closes, behind_judged, behind_between}
 use Rattle.control.specs.declared.Kept.{Kept}
 use Rattle.control.specs.declared.Verdict.{Verdict}
 use Rattle.control.specs.Judged.{judged_of}
@@ -479,19 +479,21 @@ module _ (r : Record) (o : Heeds r) (d : Side) {c : Cells} (ec : c ≡ cells_in 
 
 -- ---- the calls
 
-module _ (r : Record) (o : Heeds r) (d : Side) {c : Cells} {kind : ℕ} (ek : kind ≡ r.kind) (ec : c ≡ cells_in r) {n : Result Unit declared-code.Code} (closed : Closes (record { kind = kind; cells = c }) n) where
-  freed_is : n ≡ freed_or (state_here r d)
-  freed_is = let x = closed (place_here r d) (sofar_here r d) in rw (ek, ec) at x
+number_is : (r : Record) (d : Side) {c : Cells} {kind : ℕ} → kind ≡ r.kind → c ≡ cells_in r → (n : Result Unit declared-code.Code) → Closes (record { kind = kind; cells = c }) n → number_in n ≡ closes (state_here r d)
+number_is r d ek ec n closed = let x = closed (place_here r d) (sofar_here r d) in rw (ek, ec) at x
 
+module _ (r : Record) (o : Heeds r) (d : Side) {c : Cells} {kind : ℕ} (ek : kind ≡ r.kind) (ec : c ≡ cells_in r) {n : Result Unit declared-code.Code} (closed : Closes (record { kind = kind; cells = c }) n) where
   pub close_freed : {row : Record} → n ≡ Ok tt → row ≡ free_record → HeardAs r d (closed_here r d) (heard 0 12 0 0 0 0 0 row d)
-  close_freed z f = opened o (rw f (freed-at (closes (state_here r d)) (freed_none (state_here r d) (sym freed_is ∙ z))))
+  unfolding number_in
+  close_freed z f = opened o (rw f (freed-at (closes (state_here r d)) (sym (number_is r d ek ec n closed) ∙ ap number_in z)))
     where
       freed-at : (m : ℕ) → m ≡ 0 → heard 0 12 0 0 0 0 0 free_record d ≡ closed_by r d m
       freed-at m e = unfold closed_by in rw e refl
 
   pub close_held : {code : declared-code.Code} {m : ℕ} {a : Heard} → n ≡ Err code → m ≡ code_number (code_of code) → a ≡ heard m 0 0 0 0 0 0 r d → HeardAs r d (closed_here r d) a
+  unfolding number_in
   close_held {code} {m} z e q =
-      let x : m ≡ closes (state_here r d) = e ∙ sym (freed_code (state_here r d) code (sym freed_is ∙ z)) in
+      let x : m ≡ closes (state_here r d) = e ∙ sym (ap number_in z) ∙ number_is r d ek ec n closed in
       opened o (q ∙ held_at m (λ y. (let h = code_high (code_of code) in omega arith)) ∙ ap (closed_by r d) x)
     where
       held_at : (m : ℕ) → (m ≡ 0 → ⊥) → heard m 0 0 0 0 0 0 r d ≡ closed_by r d m

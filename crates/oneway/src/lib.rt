@@ -251,7 +251,7 @@ pub fn feed(s: &[u8], w: OneWay, seen: Seen, allow: u64) -> OneAnswer
 }
 
 // A one-way stream ended or reset: freed, or the code.
-#[tactic(auto, unfolding(crate::specs::Closed::freed_or, crate::specs::Stands::one_state_at))]
+#[tactic(auto, unfolding(crate::specs::Closed::closes, crate::specs::Closed::number_in, crate::specs::Stands::one_state_at))]
 pub fn close(w: OneWay) -> Result<(), Code>
     ensures { Closes w result }
 {
