@@ -90,6 +90,7 @@ fn step_at(conn: &mut Connection, row: &mut [Record], at: usize, ask: Ask) -> Re
     b.report
 }
 
+#[inline]
 pub fn step(conn: &mut Connection, row: &mut [Record], ask: Ask) -> Report
     ensures { Stepped conn.old row.old ask.entry.call ask.entry.id ask.entry.allow ask.entry.piece.now conn.new row.new result }
 {

@@ -337,6 +337,7 @@ fn heard_turn(d: Doors, a: Heard) -> Turn
 }
 
 // A call on one stream, as far as the doors decide it: none, if the side is asked.
+#[inline(always)]
 pub fn answer(d: Doors, f: Found, ask: Ask) -> Option<Near>
     ensures { Nearly d f ask.entry.call ask.entry.id ask.entry.allow ask.entry.piece.now result }
 {
