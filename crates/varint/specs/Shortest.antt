@@ -1,12 +1,12 @@
 -- The shortest form of a value (rules, Integers): its row of RFC 9000's table, and its bytes stored one by one. Assumes nothing.
 use Prim.Native.Nat.{ℕ, zero, suc, ◌+◌, ◌-◌, ◌*◌, ◌/◌, ◌%◌, ◌^◌, ◌<◌, ◌≤◌}
-use Rattle.std.specs.Prelude.{◌≡◌, refl, List, [], ◌∷◌, Bool, true, false, ◌&&◌, leb, eqb, length, take, drop, ◌++◌, Option as Maybe, Some, None, IsSome, option_map}
-use Rattle.std.proofs.Common.{ap, sym, subst, mul_assoc, ◌∙◌, div-lt_iff_lt-mul, zero-lt-suc, mod-eq_of_lt, pow-suc, arith, pow-add, length-drop, leb-true, eqb-true, le-leb}
+use Rattle.std.specs.Prelude.{◌≡◌, refl, List, [], ◌∷◌, Bool, true, false, ◌&&◌, ◌||◌, leb, eqb, length, take, drop, set, ◌++◌, Option as Maybe, Some, None, IsSome, option_map}
+use Rattle.std.proofs.Common.{ap, sym, subst, mul_assoc, ◌∙◌, div-lt_iff_lt-mul, zero-lt-suc, mod-eq_of_lt, pow-suc, arith, pow-add, leb-true, eqb-true, le-leb, ne_eqb}
 use Rattle.std.proofs.Math.Option.{Option, none, some}
 use Rattle.std.proofs.Math.Nat.{one-le-pow, pow-le-pow_right, mul-le-mul_right, add-mul-div_right, add-mul-mod_self_right}
 use Rattle.std.specs.Int.{byte_at, bytes_high_first}
 use Rattle.std.proofs.Math.Seq.{sets, take-length}
-use Rattle.std.proofs.lemmas.List.{take-append-drop, length-take-le}
+use Rattle.std.proofs.lemmas.List.{take-append-drop}
 use Rattle.std.proofs.lemmas.List.Edits.{sets-eq}
 use Rattle.std.proofs.lemmas.Slice.{take-put_mid, drop-put_mid}
 use borrow.Rule.Slice.PartMut.{put_mid}
@@ -50,15 +50,20 @@ pub record Room (v at : ℕ) (l : List ℕ) : Type 0 where
 
 -- ---- the table
 
+-- the sizes that a form may have
+is_size : ℕ → Bool
+is_size n = eqb n 1 || eqb n 2 || eqb n 4 || eqb n 8
+
 -- what the bytes of a row need, by one test of every row
 record Sound (r : Row) : Type 0 where
   some : 1 ≤ r.size
   few : r.size ≤ 8
   mark : r.mark ≤ 3
   top : suc r.top ≡ 64 * 256 ^ (r.size - 1)
+  four : is_size r.size ≡ true
 
 is_sound : Row → Bool
-is_sound r = leb 1 r.size && leb r.size 8 && leb r.mark 3 && eqb (suc r.top) (64 * 256 ^ (r.size - 1))
+is_sound r = leb 1 r.size && leb r.size 8 && leb r.mark 3 && eqb (suc r.top) (64 * 256 ^ (r.size - 1)) && is_size r.size
 
 both_true : (a b : Bool) → (a && b) ≡ true → (a ≡ true) × (b ≡ true)
 both_true true b e = (refl, e)
@@ -70,10 +75,11 @@ sound r e =
     let f = both_true _ _ e in
     let g = both_true _ _ f.0 in
     let h = both_true _ _ g.0 in
-    record { some = leb-true _ _ h.0; few = leb-true _ _ h.1; mark = leb-true _ _ g.1; top = eqb-true _ _ f.1 }
+    let i = both_true _ _ h.0 in
+    record { some = leb-true _ _ i.0; few = leb-true _ _ i.1; mark = leb-true _ _ h.1; top = eqb-true _ _ g.1; four = f.1 }
 
 rows_sound : all is_sound rows ≡ true
-unfolding rows all is_sound
+unfolding rows all is_sound is_size
 rows_sound = refl
 
 -- what the table gives: a row that v fits, or none
@@ -143,6 +149,10 @@ pub size_one : (v : ℕ) → v ≤ 63 → size_of v ≡ 1
 unfolding written rows in_first bytes_of in_row low
 size_one v h = let t = le-leb v 63 h in rw (in_first, t)
 
+bytes_one : (v : ℕ) → v ≤ 63 → bytes_of (written v) ≡ v ∷ []
+unfolding written rows in_first bytes_of in_row low
+bytes_one v h = let t = le-leb v 63 h in let e : 0 * 64 + v / 256 ^ 0 ≡ v = omega arith in rw (in_first, t) (ap (λ x. x ∷ []) e)
+
 -- ---- its bytes: the eight of v with its mark on top, from the first that counts
 
 -- a form that holds v
@@ -180,6 +190,25 @@ found_form above p = absurd (omega arith)
 
 pub form_there : (v : ℕ) → 0 < size_of v → IsSome (form_of v)
 form_there v p = found_form (found v) p
+
+found_size_is : {v : ℕ} {o : Option (List ℕ)} {m : Maybe Form} {f : Form} → Found v o m → Some f ≡ m → is_size f.size ≡ true
+found_size_is {f = f} (fits {r = r} s h) p = let q : f ≡ form r.mark r.size = cc in rw q s.four
+found_size_is above p = let z : ◌≡◌ {A = ℕ} 0 1 = cc in absurd (omega arith)
+
+-- a form of one byte holds no more
+pub one_below : (v : ℕ) {f : Form} → Holds v f → f.size ≡ 1 → v ≤ 63
+one_below v h e = let t : v / 256 ^ (1 - 1) < 64 = subst (λ n. v / 256 ^ (n - 1) < 64) e h.high in omega arith
+
+-- no form has another size
+pub no_other_size : (v : ℕ) {f : Form} → Some f ≡ form_of v → (f.size ≡ 1 → ⊥) → (f.size ≡ 2 → ⊥) → (f.size ≡ 4 → ⊥) → (f.size ≡ 8 → ⊥) → ⊥
+unfolding is_size
+no_other_size v {f} p a b c d =
+    let t = found_size_is (found v) p in
+    let e = ne_eqb f.size 1 a in
+    let g = ne_eqb f.size 2 b in
+    let i = ne_eqb f.size 4 c in
+    let j = ne_eqb f.size 8 d in
+    let z : ◌≡◌ {A = ℕ} 0 1 = cc in absurd (omega arith)
 
 -- what stands above the k low bytes of v is not seen there
 byte_is : (k n : ℕ) → byte_at k n ≡ n / 256 ^ k % 256
@@ -249,26 +278,24 @@ module _ (v : ℕ) (f : Form) (h : Holds v f) where
       ap (λ x. drop (8 - f.size) (bytes_high_first 8 (v + x))) mark_is ∙ d ∙ ap (λ b. b ∷ bytes_high_first k (v + c * 256 ^ k)) top
       ∙ ap (λ bs. (c + v / 256 ^ k) ∷ bs) (low_seen k v c k (omega arith)) ∙ sym h.bytes
 
--- the room with them
-pub put_all : (v at : ℕ) (l eight bytes : List ℕ) (f : Form) → Holds v f → at + f.size ≤ length l → eight ≡ bytes_high_first 8 (v + f.mark * 2 ^ (8 * f.size - 2) % 2 ^ 64)
-    → bytes ≡ take (8 - (8 - f.size)) (drop (8 - f.size) eight) → put_mid at (at + f.size - at) l bytes ≡ sets l at (bytes_of (written v))
-put_all v at l eight bytes f h w e g =
+-- the room with v itself
+pub put_one : (v at : ℕ) (l : List ℕ) → v ≤ 63 → set l at v ≡ sets l at (bytes_of (written v))
+put_one v at l h = rw (bytes_one v h) refl
+
+-- the room with the last n of them
+pub put_all : (v at n : ℕ) (l eight bytes : List ℕ) (f : Form) → Holds v f → f.size ≡ n → at + n ≤ length l → eight ≡ bytes_high_first 8 (v + f.mark * 2 ^ (8 * f.size - 2) % 2 ^ 64)
+    → bytes ≡ take (8 - (8 - n)) (drop (8 - n) eight) → put_mid at (at + n - at) l bytes ≡ sets l at (bytes_of (written v))
+put_all v at n l eight bytes f h s w e g =
     let bs = bytes_of (written v) in
-    let n = h.size in
+    let m = h.size in
     let few = h.few in
-    let k : at + f.size - at ≡ length bs = omega arith in
-    let all : 8 - (8 - f.size) ≡ length bs = omega arith in
+    let k : at + n - at ≡ length bs = omega arith in
+    let all : 8 - (8 - n) ≡ length bs = omega arith in
     let q : eight ≡ bytes_high_first 8 (v + f.mark * 2 ^ (8 * f.size - 2)) = e ∙ ap (λ x. bytes_high_first 8 (v + x)) (mark_whole v f h) in
-    let b : bytes ≡ bs = g ∙ ap (λ x. take (8 - (8 - f.size)) (drop (8 - f.size) x)) q ∙ ap (take (8 - (8 - f.size))) (put_bytes v f h) ∙ ap (λ x. take x bs) all ∙ take-length bs in
+    let last : drop (8 - n) (bytes_high_first 8 (v + f.mark * 2 ^ (8 * f.size - 2))) ≡ bs = subst (λ x. drop (8 - x) (bytes_high_first 8 (v + f.mark * 2 ^ (8 * f.size - 2))) ≡ bs) s (put_bytes v f h) in
+    let b : bytes ≡ bs = g ∙ ap (λ x. take (8 - (8 - n)) (drop (8 - n) x)) q ∙ ap (take (8 - (8 - n))) last ∙ ap (λ x. take x bs) all ∙ take-length bs in
     rw (b, k) (
     sym (take-append-drop (at + length bs) (put_mid at (length bs) l bs))
     ∙ ap (λ x. x ++ drop (at + length bs) (put_mid at (length bs) l bs)) (take-put_mid at (length bs) l bs (at + length bs) refl (omega arith))
     ∙ ap (λ x. (take at l ++ bs) ++ x) (drop-put_mid at (length bs) l bs (at + length bs) (omega arith) (omega arith) refl)
     ∙ sym (sets-eq bs l at (omega arith)))
-
--- the part of the room and the part of the eight bytes are as long
-pub part_lengths : (at : ℕ) (l eight : List ℕ) (n : ℕ) → n ≤ 8 → at + n ≤ length l → length eight ≡ 8 → length (take (at + n - at) (drop at l)) ≡ length (take (8 - (8 - n)) (drop (8 - n) eight))
-part_lengths at l eight n few w e =
-    let a = length-drop at l in
-    let b = length-drop (8 - n) eight in
-    length-take-le (at + n - at) (drop at l) (omega arith) ∙ (let q : at + n - at ≡ 8 - (8 - n) = omega arith in q) ∙ sym (length-take-le (8 - (8 - n)) (drop (8 - n) eight) (omega arith))

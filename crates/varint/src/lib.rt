@@ -166,13 +166,26 @@ pub fn size(v: u64) -> Option<usize>
 }
 
 // Stores v in its shortest form from at on: `size` gave a size, and the room reaches so far.
+// Inlined into the writers: a call costs a header a third more instructions.
+#[inline(always)]
 pub fn put(v: u64, room: &mut [u8], at: usize)
     requires { Room v at room.old }
     ensures { room.new ≡ sets room.old at (bytes_of (written v)) }
 {
+    // One byte has a way of its own: most types and lengths are so written.
+    if v < 64 {
+        room[at] = v as u8;
+        return;
+    }
     let form = form_of(v).unwrap();
-    let marked = v + (form.mark << (8 * form.size - 2));
-    room[at..at + form.size].copy_from_slice(&marked.to_be_bytes()[8 - form.size..]);
+    let bytes = (v + (form.mark << (8 * form.size - 2))).to_be_bytes();
+    // A copy for each size, so that each is a store: one whose length is told only as it runs is a call of the C library's memcpy.
+    match form.size {
+        2 => room[at..at + 2].copy_from_slice(&bytes[6..]),
+        4 => room[at..at + 4].copy_from_slice(&bytes[4..]),
+        8 => room[at..at + 8].copy_from_slice(&bytes),
+        _ => unreachable!(),
+    }
 }
 
 // v in its shortest form at the start of the room: BadValue above 2^62-1, then RoomShort where the room is too short.

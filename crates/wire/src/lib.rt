@@ -28,6 +28,8 @@ pub fn write_header(ftype: u64, len: u64, room: &mut [u8]) -> Result<usize, Hous
 }
 
 // A frame whose payload is one integer: the length of that payload takes one byte. It reads back (WriterLaws, integer_frame_back).
+// Inlined: a call takes a quarter more instructions, to hand its answer on.
+#[inline(always)]
 pub fn write_integer_frame(ftype: u64, value: u64, room: &mut [u8]) -> Result<usize, House>
     ensures { Meets (write_integer_frame (length room.old) ftype value) room.old result room.new }
 {
