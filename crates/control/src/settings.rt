@@ -28,7 +28,8 @@ struct Pair {
     shorter: usize,
 }
 
-// The pair at a place, if it is whole.
+// The pair at a place, if it is whole. Inlined: what looks for an identifier reads no value then, and a level of the walk keeps less.
+#[inline(always)]
 fn pair_at(payload: &[u8], at: usize) -> Option<Pair>
     ensures { FoundAt payload.now at result }
 {

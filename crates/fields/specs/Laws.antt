@@ -34,11 +34,21 @@ module _ (test : ℕ → Bool) where
   begins_first [] h = absurd (h refl)
   begins_first (b ∷ v) h = refl
 
+  pub begins_none : (v : List ℕ) → length v ≡ 0 → begins test v ≡ false
+  unfolding begins
+  begins_none [] e = refl
+  begins_none (b ∷ v) e = absurd (omega arith)
+
   pub ends_last : (v : List ℕ) → (length v ≡ 0 → ⊥) → ends test v ≡ test (get_or v (length v - 1) 0)
   unfolding ends
   ends_last [] h = absurd (h refl)
   ends_last (b ∷ []) h = refl
   ends_last (b ∷ d ∷ v) h = rw sub-one (ends_last (d ∷ v) (λ e. omega arith) ∙ rw sub-one refl)
+
+  pub ends_none : (v : List ℕ) → length v ≡ 0 → ends test v ≡ false
+  unfolding ends
+  ends_none [] e = refl
+  ends_none (b ∷ v) e = absurd (omega arith)
 
 pub empty_is : (v : List ℕ) → is_empty v ≡ eqb (length v) 0
 unfolding is_empty

@@ -282,10 +282,10 @@ const CLASSES: [u8; 256] = [
 ];
 
 // The table, read once for a whole walk.
-#[derive(Drop)]
+#[derive(Clone, Copy)]
 pub struct Table {
-    entries: [u8; 256],
-    ghost right: { T (all_right entries) },
+    pub entries: [u8; 256],
+    pub ghost right: { T (all_right entries) },
 }
 
 pub fn classes() -> Table {
@@ -434,10 +434,11 @@ const ABOVE: u64 = 4_611_686_018_427_387_904;
 fn with_digit(total: u64, b: u8) -> u64
     ensures { result ≡ capped (total * 10 + (b - 0x30)) }
 {
-    total
-        .saturating_mul(10)
-        .saturating_add(u64::from(b.saturating_sub(b'0')))
-        .min(ABOVE)
+    // Past the limit it stays there: of a long row of digits few are multiplied.
+    if ABOVE / 10 < total {
+        return ABOVE;
+    }
+    (total * 10 + u64::from(b.saturating_sub(b'0'))).min(ABOVE)
 }
 
 pub fn decimal_of(v: &[u8]) -> u64
