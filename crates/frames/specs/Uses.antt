@@ -13,7 +13,7 @@ use Rattle.meaning.specs.RequestLaws.{RuleView, r_refused, r_skipped, r_content,
 use Rattle.meaning.specs.MessageLaws.{Fits, CarryView, c_refused, c_goes, carry_view}
 use Rattle.meaning.specs.ControlLaws.{ControlView, v_refused, v_skipped, v_kept, control_view}
 use Rattle.meaning.specs.NumberLaws.{coded_back, code_high}
-use Rattle.frames.specs.Modes.{USE-SKIPPED, USE-CONTENT, USE-HEADER-SECTION, USE-TRAILERS, USE-SETTINGS, USE-GOAWAY, USE-MAX-PUSH-ID, USE-CANCEL-PUSH, BODY}
+use Rattle.frames.specs.Modes.{USE-SKIPPED, USE-CONTENT, USE-HEADER-SECTION, USE-TRAILERS, USE-SETTINGS, USE-GOAWAY, USE-MAX-PUSH-ID, USE-CANCEL-PUSH, NO-USE, BODY}
 use Rattle.frames.specs.Both.{Place, of_request, of_control, rule}
 
 -- ---- a place
@@ -136,6 +136,26 @@ use_small (kept settings) = lit≤ tt
 use_small (kept goaway) = lit≤ tt
 use_small (kept max_push_id) = lit≤ tt
 use_small (kept cancel_push) = lit≤ tt
+
+-- and no ruling that of none
+request_not_none : (t len : ℕ) (m : Message) {r : Ruling Message} → RuleView t len m r → number_of (map_ruling of_request r) ≡ NO-USE → ⊥
+unfolding number_of map_ruling
+request_not_none t len m (r_refused {code = code}) e = let h = code_high code in omega arith
+request_not_none t len m (r_skipped u) e = let h = use_small skipped in omega arith
+request_not_none t len m (r_content z c) e = let h = use_small content in omega arith
+request_not_none t len m (r_header z l) e = let h = use_small (section header_section) in omega arith
+request_not_none t len m (r_trailers z l) e = let h = use_small (section trailers) in omega arith
+
+control_not_none : (c : Control) {r : Ruling Control} → ControlView c r → number_of (map_ruling of_control r) ≡ NO-USE → ⊥
+unfolding number_of map_ruling
+control_not_none c (v_refused {f = f}) e = let h = code_high (of_connection f) in omega arith
+control_not_none c v_skipped e = let h = use_small skipped in omega arith
+control_not_none c (v_kept {k = k}) e = let h = use_small (kept k) in omega arith
+
+pub not_none : (p : Place) (t len : ℕ) → number_of (rule p t len) ≡ NO-USE → ⊥
+unfolding rule
+not_none (of_request m) t len e = request_not_none t len m (rule_view m t len) e
+not_none (of_control c) t len e = control_not_none c (control_view c t len) e
 
 -- behind SETTINGS the rule does not look at what was kept
 integer_same : (k : Kept) (c d : Control) (x : Bool)

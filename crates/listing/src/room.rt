@@ -6,14 +6,15 @@ const ROOM: usize = 2048;
 
 #[derive(Drop)]
 pub struct Text {
-    room: [u8; ROOM],
-    length: usize,
-    ghost fits: { length ≤ 2048 },
+    pub room: [u8; ROOM],
+    pub length: usize,
+    pub ghost fits: { length ≤ 2048 },
 }
 
 impl Text {
     ghost use Rattle.std.specs.Prelude.{◌≡◌, ◌+◌, ◌<◌, [], ◌∷◌, length, take};
     ghost use Rattle.listing.specs.Text.{decimal, spaced};
+    ghost use Rattle.listing.specs.Put.{Put};
     ghost use Rattle.listing.specs.Grown.{Extends};
 
     pub fn new() -> Self
@@ -47,21 +48,32 @@ impl Text {
         self.length = end;
     }
 
-    fn put_digit(&mut self, digit: u64)
-        requires { (self.old.length < 2048) × (digit < 10) }
-        ensures { Extends self.old ((48 + digit) ∷ []) self.new }
+    // A digit, put into a room, and the place behind it.
+    fn digit_at(room: &mut [u8; ROOM], to: usize, digit: u64) -> usize
+        requires { (to < 2048) × (digit < 10) }
+        ensures { Put room.old to ((48 + digit) ∷ []) room.new result }
     {
-        self.put(&[b'0' + digit as u8]);
+        room[to] = b'0' + digit as u8;
+        to + 1
+    }
+
+    // The place stays a value from digit to digit: as a field of the text, each would load and store it.
+    fn decimal_at(room: &mut [u8; ROOM], to: usize, n: u64) -> usize
+        requires { to + length (decimal n) ≤ 2048 }
+        ensures { Put room.old to (decimal n) room.new result }
+    {
+        if n < 10 {
+            return Self::digit_at(room, to, n);
+        }
+        let last = Self::decimal_at(room, to, n / 10);
+        Self::digit_at(room, last, n % 10)
     }
 
     pub fn put_decimal(&mut self, n: u64)
         requires { self.old.length + length (decimal n) ≤ 2048 }
         ensures { Extends self.old (decimal n) self.new }
     {
-        if n >= 10 {
-            self.put_decimal(n / 10);
-        }
-        self.put_digit(n % 10);
+        self.length = Self::decimal_at(&mut self.room, self.length, n);
     }
 
     // A number and a blank.

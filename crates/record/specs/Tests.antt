@@ -1,5 +1,5 @@
 -- Laws of the tests: a law for each way out. Assumes nothing.
-use Rattle.std.specs.Prelude.{◌≡◌, refl, ℕ, zero, suc, ◌-◌, ◌*◌, ◌/◌, ◌%◌, ◌≤◌, ◌<◌, ◌^◌, true, false, ltb, Some}
+use Rattle.std.specs.Prelude.{◌≡◌, refl, ℕ, zero, suc, ◌-◌, ◌*◌, ◌/◌, ◌%◌, ◌≤◌, ◌<◌, ◌^◌, Bool, true, false, ltb, Some}
 use Rattle.std.proofs.Common.{ap, ◌∙◌, arith}
 use borrow.Author.Tests.{ltb-true, ltb-false}
 use Rattle.varint.specs.ByByte.{part, Good}
@@ -17,6 +17,10 @@ module _ {A : Type 0} where
 
   pub refuses : (A → ⊥) → Decides A false
   refuses n = record { yes = λ e. (let z : ◌≡◌ {A = ℕ} 0 1 = cc in absurd (omega arith)); no = λ e b. n b }
+
+-- where one holds exactly if the other does
+pub as_well : {A B : Type 0} {r : Bool} → (A → B) → (B → A) → Decides A r → Decides B r
+as_well f g d = record { yes = λ e. f (d.yes e); no = λ e b. d.no e (g b) }
 
 -- the cells that are there are the record's own
 pub some_cells : {holds : Type 0} {r : Record} (c : Cells) → CellsIf holds r (Some c) → holds × (c ≡ cells_in r)

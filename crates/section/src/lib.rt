@@ -5,12 +5,13 @@
 ghost use Rattle.std.specs.Prelude.{◌≡◌, not, ◌||◌, ◌&&◌, [], ◌+◌, ◌<◌, ◌^◌, length, is_some, Err};
 ghost use Rattle.rules.specs.Text.{all};
 ghost use Rattle.rules.specs.Block.{lines};
+ghost use Rattle.rules.specs.Numbers.{code_number};
 ghost use Rattle.rules.specs.Named.{code_named, reason_of};
 ghost use Rattle.rules.specs.Section.{is_empty, code_of};
 ghost use Rattle.fields.specs.Bytes.{is_in};
 ghost use Rattle.fields.specs.Walk.{held};
 ghost use Rattle.fields.specs.Decimal.{capped};
-ghost use Rattle.section.specs.Checks.{lower_of, lowest, found};
+ghost use Rattle.section.specs.Checks.{reason_at, lower_of, lowest, found};
 ghost use Rattle.section.specs.Names.{other_name, one_name, of_seven, of_ten, long_name, name_of};
 ghost use Rattle.section.specs.Facts.{pseudo_by, plain_by, length_by, note_by, line_step, facts_of, walked};
 ghost use Rattle.section.specs.Judging.{header_row, by_places, is_http, is_path, sends_content, by_request, by_authority, by_trailers};
@@ -27,7 +28,7 @@ use rules::reasons::Reason;
 
 // The code of a refusal.
 #[tactic(auto, unfolding(rules::specs::Section::fate_of, rules::specs::Section::code_of))]
-pub fn code(reason: Reason) -> Code
+pub fn reason_code(reason: Reason) -> Code
     ensures { result ≡ code_named (code_of (reason_of reason)) }
 {
     match reason {
@@ -35,6 +36,25 @@ pub fn code(reason: Reason) -> Code
             Code::RequestRejected
         }
         _ => Code::MessageError,
+    }
+}
+
+// The numbers of those that are not malformed.
+const CONNECT: usize = Reason::Connect as usize;
+
+const OTHER_SCHEME: usize = Reason::OtherScheme as usize;
+
+const LENGTH_PAST_LIMIT: usize = Reason::LengthPastLimit as usize;
+
+const NO_LENGTH: usize = Reason::NoLength as usize;
+
+// The same by the reason's number, as a host is to be told it (document 02, Q-3); any number has an answer.
+pub fn code(reason: usize) -> u64
+    ensures { result ≡ code_number (code_of (reason_at reason)) }
+{
+    match reason {
+        CONNECT | OTHER_SCHEME | LENGTH_PAST_LIMIT | NO_LENGTH => rules::REQUEST_REJECTED,
+        _ => rules::MESSAGE_ERROR,
     }
 }
 
@@ -328,7 +348,7 @@ impl Fault {
     {
         match self {
             Fault::Unreadable => House::Unreadable.number(),
-            Fault::Refused(reason) => code(reason).number(),
+            Fault::Refused(reason) => reason_code(reason).number(),
         }
     }
 }

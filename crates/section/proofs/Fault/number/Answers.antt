@@ -10,4 +10,4 @@ returns-in-Unreadable c = rw (c.in-Unreadable.is, c.number.ensures)
 
 pub returns-in-Refused : goal.returns-in-Refused
 unfolding header_number
-returns-in-Refused c = rw c.in-Refused.is (number_named (code_of (reason_of c.in-Refused.reason)) c.code.ensures c.number-in-Refused.ensures)
+returns-in-Refused c = rw c.in-Refused.is (number_named (code_of (reason_of c.in-Refused.reason)) c.reason_code.ensures c.number-in-Refused.ensures)
