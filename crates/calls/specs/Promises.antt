@@ -10,10 +10,11 @@ use Rattle.connection.specs.declared.Connection.{Connection}
 use Rattle.connection.specs.declared.Report.{Report}
 use Rattle.connection.specs.declared.Found.{Found}
 use Rattle.connection.specs.declared.Turn.{Turn}
+use Rattle.connection.specs.declared.Gone.{Gone}
 use Rattle.connection.specs.declared.Written.{Written}
 use Rattle.connection.specs.Whose.{FoundIn}
 use Rattle.connection.specs.Halves.{with_doors}
-use Rattle.connection.specs.Turned.{Turned, begun_of, swept_of, Gone, GoesAway}
+use Rattle.connection.specs.Turned.{Turned, begun_of, swept_of, GoesAway}
 pub use Rattle.connection.specs.Turned.{written_of}
 
 -- ---- `eistulko_start`: the connection is begun, and every record swept

@@ -206,7 +206,11 @@ pub fn eistulko_reset(conn: &mut Connection, row: &mut [Record], id: u64) -> Rep
 pub fn eistulko_goaway(conn: &mut Connection, id: u64, room: &mut [u8]) -> Written
     ensures { SaidGoaway conn.old id room.old conn.new room.new result }
 {
-    connection::say_goaway(&mut conn.doors, id, room)
+    let gone = connection::say_goaway(conn.doors, id, room);
+    // Of the doors it alters these two alone.
+    conn.doors.goaways = gone.doors.goaways;
+    conn.doors.goaway = gone.doors.goaway;
+    gone.written
 }
 
 // ---- the other writes: lent the room alone, for they depend on no record

@@ -48,27 +48,27 @@ pub record Sends (d : Doors) (id : StreamId) (before : List ℕ) (r : Goaway) (a
   pub answers : r ≡ sending_of d id (write_of d.code d id.0 (length before))
   pub leaves : after ≡ left_in (write_of d.code d id.0 (length before)) before
 
--- the same as the code answers it: a count, or a refusal's number
-abbrev pub sent_so : Result ℕ ℕ → Doors → Goaway
-sent_so (Ok count) d = sending 0 count d
-sent_so (Err number) d = sending number 0 d
+-- the same as the code answers it: a count and the doors after, or a refusal's number, which leaves the doors as they were
+abbrev pub sent_so : Doors → Result (ℕ × Doors) ℕ → Goaway
+sent_so d (Ok (count, next)) = sending 0 count next
+sent_so d (Err number) = sending number 0 d
 
-pub record SendsAs (d : Doors) (id : StreamId) (before : List ℕ) (r : Result ℕ ℕ) (next : Doors) (after : List ℕ) : Type 0 where
-  pub sends : Sends d id before (sent_so r next) after
+pub record SendsAs (d : Doors) (id : StreamId) (before : List ℕ) (r : Result (ℕ × Doors) ℕ) (after : List ℕ) : Type 0 where
+  pub sends : Sends d id before (sent_so d r) after
   pub refused : IfErr r (λ n. n ≡ 0 → ⊥)
 
 -- one answer, one room
 pub sends_one : {d : Doors} {id : StreamId} {l a b : List ℕ} {r q : Goaway} → Sends d id l r a → Sends d id l q b → (r ≡ q) × (a ≡ b)
 sends_one m n = (m.answers ∙ sym n.answers, m.leaves ∙ sym n.leaves)
 
-one_so : (r q : Result ℕ ℕ) {x y : Doors} → IfErr r (λ n. n ≡ 0 → ⊥) → IfErr q (λ n. n ≡ 0 → ⊥) → sent_so r x ≡ sent_so q y → (r ≡ q) × (x ≡ y)
-one_so (Ok k) (Ok j) a b e = (ap (λ (g : Goaway). Ok g.count) e, ap (λ (g : Goaway). g.doors) e)
-one_so (Err n) (Err m) a b e = (ap (λ (g : Goaway). Err g.number) e, ap (λ (g : Goaway). g.doors) e)
-one_so (Ok k) (Err m) a b e = absurd (b (sym (ap (λ (g : Goaway). g.number) e)))
-one_so (Err n) (Ok j) a b e = absurd (a (ap (λ (g : Goaway). g.number) e))
+one_so : (d : Doors) (r q : Result (ℕ × Doors) ℕ) → IfErr r (λ n. n ≡ 0 → ⊥) → IfErr q (λ n. n ≡ 0 → ⊥) → sent_so d r ≡ sent_so d q → r ≡ q
+one_so d (Ok (k, x)) (Ok (j, y)) a b e = ap (λ (g : Goaway). Ok (g.count, g.doors)) e
+one_so d (Err n) (Err m) a b e = ap (λ (g : Goaway). Err g.number) e
+one_so d (Ok (k, x)) (Err m) a b e = absurd (b (sym (ap (λ (g : Goaway). g.number) e)))
+one_so d (Err n) (Ok (j, y)) a b e = absurd (a (ap (λ (g : Goaway). g.number) e))
 
-pub sends_as_one : {d : Doors} {id : StreamId} {l a b : List ℕ} {r q : Result ℕ ℕ} {x y : Doors} → SendsAs d id l r x a → SendsAs d id l q y b → (r ≡ q) × (x ≡ y) × (a ≡ b)
-sends_as_one {r = r} {q = q} m n = let e = sends_one m.sends n.sends in let s = one_so r q m.refused n.refused e.0 in (s.0, s.1, e.1)
+pub sends_as_one : {d : Doors} {id : StreamId} {l a b : List ℕ} {r q : Result (ℕ × Doors) ℕ} → SendsAs d id l r a → SendsAs d id l q b → (r ≡ q) × (a ≡ b)
+sends_as_one {d} {r = r} {q = q} m n = let e = sends_one m.sends n.sends in (one_so d r q m.refused n.refused e.0, e.1)
 
 -- ---- laws: a law for each way out
 
@@ -115,16 +115,16 @@ module _ (d : Doors) (id : StreamId) (l : List ℕ) where
     room : after ≡ left_in (write_of d.code d id.0 (length l)) l
     room = m.leaves ∙ ap (λ w. left_in w l) live
 
-    pub send_refused : {h : House} {n : ℕ} → r ≡ Err h → n ≡ house_number (house_of h) → SendsAs d id l (Err n) d after
+    pub send_refused : {h : House} {n : ℕ} → r ≡ Err h → n ≡ house_number (house_of h) → SendsAs d id l (Err n) after
     send_refused {h} e q = rw q (record {
       sends = record { answers = refused_as d id _ (rw e at m.answers) ∙ ap (sending_of d id) live; leaves = room };
       refused = house_some (house_of h);
     })
 
-    pub send_written : {n : ℕ} → r ≡ Ok n → SendsAs d id l (Ok n) (gone_away d id) after
+    pub send_written : {n : ℕ} → r ≡ Ok n → SendsAs d id l (Ok (n, gone_away d id)) after
     send_written e = record { sends = record { answers = counted_as d id _ (rw e at m.answers) refl ∙ ap (sending_of d id) live; leaves = room }; refused = tt }
 
-  pub send_dead : (d.code ≡ 0 → ⊥) → SendsAs d id l (Err d.code) d l
+  pub send_dead : (d.code ≡ 0 → ⊥) → SendsAs d id l (Err d.code) l
   unfolding sending_of left_in
   send_dead n = let q = dead d.code n in record { sends = record { answers = ap (sending_of d id) q; leaves = ap (λ w. left_in w l) q }; refused = n }
     where

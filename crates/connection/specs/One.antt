@@ -12,8 +12,9 @@ use Rattle.connection.specs.declared.Own.{Own}
 use Rattle.connection.specs.declared.Connection.{Connection}
 use Rattle.connection.specs.declared.Found.{Found}
 use Rattle.connection.specs.declared.Turn.{Turn}
+use Rattle.connection.specs.declared.Gone.{Gone}
 use Rattle.connection.specs.Halves.{side_in}
-use Rattle.connection.specs.Turned.{unaltered, opened_at, request_as, replied, one_way_as, overheard, Turned, other_row, dead, opens, not_open, request, one_way, gone_by, Gone, GoesAway}
+use Rattle.connection.specs.Turned.{unaltered, opened_at, request_as, replied, one_way_as, overheard, Turned, other_row, dead, opens, not_open, request, one_way, gone_by, GoesAway}
 
 -- one of two that shut each other out, each with one answer
 fork_one : {P Q A B C D E : Type 0} → (P → Q → ⊥) → (A → B → E) → (C → D → E) → (P × A) ⊎ (Q × C) → (P × B) ⊎ (Q × D) → E

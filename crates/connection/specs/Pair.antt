@@ -33,10 +33,11 @@ use Rattle.connection.specs.declared.Own.{Own}
 use Rattle.connection.specs.declared.Connection.{Connection}
 use Rattle.connection.specs.declared.Found.{Found}
 use Rattle.connection.specs.declared.Turn.{Turn}
+use Rattle.connection.specs.declared.Gone.{Gone}
 use Rattle.connection.specs.Whose.{Vacant, Belongs, FoundIn, wanted_belongs}
 use Rattle.connection.specs.Halves.{stream_id, doors_in, with_doors, side_in, with_side}
 use Rattle.connection.specs.Faults.{keeps, kept_if, code_kept_in}
-use Rattle.connection.specs.Turned.{unaltered, first_as, taken_by, free_at, request_as, one_way_as, StaysOn, Turned, other_row, dead, opens, not_open, request, one_way, Gone, GoesAway}
+use Rattle.connection.specs.Turned.{unaltered, first_as, taken_by, free_at, request_as, one_way_as, StaysOn, Turned, other_row, dead, opens, not_open, request, one_way, GoesAway}
 use Rattle.connection.specs.Ways.{taken_none}
 use Rattle.connection.specs.Leavings as left
 use Rattle.connection.specs.Leavings.{Left, request_left, Heeded, one_way_left, Standing, controls, others, standing, control_once, control_kind, begins_heeding}

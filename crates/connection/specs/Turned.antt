@@ -28,6 +28,7 @@ use Rattle.connection.specs.declared.Found.{Found}
 use Rattle.connection.specs.declared.Near.{Near}
 use Rattle.connection.specs.declared.Turn.{Turn}
 use Rattle.connection.specs.declared.Written.{Written}
+use Rattle.connection.specs.declared.Gone.{Gone}
 use Rattle.connection.specs.Whose.{Vacant}
 use Rattle.connection.specs.Halves.{stream_id, both, side_in}
 use Rattle.connection.specs.Faults.{code_in}
@@ -192,14 +193,6 @@ swept_of len r = elim (eqb len 24) [ true ↦ vacated r | false ↦ r ]
 abbrev pub written_of : Result ℕ ℕ → Written
 written_of (Err number) = record { number = number; count = 0 }
 written_of (Ok n) = record { number = 0; count = n }
-
--- what it leaves, and what it answers
-pub record Gone : Type 0 where
-  pub doors : Doors
-  pub written : Written
-
-abbrev pub gone : Doors → Written → Gone
-gone d w = record { doors = d; written = w }
 
 abbrev pub gone_by : Goaway → Gone
 gone_by g = record { doors = g.doors; written = record { number = g.number; count = g.count } }

@@ -2,10 +2,11 @@
 use Rattle.std.proofs.Math.Path.{◌≡◌, refl, ap}
 use Rattle.std.proofs.Common.{sym, ◌∙◌, arith}
 use Prim.Native.Nat.{ℕ, zero, suc, ◌%◌, ◌≤◌, ◌<◌}
-use Rattle.std.specs.Prelude.{List, ◌⊎◌, Result, Ok, Err}
+use Rattle.std.specs.Prelude.{List, ◌⊎◌, length}
 use Rattle.std.proofs.Math.Logic.{inl, inr}
 use borrow.Author.Tests.{lt-ltb, le-ltb}
 use Rattle.rules.specs.Reading.{Verdict, whole, fault, waits}
+use Rattle.rules.specs.Writer.{Write, refused, wrote}
 use Rattle.rules.specs.Message.{Message}
 use Rattle.rules.specs.Request.{document}
 use Rattle.rules.specs.Request as rules
@@ -17,6 +18,7 @@ use Rattle.varint.specs.ByByte.{part_of}
 use Rattle.record.specs.Kinds.{REQUEST, UNTYPED}
 use Rattle.record.specs.declared.Record.{Record}
 use Rattle.record.specs.Row.{phase_of, stated_in, is_stated, length_of, sum_in, numbers_of, place_in, record_at, one_way_record, no_cells}
+use Rattle.wire.specs.declared.ids.StreamId.{StreamId}
 use Rattle.requests.specs.declared.Reply.{Reply}
 use Rattle.requests.specs.Reply.{Open, state_in, fed_as, given_as, ended_as, ended_by, reset_as, frees, freed_if, Answered, shut, opened, Keeps}
 use Rattle.connection.specs.declared.doors.Doors.{Doors}
@@ -24,7 +26,7 @@ use Rattle.connection.specs.declared.doors.Opening.{Opening}
 use Rattle.connection.specs.Openings.{opened_of}
 use Rattle.connection.specs.OpeningWays as doors
 use Rattle.connection.specs.OpeningWays.{Went, barred, a_request, a_one_way, went}
-use Rattle.connection.specs.Goaway.{Goaway, Sends, sent_so, SendsAs}
+use Rattle.connection.specs.Goaway.{Goaway, Sends, sending_of, write_of}
 use Rattle.oneway.specs.declared.calls.Side.{Side}
 use Rattle.oneway.specs.declared.calls.Heard.{Heard}
 use Rattle.oneway.specs.Heard as side
@@ -35,11 +37,11 @@ use Rattle.connection.specs.declared.Connection.{Connection}
 use Rattle.connection.specs.declared.Report.{Report}
 use Rattle.connection.specs.declared.Found.{Found}
 use Rattle.connection.specs.declared.Turn.{Turn}
-use Rattle.connection.specs.declared.Written.{Written}
+use Rattle.connection.specs.declared.Gone.{Gone}
 use Rattle.connection.specs.Whose.{Vacant}
 use Rattle.connection.specs.Halves.{stream_id, doors_in, side_in}
 use Rattle.connection.specs.Faults.{kept_small}
-use Rattle.connection.specs.Turned.{numbered, turn, near, unaltered, first_as, first_record, taken_by, free_at, lets_in, let_in, opens_at, opened_at, by_own, request_as, Asks, replied, one_way_as, Hears, overheard, Alive, Turned, not_open, request, one_way, written_of, gone, gone_by, GoesAway}
+use Rattle.connection.specs.Turned.{numbered, turn, near, unaltered, first_as, first_record, taken_by, free_at, lets_in, let_in, opens_at, opened_at, by_own, request_as, Asks, replied, one_way_as, Hears, overheard, Alive, Turned, not_open, request, one_way, gone_by, GoesAway}
 
 -- ---- an opening
 
@@ -188,9 +190,12 @@ module _ {c : Connection} {f : Found} {call : Call} {own : Own} (id allow : ℕ)
 pub goes_so : {d : Doors} {id : ℕ} {before after : List ℕ} {g : Goaway} → Sends d (stream_id id) before g after → GoesAway d id before (gone_by g) after
 goes_so {g = g} s = record { sent = g; sends = s; is = refl }
 
-gone_so : (r : Result ℕ ℕ) (next : Doors) → gone next (written_of r) ≡ gone_by (sent_so r next)
-gone_so (Ok k) next = refl
-gone_so (Err n) next = refl
+-- it alters its own two fields alone
+gone_alone : (d : Doors) (id : StreamId) (w : Write) → let n = (sending_of d id w).doors in n ≡ record { code = d.code; requests = d.requests; oneways = d.oneways; goaways = n.goaways; goaway = n.goaway }
+unfolding sending_of
+gone_alone d id (refused n) = refl
+gone_alone d id (wrote bytes) = refl
 
-pub goes_as : {d next : Doors} {id : ℕ} {before after : List ℕ} {r : Result ℕ ℕ} {w : Written} → SendsAs d (stream_id id) before r next after → w ≡ written_of r → GoesAway d id before (gone next w) after
-goes_as {next = next} {r = r} s e = record { sent = sent_so r next; sends = s.sends; is = ap (gone next) e ∙ gone_so r next }
+pub goes_alone : {d : Doors} {id : ℕ} {before after : List ℕ} {r : Gone} → GoesAway d id before r after
+    → r.doors ≡ record { code = d.code; requests = d.requests; oneways = d.oneways; goaways = r.doors.goaways; goaway = r.doors.goaway }
+goes_alone {d} {id} {before} g = rw g.is (rw g.sends.answers (gone_alone d (stream_id id) (write_of d.code d id (length before))))

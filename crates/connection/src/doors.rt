@@ -137,18 +137,21 @@ pub fn open(d: Doors, id: StreamId, free: u64) -> Opening
 
 // ---- our GOAWAY
 
-// We send a GOAWAY of this ID: dead connection, 8, 7. A refusal, by its number, leaves the doors as they were.
-pub fn send_goaway(d: &mut Doors, id: StreamId, room: &mut [u8]) -> Result<usize, u64>
-    ensures { SendsAs d.old id room.old result d.new room.new }
+// We send a GOAWAY of this ID: how many bytes are written, and the doors after it. Dead connection, 8, 7: with a refusal's number they stay as they were.
+pub fn send_goaway(d: Doors, id: StreamId, room: &mut [u8]) -> Result<(usize, Doors), u64>
+    ensures { SendsAs d id room.old result room.new }
 {
     if d.code != 0 {
         return Err(d.code);
     }
     match wire::write_goaway(d.sent(), id, room) {
         Ok(count) => {
-            d.goaways = 1;
-            d.goaway = id;
-            Ok(count)
+            let after = Doors {
+                goaways: 1,
+                goaway: id,
+                ..d
+            };
+            Ok((count, after))
         }
         Err(refusal) => Err(refusal.number()),
     }

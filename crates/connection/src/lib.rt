@@ -9,7 +9,7 @@ ghost use Rattle.connection.specs.Whose.{Wanted};
 ghost use Rattle.record.specs.Row.{record_at, no_cells};
 ghost use Rattle.rules.specs.Numbers.{leaves, named};
 ghost use Rattle.connection.specs.Faults.{keeps, code_in};
-ghost use Rattle.connection.specs.Turned.{fresh_connection, numbered, stays, first_record, taken_by, free_at, opens_at, Asks, replies, beside, Hears, overhears, Turned, started_of, swept_of, gone, GoesAway};
+ghost use Rattle.connection.specs.Turned.{fresh_connection, numbered, stays, first_record, taken_by, free_at, opens_at, Asks, replies, beside, Hears, overhears, Turned, started_of, swept_of, GoesAway};
 ghost use Rattle.connection.specs.Nearly.{Nearly};
 ghost use Rattle.connection.specs.Briefly.{Briefly};
 
@@ -158,6 +158,13 @@ impl From<Result<usize, u64>> for Written {
             Err(number) => Written { number, count: 0 },
         }
     }
+}
+
+// What our GOAWAY leaves of the doors, and what it answers.
+#[derive(Clone, Copy)]
+pub struct Gone {
+    pub doors: Doors,
+    pub written: Written,
 }
 
 pub fn fresh() -> Connection
@@ -428,8 +435,17 @@ pub fn swept(len: usize, r: Record) -> Record
 // ---- our GOAWAY
 
 // We send a GOAWAY of this ID into the room.
-pub fn say_goaway(d: &mut Doors, id: u64, room: &mut [u8]) -> Written
-    ensures { GoesAway d.old id room.old (gone d.new result) room.new }
+pub fn say_goaway(d: Doors, id: u64, room: &mut [u8]) -> Gone
+    ensures { GoesAway d id room.old result room.new }
 {
-    Written::from(doors::send_goaway(d, StreamId(id), room))
+    match doors::send_goaway(d, StreamId(id), room) {
+        Ok((count, after)) => Gone {
+            doors: after,
+            written: Written::from(Ok(count)),
+        },
+        Err(number) => Gone {
+            doors: d,
+            written: Written::from(Err(number)),
+        },
+    }
 }
