@@ -1,8 +1,10 @@
 -- A text of at most so many bytes, put into a room. Assumes nothing.
-use Rattle.std.specs.Prelude.{Option, Some, Bool, true, false, eqb, ℕ, zero, suc, ◌+◌, ◌/◌, ◌%◌, ◌≤◌, ◌<◌, ◌^◌, ◌≡◌, refl, List, [], ◌∷◌, ◌++◌, length, take, get_or}
+use Rattle.std.specs.Prelude.{Option, Some, Bool, true, false, eqb, ℕ, zero, suc, ◌+◌, ◌/◌, ◌%◌, ◌≤◌, ◌<◌, ◌^◌, ◌≡◌, refl, List, [], ◌∷◌, ◌++◌, length, take, drop, get_or, set}
 use Rattle.std.proofs.Common.{sym, ap, ◌∙◌, append_assoc, append-nil, add-one, arith, length-append, take-suc, take_all, length-take-le}
 use borrow.Author.Tests.{ne_eqb}
 use Rattle.std.proofs.lemmas.Bool.{eqb-true, eqb-false}
+use Rattle.std.proofs.lemmas.List.Edits.{sets-eq}
+use Rattle.std.proofs.Math.Seq.{take-append_seam}
 use Rattle.rules.specs.Text.{ascii}
 use Rattle.listing.specs.Text.{decimal}
 use Rattle.listing.specs.declared.room.Text.{Text}
@@ -89,6 +91,19 @@ flag_set (suc there) n w = refl
 pub puts_hexes : {room after : List ℕ} {to m r h l : ℕ} (b : ℕ) → h ≡ hex_digit (b / 16) → l ≡ hex_digit (b % 16) → Puts room to (h ∷ l ∷ []) m after r → Puts room to (hexes (b ∷ [])) m after r
 unfolding hexes
 puts_hexes b e f p = rw (← e, ← f) p
+
+-- a byte in two digits
+pub two_digits : (room : List ℕ) (to b : ℕ) {h l : ℕ} → to + 2 ≤ 2048 → h ≡ hex_digit (b / 16) → l ≡ hex_digit (b % 16) → Puts room to (hexes (b ∷ [])) 2 (set (set room to h) (to + 1) l) (to + 2)
+two_digits room to b w e f =
+    let n : to + 1 ≡ suc to = omega arith in
+    puts_hexes b e f (record { put = record { is = rw n refl; next = omega arith; within = w }; few = omega arith })
+
+-- what was put from the room's start on
+pub put_first : {room w after : List ℕ} {m r : ℕ} → Puts room 0 w m after r → r ≤ length room → take r after ≡ w
+put_first {room} {w} p h =
+    let n = p.put.next in
+    let z : 0 + length w ≡ length w = omega arith in
+    rw (n, p.put.is, sets-eq w room 0 (omega arith), z) (take-append_seam w (drop (length w) room))
 
 -- a section is due
 pub due_is : (r : Record) → r.kind ≡ 1 → 6 ≤ r.mode → r.mode < 8 → due_text r ≡ 43 ∷ []

@@ -28,8 +28,10 @@ const KEPT: usize = 24;
 
 const MOST: usize = 32;
 
-// The most bytes that a write is lent.
+// The most bytes that a write is lent, and their digits.
 const BUFFER: usize = 64;
+
+const DIGITS: usize = 2 * BUFFER;
 
 // ---- parts of a printed line, put behind what the text has
 
@@ -98,9 +100,13 @@ fn spelt(text: &mut Text, bytes: &[u8])
         text.put(b"-");
         return;
     }
-    for b in bytes {
-        text.put(&[hex(b / 16), hex(b % 16)]);
+    // put at once: a put for each byte would load and store the length each time
+    let mut digits = [0; DIGITS];
+    for (i, &b) in bytes.iter().enumerate() {
+        digits[2 * i] = hex(b / 16);
+        digits[2 * i + 1] = hex(b % 16);
     }
+    text.put(&digits[..2 * bytes.len()]);
 }
 
 // ---- the line of a call
