@@ -1,6 +1,6 @@
--- ONE ANSWER: for each public function of the engine, by its own name and its own promise, two results and two contents of lent memory that meet the
--- promise are equal. The exceptions are named too: below a record two feeds leave open numbers that say nothing (docs/DECISIONS, N9), and what may
--- decline leaves open what it then answers. What is no part of the engine is in docs/PROOFS. Assumes nothing.
+-- ONE ANSWER: for each public function of the engine, and each function of a trait that it writes by hand, by its own name and its own promise, two results
+-- and two contents of lent memory that meet the promise are equal. The exceptions are named too: below a record two feeds leave open numbers that say nothing
+-- (docs/DECISIONS, N9), and what may decline leaves open what it then answers. What is no part of the engine is in docs/PROOFS. Assumes nothing.
 use Rattle.std.specs.Prelude as std
 use Rattle.std.specs.Prelude.{◌≡◌, refl, ℕ, List, [], ◌∷◌, ◌++◌, map, Bool, true, false, Option as Maybe, Some, None, IsSome, IfSome}
 use Rattle.std.proofs.Common.{sym, ap, ap₂, ◌∙◌, arith}
@@ -107,6 +107,8 @@ use Rattle.fields.proofs.Table.line_spot.Symbol as fields-line-spot-is
 use Rattle.fields.specs.contracts.line_at as fields-line-at
 use Rattle.fields.proofs.line_at.Symbol as fields-line-at-is
 use Rattle.fields.proofs.classes.Symbol as fields-classes-is
+use Rattle.section.specs.contracts.reason_code as section-reason-code
+use Rattle.section.proofs.reason_code.Symbol as section-reason-code-is
 use Rattle.section.specs.contracts.code as section-code
 use Rattle.section.proofs.code.Symbol as section-code-is
 use Rattle.section.specs.contracts.Fault.number as section-fault-number
@@ -115,6 +117,8 @@ use Rattle.section.specs.contracts.header_section as section-header-section
 use Rattle.section.proofs.header_section.Symbol as section-header-section-is
 use Rattle.section.specs.contracts.trailers as section-trailers
 use Rattle.section.proofs.trailers.Symbol as section-trailers-is
+use Rattle.section.specs.contracts.FaultFromUnreadable.from as section-fault-from
+use Rattle.section.proofs.FaultFromUnreadable.from.Symbol as section-fault-from-is
 use Rattle.frames.specs.declared.Use.{Use}
 use Rattle.frames.specs.Wants.{ruled_in, ruled_one}
 use Rattle.frames.specs.contracts.Place.rule as streams-rule
@@ -190,6 +194,12 @@ use Rattle.connection.specs.contracts.swept as connection-swept
 use Rattle.connection.proofs.swept.Symbol as connection-swept-is
 use Rattle.connection.specs.contracts.say_goaway as connection-say-goaway
 use Rattle.connection.proofs.say_goaway.Symbol as connection-say-goaway-is
+use Rattle.connection.specs.contracts.ReportFromReply.from as connection-from-reply
+use Rattle.connection.proofs.ReportFromReply.from.Symbol as connection-from-reply-is
+use Rattle.connection.specs.contracts.ReportFromHeard.from as connection-from-heard
+use Rattle.connection.proofs.ReportFromHeard.from.Symbol as connection-from-heard-is
+use Rattle.connection.specs.contracts.WrittenFromResultUsizeU64.from as connection-from-result
+use Rattle.connection.proofs.WrittenFromResultUsizeU64.from.Symbol as connection-from-result-is
 use Rattle.connection.proofs.brisk.Symbol as connection-brisk-is
 use Rattle.calls.specs.contracts.step as board-step
 use Rattle.calls.proofs.step.Symbol as board-step-is
@@ -397,10 +407,12 @@ module _ (w : World) where
 
   abbrev of_section : List Function
   of_section =
-      function section-code-is.symbol section-code.ended (section-code.clauses w.𝓛 w.𝓜.mem w.𝓡.returns) (λ κs a g r q ws vs. equal)
+      function section-reason-code-is.symbol section-reason-code.ended (section-reason-code.clauses w.𝓛 w.𝓜.mem w.𝓡.returns) (λ κs a g r q ws vs. equal)
+      ∷ function section-code-is.symbol section-code.ended (section-code.clauses w.𝓛 w.𝓜.mem w.𝓡.returns) (λ κs a g r q ws vs. equal)
       ∷ function section-fault-number-is.symbol section-fault-number.ended (section-fault-number.clauses w.𝓛 w.𝓜.mem w.𝓡.returns) (λ κs a g r q ws vs. equal)
       ∷ function section-header-section-is.symbol section-header-section.ended (section-header-section.clauses w.𝓛 w.𝓜.mem w.𝓡.returns) (λ κs a g r q ws vs. equal)
       ∷ function section-trailers-is.symbol section-trailers.ended (section-trailers.clauses w.𝓛 w.𝓜.mem w.𝓡.returns) (λ κs a g r q ws vs. equal)
+      ∷ function section-fault-from-is.symbol section-fault-from.ended (section-fault-from.clauses w.𝓛 w.𝓜.mem w.𝓡.returns) (λ κs a g r q ws vs. equal)
       ∷ []
 
   abbrev of_streams : List Function
@@ -451,7 +463,7 @@ module _ (w : World) where
   of_doors =
       function doors-fresh-is.symbol doors-fresh.ended (doors-fresh.clauses w.𝓛 w.𝓜.mem w.𝓡.returns) (λ κs a g r q ws vs. equal)
       ∷ function doors-open-is.symbol doors-open.ended (doors-open.clauses w.𝓛 w.𝓜.mem w.𝓡.returns) (λ κs a g r q ws vs. equal)
-      ∷ function doors-send-goaway-is.symbol doors-send-goaway.ended (doors-send-goaway.clauses w.𝓛 w.𝓜.mem w.𝓡.returns) (λ κs a g r q ws vs. facts (λ x y. let e = sends_as_one x y in (e.0, ap₂ (λ d l. (d, (tt, (l, tt)))) e.1 e.2)))
+      ∷ function doors-send-goaway-is.symbol doors-send-goaway.ended (doors-send-goaway.clauses w.𝓛 w.𝓜.mem w.𝓡.returns) (λ κs a g r q ws vs. facts (λ x y. let e = sends_as_one x y in (e.0, ap (λ l. (tt, (tt, (l, tt)))) e.1)))
       ∷ []
 
   abbrev of_oneways : List Function
@@ -470,7 +482,10 @@ module _ (w : World) where
       ∷ function connection-decide-is.symbol connection-decide.ended (connection-decide.clauses w.𝓛 w.𝓜.mem w.𝓡.returns) (λ κs a g r q ws vs. facts (λ x y. (one_turn _ _ _ _ _ _ x y, refl)))
       ∷ function connection-begin-is.symbol connection-begin.ended (connection-begin.clauses w.𝓛 w.𝓜.mem w.𝓡.returns) (λ κs a g r q ws vs. equal)
       ∷ function connection-swept-is.symbol connection-swept.ended (connection-swept.clauses w.𝓛 w.𝓜.mem w.𝓡.returns) (λ κs a g r q ws vs. equal)
-      ∷ function connection-say-goaway-is.symbol connection-say-goaway.ended (connection-say-goaway.clauses w.𝓛 w.𝓜.mem w.𝓡.returns) (λ κs a g r q ws vs. facts (λ x y. let e = one_goaway x y in (ap (λ g. g.written) e.0, ap₂ (λ d l. (d, (tt, (l, tt)))) (ap (λ g. g.doors) e.0) e.1)))
+      ∷ function connection-say-goaway-is.symbol connection-say-goaway.ended (connection-say-goaway.clauses w.𝓛 w.𝓜.mem w.𝓡.returns) (λ κs a g r q ws vs. facts (λ x y. let e = one_goaway x y in (e.0, ap (λ l. (tt, (tt, (l, tt)))) e.1)))
+      ∷ function connection-from-reply-is.symbol connection-from-reply.ended (connection-from-reply.clauses w.𝓛 w.𝓜.mem w.𝓡.returns) (λ κs a g r q ws vs. equal)
+      ∷ function connection-from-heard-is.symbol connection-from-heard.ended (connection-from-heard.clauses w.𝓛 w.𝓜.mem w.𝓡.returns) (λ κs a g r q ws vs. equal)
+      ∷ function connection-from-result-is.symbol connection-from-result.ended (connection-from-result.clauses w.𝓛 w.𝓜.mem w.𝓡.returns) (λ κs a g r q ws vs. equal)
       ∷ []
 
   abbrev of_board : List Function
@@ -502,7 +517,7 @@ module _ (w : World) where
       "wire::ids::is_request" ∷ "wire::write_header" ∷ "wire::write_integer_frame" ∷ "wire::write_opening" ∷ "wire::write_goaway" ∷
       "control::settings::judge" ∷ "control::settings::only" ∷
       "fields::has_byte" ∷ "fields::begins_with" ∷ "fields::same_bytes" ∷ "fields::Table::any_outside" ∷ "fields::Table::bad_line" ∷ "fields::decimal_of" ∷ "fields::Table::line_spot" ∷ "fields::line_at" ∷
-      "section::code" ∷ "section::Fault::number" ∷ "section::header_section" ∷ "section::trailers" ∷
+      "section::reason_code" ∷ "section::code" ∷ "section::Fault::number" ∷ "section::header_section" ∷ "section::trailers" ∷ "section::FaultFromUnreadable::from" ∷
       "frames::Place::rule" ∷ "frames::Event::number" ∷ "frames::end" ∷
       "record::cells_in" ∷ "record::free" ∷ "record::is_free" ∷ "record::is_part" ∷ "record::is_sane" ∷ "record::read" ∷ "record::row" ∷ "record::write" ∷ "record::in_content" ∷
       "requests::given::give" ∷
@@ -511,7 +526,7 @@ module _ (w : World) where
       "requests::reset" ∷ "requests::end" ∷ "requests::feed" ∷ "requests::give" ∷
       "connection::doors::fresh" ∷ "connection::doors::open" ∷ "connection::doors::send_goaway" ∷
       "oneway::calls::fresh" ∷ "oneway::calls::feed" ∷ "oneway::calls::give" ∷ "oneway::calls::close" ∷
-      "connection::fresh" ∷ "connection::wanted" ∷ "connection::answer" ∷ "connection::decide" ∷ "connection::begin" ∷ "connection::swept" ∷ "connection::say_goaway" ∷
+      "connection::fresh" ∷ "connection::wanted" ∷ "connection::answer" ∷ "connection::decide" ∷ "connection::begin" ∷ "connection::swept" ∷ "connection::say_goaway" ∷ "connection::ReportFromReply::from" ∷ "connection::ReportFromHeard::from" ∷ "connection::WrittenFromResultUsizeU64::from" ∷
       "calls::step" ∷ "calls::eistulko_start" ∷ "calls::eistulko_open" ∷ "calls::eistulko_feed" ∷ "calls::eistulko_give" ∷ "calls::eistulko_end" ∷ "calls::eistulko_reset" ∷ "calls::eistulko_goaway" ∷ "calls::eistulko_write_header" ∷ "calls::eistulko_write_integer_frame" ∷ "calls::eistulko_write_opening" ∷ "calls::eistulko_connection_size" ∷ "calls::eistulko_record_size" ∷ "calls::eistulko_report_size" ∷ "calls::eistulko_written_size" ∷ [])
   listed = refl
 

@@ -15,9 +15,10 @@ use Rattle.connection.specs.declared.Call.{Call as CoreCall}
 use Rattle.connection.specs.declared.Connection.{Connection}
 use Rattle.connection.specs.declared.Found.{Found}
 use Rattle.connection.specs.declared.Turn.{Turn}
+use Rattle.connection.specs.declared.Gone.{Gone}
 use Rattle.connection.specs.Halves.{stream_id, doors_in, side_in, with_side}
 use Rattle.connection.specs.Faults.{with_code, code_kept_in, Fault, faulty, kept_fault, kept_none}
-use Rattle.connection.specs.Turned.{Gone, free_at, request_as, one_way_as, Turned, other_row, dead, opens, not_open, request, one_way, GoesAway}
+use Rattle.connection.specs.Turned.{free_at, request_as, one_way_as, Turned, other_row, dead, opens, not_open, request, one_way, GoesAway}
 use Rattle.connection.specs.Pair.{Paired}
 use Rattle.demands.specs.Means.{pair_of}
 use Rattle.demands.specs.Suited.{RowSuits}
